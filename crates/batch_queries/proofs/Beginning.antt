@@ -19,21 +19,21 @@ use Rattle.index_model.specs.declared.session.Applied.{Applied}
 use Rattle.index_model.specs.declared.session.Applied.TheVariants as applied
 use Rattle.stored_index.proofs.KeptFiles.{kept_itself}
 use Rattle.index_opening.proofs.Evident.{on_evident_less}
-use Rattle.segment_view.specs.Parts.{ids_of}
+use Rattle.segment_view.specs.LiveSegments.{ids_of}
 use Rattle.file_names.specs.Names.{is_named}
 use Rattle.segment_set.specs.Merged.{chosen_ids}
 use Rattle.segment_set.specs.Seen.{Sees}
 use Rattle.segment_set.specs.Sets.{SetData}
 use Rattle.index_core.specs.Effects.{HasBegun, OnDone}
 use Rattle.index_core.specs.Sessions.{IsLast, SessionData, Trusts}
-use Rattle.index_core.specs.Steps.{Applies, DoesOver, Place}
-use Rattle.index_core.specs.Whole.{Moment}
+use Rattle.index_core.specs.Steps.{Applies, DoesOver, StepMoment}
+use Rattle.index_core.specs.Whole.{SessionMoment}
 use Rattle.index_core.proofs.FaultCauses.{done_cause, fault_to, memory_cause}
 use Rattle.index_core.proofs.Bringing.{brings_same}
 use Rattle.index_core.proofs.Guarding.{names_listed}
 use Rattle.batch_run.specs.declared.resident.Resident.{Resident}
 use Rattle.batch_queries.specs.Merging.{below, merged_count}
-use Rattle.batch_queries.specs.MergeRuns.{BeginsMerge, IsBegun, IsOpened, first_ids}
+use Rattle.batch_queries.specs.MergeRuns.{BeginsMerge, IsBegun, AreOpen, first_ids}
 use Rattle.batch_queries.proofs.Ended.{merging, moment_of}
 use Rattle.batch_queries.proofs.Places.{first_chosen}
 
@@ -61,7 +61,7 @@ taken (suc n) (y ∷ ys) x h =
     ⊎_elim (λ e. subst (λ z. Contains (y ∷ ys) z) e (cons_head y ys)) (λ t. cons_tail y ys x (taken n ys x t)) (cons_cases y (take n ys) x h)
 
 -- the segments of an open session are named
-first_named : (D : ℕ) (files : Files) (r : Resident D) (s : SessionData) → IsOpened D files r s → (id : ℕ) → is_among (first_ids s) id ≡ true
+first_named : (D : ℕ) (files : Files) (r : Resident D) (s : SessionData) → AreOpen D files r s → (id : ℕ) → is_among (first_ids s) id ≡ true
     → is_named s.set.names.names (Segment id) ≡ true
 first_named D files r s o id there =
     let last = subst (IsLast files s.set) o.unchanged.is (o.trusts.guards.last o.unchanged.done) in
@@ -72,7 +72,7 @@ first_named D files r s o id there =
 
 module _ (D : ℕ) (told : Type 0) (r : Resident D) where
   -- memory was wanting before the merge begins
-  pub begins_none : {T : Type 0} (m : Moment) (result : Result T PageFault) → result ≡ Err page.Memory → BeginsMerge D told r m m result
+  pub begins_none : {T : Type 0} (m : SessionMoment) (result : Result T PageFault) → result ≡ Err page.Memory → BeginsMerge D told r m m result
   begins_none m result is = subst (BeginsMerge D told r m m) (sym is) (record {
     begun = λ t o i h. tt;
     brings = λ t o. brings_same D m.files m.files m.session.set.parts m.session.set.parts refl refl;
@@ -82,7 +82,7 @@ module _ (D : ℕ) (told : Type 0) (r : Resident D) where
     evident = tt;
   })
 
-  module _ (positions : List ℕ) (a b : Place) where
+  module _ (positions : List ℕ) (a b : StepMoment) where
     -- or after it, whatever came of that
     pub begins_memory : {T : Type 0} (q : Result Applied PageFault) (result : Result T PageFault) → result ≡ Err page.Memory
         → Applies D told (λ i. step_on i (asks.MergeBegin positions)) false a b q → BeginsMerge D told r (moment_of a) (moment_of b) result
@@ -104,7 +104,7 @@ module _ (D : ℕ) (told : Type 0) (r : Resident D) where
       kept = λ t o. begins.kept t o.trusts.guards;
       whole = λ t o. begins.whole t o.index (o.seen o.index o.stored) (λ e. o.trusts.guards);
       cause = fault_to a.faults b.faults fault begins.cause;
-      evident = on_evident_less {X = Applied} (told × Trusts D a.files a.session) (told × IsOpened D a.files r a.session) b.files (Err fault)
+      evident = on_evident_less {X = Applied} (told × Trusts D a.files a.session) (told × AreOpen D a.files r a.session) b.files (Err fault)
           (λ h. (h.0, h.1.trusts)) begins.evident;
     })
 

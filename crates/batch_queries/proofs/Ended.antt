@@ -17,24 +17,24 @@ use Rattle.stored_index.specs.Stored.{IsStored}
 use Rattle.stored_index.proofs.KeptFiles.{kept_after}
 use Rattle.index_opening.specs.Evidence.{IsEvident}
 use Rattle.index_opening.proofs.Evident.{on_evident_less}
-use Rattle.segment_view.specs.Parts.{Part}
+use Rattle.segment_view.specs.LiveSegments.{LiveSegment}
 use Rattle.file_names.specs.Names.{is_named}
-use Rattle.segment_set.specs.Kept.{Follows, IsWithin}
+use Rattle.segment_set.specs.Kept.{Follows, IsSubset}
 use Rattle.segment_set.specs.Seen.{Sees}
 use Rattle.segment_set.specs.Sets.{SetData}
 use Rattle.index_core.specs.Brought.{KeepsCommit}
 use Rattle.index_core.specs.Effects.{HasEnded, OnDone}
 use Rattle.index_core.specs.Sessions.{SessionData, Trusts}
-use Rattle.index_core.specs.Steps.{Applies, DoesOver, KeepsOver, Place, SaysCommit, Stores}
-use Rattle.index_core.specs.Whole.{Moment}
+use Rattle.index_core.specs.Steps.{Applies, DoesOver, KeepsOver, StepMoment, SaysCommit, Stores}
+use Rattle.index_core.specs.Whole.{SessionMoment}
 use Rattle.index_core.proofs.FaultCauses.{cause_then, fault_to}
 use Rattle.index_core.proofs.Bringing.{brings_then}
 use Rattle.index_core.proofs.Brought.{commit_after}
 use Rattle.index_core.proofs.Undone.{fault_kept, levels_after, undone_after}
 use Rattle.index_core.proofs.Wholes.{IsCommitted}
-use Rattle.batch_queries.specs.MergeRuns.{EndsMerge, IsBegun, IsMerged}
+use Rattle.batch_queries.specs.MergeRuns.{EndsMerge, IsBegun, IsMergeDone}
 
-abbrev pub moment_of : Place → Moment
+abbrev pub moment_of : StepMoment → SessionMoment
 moment_of p = record { files = p.files; session = p.session; faults = p.faults }
 
 abbrev pub merging : Index → Index
@@ -57,7 +57,7 @@ pub says_done : {T : Type 0} (old new : Files) (s : SessionData) (r : Result T P
 says_done old new s (Ok x) says = says
 says_done old new s (Err fault) kept = tt
 
-module _ (D : ℕ) (told : Type 0) (ids : List ℕ) (i : Index) (a b : Place) where
+module _ (D : ℕ) (told : Type 0) (ids : List ℕ) (i : Index) (a b : StepMoment) where
   -- a fault of the call that ends it
   pub end_stopped : {T : Type 0} (fault : PageFault) (r : Result T PageFault) → r ≡ Err fault
       → Applies D told (λ j. step_on j asks.MergeEnd) false a b (Err fault)
@@ -80,7 +80,7 @@ module _ (D : ℕ) (told : Type 0) (ids : List ℕ) (i : Index) (a b : Place) wh
     seen_on : told → IsBegun D a.files a.session ids i → (x ≡ applied.Done) × Sees D b.files b.session.set (record i { begun = false })
     seen_on t g = ended_is D b.files i b.session.set a.text b.text x (ends.does t (merging i) g.seen (λ e. g.trusts.guards))
 
-    module _ {T : Type 0} (c : Moment) (r : Result T PageFault) (leaves : OnDone (Ok x) (HasEnded D told b.files a.session.set b.session.set))
+    module _ {T : Type 0} (c : SessionMoment) (r : Result T PageFault) (leaves : OnDone (Ok x) (HasEnded D told b.files a.session.set b.session.set))
         (commits : IsCommitted D told (moment_of b) c r) (follows : Follows b.session.set.names b.session.set.parts c.session.set.parts)
         (lasting : told → Trusts D b.files b.session → KeepsCommit b.files c.files)
         (evident : OnDamage r (IsEvident (told × Trusts D b.files b.session) c.files)) where
@@ -88,7 +88,7 @@ module _ (D : ℕ) (told : Type 0) (ids : List ℕ) (i : Index) (a b : Place) wh
       has_ended t g = subst (λ (y : Applied). OnDone (Ok y) (HasEnded D told b.files a.session.set b.session.set)) (seen_on t g).0 leaves
 
       -- a segment of now has a new name, or was there when the inputs had gone
-      apart_on : told → IsBegun D a.files a.session ids i → (p : Part) → Contains c.session.set.parts p → is_among ids p.head.id ≡ false
+      apart_on : told → IsBegun D a.files a.session ids i → (p : LiveSegment) → Contains c.session.set.parts p → is_among ids p.head.id ≡ false
       apart_on t g p there = ⊎_elim
           (λ fresh. false_from_ne_true (is_among ids p.head.id) (λ among. both_ways (is_named b.session.set.names.names (Segment p.head.id)) fresh
           (ended.named (Segment p.head.id) (g.named p.head.id among))))
@@ -98,7 +98,7 @@ module _ (D : ℕ) (told : Type 0) (ids : List ℕ) (i : Index) (a b : Place) wh
           ended : HasEnded D told b.files a.session.set b.session.set
           ended = has_ended t g
 
-          was : (q : Part) × Contains b.session.set.parts q × (p.head ≡ q.head) × IsWithin p.live q.live → is_among ids p.head.id ≡ false
+          was : (q : LiveSegment) × Contains b.session.set.parts q × (p.head ≡ q.head) × IsSubset p.live q.live → is_among ids p.head.id ≡ false
           was (q, here, head, within) = false_from_ne_true (is_among ids p.head.id) (λ among.
               both_ways (is_among g.merge.0.inputs q.head.id) (ended.gone g.merge.0 g.merge.1 q here)
               (subst (λ n. is_among g.merge.0.inputs n ≡ true) (ap (λ h. h.id) head) (g.merge.2 p.head.id among)))
@@ -109,7 +109,7 @@ module _ (D : ℕ) (told : Type 0) (ids : List ℕ) (i : Index) (a b : Place) wh
       keeps_on (Err fault) same stores = ⊎_elim (λ more. inl (kept_after a.files b.files c.files same more)) inr stores
 
       merged_on : (q : Result T PageFault) → IsCommitted D told (moment_of b) c q → told → IsBegun D a.files a.session ids i
-          → OnOk q (IsMerged D ids i (moment_of a) c)
+          → OnOk q (IsMergeDone D ids i (moment_of a) c)
       merged_on (Err fault) commit t g = tt
       merged_on (Ok y) commit t g =
           let seen = (seen_on t g).1 in

@@ -15,7 +15,7 @@ use Rattle.stored_index.proofs.KeptFiles.{stored_still}
 use Rattle.index_opening.specs.Evidence.{IsEvident}
 use Rattle.index_opening.proofs.Evident.{on_evident_less}
 use Rattle.run_status.specs.Ends.{IsDamaged, OnStatusDamage}
-use Rattle.run_status.specs.Sent.{IsCut}
+use Rattle.run_status.specs.Sent.{IsSentPart}
 use Rattle.run_status.specs.Stops.{status_of, stop_of}
 use Rattle.run_status.specs.Told.{TellsAll}
 use Rattle.run_status.specs.declared.status.Status.{Status}
@@ -26,7 +26,7 @@ use Rattle.run_status.proofs.Ending.{counted}
 use Rattle.batch_queries.specs.Batched.{IsBatchText, TellsBatch}
 use Rattle.batch_queries.specs.Ends.{CutsAll, StoresSome}
 use Rattle.batch_queries.specs.Merging.{EndsMerging, MergeKeeps, MergeLeaves}
-use Rattle.batch_queries.specs.MergeRuns.{MergesBatch, Place}
+use Rattle.batch_queries.specs.MergeRuns.{MergesBatch, MergeMoment}
 
 -- ---- faults
 
@@ -61,7 +61,8 @@ leaves_fault old new (page.Damaged d) same =
     }
 
 -- a fault before the text goes out
-pub stopped : {T : Type 0} (told out trusts : Type 0) (lines : List (List ℕ)) (a b : Place) (fault : PageFault) (r : Result ℕ Stop) → r ≡ Err (stop_of fault)
+pub stopped : {T : Type 0} (told out trusts : Type 0) (lines : List (List ℕ)) (a b : MergeMoment) (fault : PageFault) (r : Result ℕ Stop)
+    → r ≡ Err (stop_of fault)
     → (told → trusts → SameKept a.files b.files) → (told → trusts → (state : State) → IsStored a.files state → NotDamaged {T = T} (Err fault))
     → HasPageCause {T = T} a.faults b.faults (Err fault) → OnDamage {T = T} (Err fault) (IsEvident (told × trusts) b.files) → b.written ≡ a.written
     → MergesBatch told out trusts lines a b (status_of r)
@@ -121,12 +122,13 @@ pub all_evident : (told : Type 0) (files : Files) (s : Status) → OnStatusDamag
 all_evident told files s = status_less (told × Unit {0}) told files s (λ t. (t, tt))
 
 -- another status, which is the same
-pub status_is : (told out trusts : Type 0) (lines : List (List ℕ)) (a b : Place) (r : Result ℕ Stop) (s : Status) → s ≡ status_of r
+pub status_is : (told out trusts : Type 0) (lines : List (List ℕ)) (a b : MergeMoment) (r : Result ℕ Stop) (s : Status) → s ≡ status_of r
     → MergesBatch told out trusts lines a b (status_of r) → MergesBatch told out trusts lines a b s
 status_is told out trusts lines a b r s is merges = subst (MergesBatch told out trusts lines a b) (sym is) merges
 
 -- after a call that left the files and the text
-pub merges_after : {U : Type 0} (told out trusted trusts : Type 0) (lines : List (List ℕ)) (a b c : Place) (x : U) (s : Status) → (told → b.files ≡ a.files)
+pub merges_after : {U : Type 0} (told out trusted trusts : Type 0) (lines : List (List ℕ)) (a b c : MergeMoment) (x : U) (s : Status)
+    → (told → b.files ≡ a.files)
     → b.written ≡ a.written → b.sink ≡ a.sink
     → HasPageCause a.faults b.faults (Ok x) → (told → trusted → trusts) → MergesBatch told out trusts lines b c s → MergesBatch told out trusted lines a c s
 merges_after told out trusted trusts lines a b c x s files written sink cause more merges = record {
@@ -210,16 +212,17 @@ counted_sink count e = sink_by (count == 0) count e
 
 -- ---- what was sent
 
-pub sent_part : (text reply old new : List ℕ) (e : Stop) → reply ≡ text → IsErrOf {T = ℕ} (Err e) stop.SinkFault → IsCut reply old new e
+pub sent_part : (text reply old new : List ℕ) (e : Stop) → reply ≡ text → IsErrOf {T = ℕ} (Err e) stop.SinkFault → IsSentPart reply old new e
     → WritesPart old new text
 sent_part text reply old new e same only cut =
     let is : e ≡ stop.SinkFault = cc in
-    subst (λ (w : List ℕ). WritesPart old new w) same (subst (IsCut reply old new) is cut)
+    subst (λ (w : List ℕ). WritesPart old new w) same (subst (IsSentPart reply old new) is cut)
 
 pub sent_whole : (text reply old new : List ℕ) → reply ≡ text → new ≡ old ++ reply → new ≡ old ++ text
 sent_whole text reply old new same grew = grew ∙ ap (λ (w : List ℕ). old ++ w) same
 
 -- another number of refused lines, which is the same
-pub status_known : (told out trusts : Type 0) (lines : List (List ℕ)) (a b : Place) (n m : ℕ) → m ≡ n → MergesBatch told out trusts lines a b (status_of (Ok n))
+pub status_known : (told out trusts : Type 0) (lines : List (List ℕ)) (a b : MergeMoment) (n m : ℕ) → m ≡ n
+    → MergesBatch told out trusts lines a b (status_of (Ok n))
     → MergesBatch told out trusts lines a b (status_of (Ok m))
 status_known told out trusts lines a b n m same merges = subst (λ (k : ℕ). MergesBatch told out trusts lines a b (status_of (Ok k))) (sym same) merges

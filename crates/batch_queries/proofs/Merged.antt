@@ -26,12 +26,12 @@ use Rattle.stored_index.proofs.KeptFiles.{kept_after, kept_itself, stored_still}
 use Rattle.stored_index.proofs.Whole.{held_for}
 use Rattle.index_opening.specs.Evidence.{IsEvident}
 use Rattle.index_opening.proofs.Evident.{on_evident_less}
-use Rattle.segment_view.specs.Parts.{Part, ids_of}
+use Rattle.segment_view.specs.LiveSegments.{LiveSegment, ids_of}
 use Rattle.index_core.specs.Brought.{KeepsCommit}
 use Rattle.index_core.specs.Light.{KeepsLevels}
 use Rattle.index_core.specs.Sessions.{IsLast, SessionData, Trusts}
 use Rattle.index_core.specs.Steps.{FaultKeeps, HasCommit, KeepsUndone}
-use Rattle.index_core.specs.Whole.{HasNewCanonical, Moment}
+use Rattle.index_core.specs.Whole.{HasNewCanonical, SessionMoment}
 use Rattle.index_core.proofs.Bringing.{brings_then}
 use Rattle.index_core.proofs.Brought.{commit_after}
 use Rattle.index_core.proofs.Guarding.{says_some}
@@ -51,7 +51,7 @@ use Rattle.batch_run.specs.Copies.{IsCommitIn}
 use Rattle.batch_queries.specs.Batched.{IsBatchText, TellsBatch}
 use Rattle.batch_queries.specs.Ends.{CutsAll, EndsBatch}
 use Rattle.batch_queries.specs.Merging.{EndsMerging, MergeKeeps, MergeLeaves, MergesFirst, WholeOrNone, merged_count}
-use Rattle.batch_queries.specs.MergeRuns.{BeginsMerge, EndsMerge, IsBegun, IsMerged, IsOpened, MergesBatch, Place, first_ids}
+use Rattle.batch_queries.specs.MergeRuns.{BeginsMerge, EndsMerge, IsBegun, IsMergeDone, AreOpen, MergesBatch, MergeMoment, first_ids}
 use Rattle.batch_queries.proofs.MergeCalls.{counted_folder, counted_kept, counted_shows, counted_sink, counted_whole, ends_cut, ends_whole, stopped, text_whole}
 
 -- a state that is stored where an index is, is an index
@@ -64,12 +64,12 @@ an_index files i (Some j) is h P by = by j h
 rests : (files : Files) (i : Index) → IsStored files (Some i) → at_rest i ≡ i
 rests files i h = ap at_rest h.is ∙ sym h.is
 
-module _ (D : ℕ) (told out : Type 0) (r : Resident D) (lines : List (List ℕ)) (a b : Moment) (old new : List ℕ) (before now : ℕ) where
-  abbrev from : Place
+module _ (D : ℕ) (told out : Type 0) (r : Resident D) (lines : List (List ℕ)) (a b : SessionMoment) (old new : List ℕ) (before now : ℕ) where
+  abbrev from : MergeMoment
   from = record { files = a.files; faults = a.faults; written = old; sink = before }
 
   abbrev trusts : Type 0
-  trusts = IsOpened D a.files r a.session
+  trusts = AreOpen D a.files r a.session
 
   abbrev Texts : (text : List ℕ) (refused : ℕ) → Type 0
   Texts text refused = trusts → (i : Index) → IsStored a.files (Some i) → IsBatchText (Some i) lines text refused
@@ -108,8 +108,8 @@ module _ (D : ℕ) (told out : Type 0) (r : Resident D) (lines : List (List ℕ)
 
   module _ {T U : Type 0} (y : T) (text : List ℕ) (refused : ℕ) (begins : BeginsMerge D told r a b (Ok y)) (texts : Texts text refused)
       (sent : out → new ≡ old ++ text)
-      (c : Moment) (e : Result U PageFault) (ends : (ids : List ℕ) (i : Index) → EndsMerge D told ids i b c e) where
-    abbrev to : Place
+      (c : SessionMoment) (e : Result U PageFault) (ends : (ids : List ℕ) (i : Index) → EndsMerge D told ids i b c e) where
+    abbrev to : MergeMoment
     to = record { files = c.files; faults = c.faults; written = new; sink = now }
 
     abbrev ids : List ℕ
@@ -205,8 +205,8 @@ module _ (D : ℕ) (told out : Type 0) (r : Resident D) (lines : List (List ℕ)
         }
 
     -- all is done
-    merged : (z : U) → e ≡ Ok z → told → (o : trusts) → IsMerged D ids o.index b c
-    merged z ok t o = subst (λ (w : Result U PageFault). OnOk w (IsMerged D ids o.index b c)) ok ((ends ids o.index).done t (is_begun t o o.index o.stored))
+    merged : (z : U) → e ≡ Ok z → told → (o : trusts) → IsMergeDone D ids o.index b c
+    merged z ok t o = subst (λ (w : Result U PageFault). OnOk w (IsMergeDone D ids o.index b c)) ok ((ends ids o.index).done t (is_begun t o o.index o.stored))
 
     -- a segment that the first commit listed among the first is one of these
     among_ids : (o : trusts) (k : CommitData) → IsCommitIn a.files k → (l : Listed) → Contains (take merged_count k.listed) l → is_among ids l.segment ≡ true
@@ -220,23 +220,23 @@ module _ (D : ℕ) (told out : Type 0) (r : Resident D) (lines : List (List ℕ)
         (subst (λ (ns : List ℕ). Contains ns l.segment) (sym first) (in_map (λ (m : Listed). m.segment) (take merged_count k.listed) l inside))
 
     -- and the commit of now lists none of these
-    none_listed : (i : Index) → IsMerged D ids i b c → (d : CommitData) → c.session.commit ≡ Some d → (id : ℕ) → ListsFile d (Segment id)
+    none_listed : (i : Index) → IsMergeDone D ids i b c → (d : CommitData) → c.session.commit ≡ Some d → (id : ℕ) → ListsFile d (Segment id)
         → is_among ids id ≡ true → ⊥
     none_listed i m d is id (s, there, at) among =
         let same : d ≡ m.unchanged.commit = some_inj d m.unchanged.commit (sym is ∙ m.unchanged.is) in
         let listed : Contains (ids_of c.session.set.parts) s.segment =
         subst (λ (ns : List ℕ). Contains ns s.segment) (sym m.unchanged.same.ids)
         (in_map (λ (l : Listed). l.segment) m.unchanged.commit.listed s (subst (λ (k : CommitData). Contains k.listed s) same there)) in
-        let found = of_map (λ (p : Part). p.head.id) c.session.set.parts s.segment listed in
+        let found = of_map (λ (p : LiveSegment). p.head.id) c.session.set.parts s.segment listed in
         both_ways (is_among ids found.0.head.id) (m.apart found.0 found.1) (subst (λ n. is_among ids n ≡ true) (sym (found.2 ∙ at)) among)
       where
         some_inj : (x y : CommitData) → Some x ≡ Some y → x ≡ y
         some_inj x y same = cc
 
-    merges_first : (o : trusts) → IsMerged D ids o.index b c → MergesFirst a.files c.files
+    merges_first : (o : trusts) → IsMergeDone D ids o.index b c → MergesFirst a.files c.files
     merges_first o m k says = (m.says.0, m.says.2, λ l inside lists. none_listed o.index m m.says.0 m.says.1 l.segment lists (among_ids o k says l inside))
 
-    all_canonical : told → (o : trusts) → IsMerged D ids o.index b c → HasNewCanonical a.files c.files
+    all_canonical : told → (o : trusts) → IsMergeDone D ids o.index b c → HasNewCanonical a.files c.files
     all_canonical t o m =
         new_canonical D a.files c.files a.session.set c.session m.index (attached_listed D a.files a.session o.trusts.guards o.unchanged)
         (brings_then D a.files b.files c.files a.session.set.parts b.session.set.parts c.session.set.parts (begins.brings t o) m.brings)

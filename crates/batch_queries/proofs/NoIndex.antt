@@ -20,7 +20,7 @@ use Rattle.run_status.proofs.Ending.{does_lines}
 use Rattle.batch_queries.specs.Batched.{IsBatchText, TellsBatch}
 use Rattle.batch_queries.specs.Ends.{CutsAll}
 use Rattle.batch_queries.specs.Merging.{EndsMerging, MergeKeeps, MergeLeaves}
-use Rattle.batch_queries.specs.MergeRuns.{MergesBatch, Place}
+use Rattle.batch_queries.specs.MergeRuns.{MergesBatch, MergeMoment}
 use Rattle.batch_queries.proofs.MergeCalls.{text_whole, ends_whole, ends_cut, counted_whole, counted_shows, counted_kept, counted_folder, counted_sink}
 
 -- ---- where no index is there
@@ -46,7 +46,7 @@ pub sent_how : {T : Type 0} (known : T) (r : Result T Stop) → IfOk r (λ x. x 
 sent_how known (Ok x) same only = inl (ap Ok same)
 sent_how known (Err e) same only = inr only
 
-pub none_told : (told out : Type 0) (lines : List (List ℕ)) (a b : Place) (text : List ℕ) (refused : ℕ) (r : Result ℕ Stop) → b.files ≡ a.files
+pub none_told : (told out : Type 0) (lines : List (List ℕ)) (a b : MergeMoment) (text : List ℕ) (refused : ℕ) (r : Result ℕ Stop) → b.files ≡ a.files
     → IsBatchText None lines text refused
     → (out → IsSent text a.written b.written r) → (IsErrOf r stop.SinkFault → Rose a.sink b.sink) → (r ≡ Ok refused) ⊎ (r ≡ Err stop.SinkFault)
     → MergesBatch told out (a.files Commit ≡ None) lines a b (status_of r)

@@ -16,7 +16,7 @@ use Rattle.index_core.specs.Sessions.{AreTraced, Guards, IsUnchanged, SessionDat
 use Rattle.batch_run.specs.declared.resident.Resident.{Resident}
 use Rattle.batch_run.specs.Copies.{IsCommitIn}
 use Rattle.batch_run.specs.Residents.{IsCopyIn, IsCopyOf}
-use Rattle.batch_queries.specs.MergeRuns.{IsOpened}
+use Rattle.batch_queries.specs.MergeRuns.{AreOpen}
 
 -- the copy is that of each index that is stored
 copy_of : {D : ℕ} (files : Files) (c : CommitData) (r : Resident D) → IsCopyIn files c r → IsCommitIn files c → (i : Index) → IsStored files (Some i)
@@ -29,9 +29,9 @@ pub opened : (D : ℕ) (first middle last : Files) (c : CommitData) (r : Residen
     → IsCopyIn first c r
     → (IsCommitIn middle c → (i : Index) → IsStored middle (Some i) → Sees D middle s.set i) → (IsCommitIn middle c → Guards D middle s)
     → IsFaithful D middle s.set
-    → (IsCommitIn middle c → AreTraced D middle s.set.parts) → IsUnchanged s → IsOpened D last r s
+    → (IsCommitIn middle c → AreTraced D middle s.set.parts) → IsUnchanged s → AreOpen D last r s
 opened D first middle last c r s same again says copy seen guards faithful traced unchanged =
-    subst (λ (f : Files). IsOpened D f r s) (sym again) (record {
+    subst (λ (f : Files). AreOpen D f r s) (sym again) (record {
       index = index_of c there.0;
       stored = subst (λ (f : Files). IsStored f (Some (index_of c there.0))) (sym same) (record { commit = c; holds = there.1; is = refl });
       copy = λ i h. copy_of first c r copy says i (subst (λ (f : Files). IsStored f (Some i)) same h);

@@ -11,7 +11,7 @@ use Rattle.batch_run.specs.Queries.{near_of, reply_of}
 use Rattle.batch_run.specs.declared.queries.Query.{Query}
 use Rattle.batch_run.specs.declared.queries.Query.TheVariants as query
 use Rattle.batch_run.specs.declared.queries.Reply.{Reply}
-use Rattle.batch_queries.specs.Asked.{request_of, text_of_reply}
+use Rattle.batch_queries.specs.Queries.{request_of, text_of_reply}
 use Rattle.batch_queries.specs.Batched.{reply_text}
 
 -- a number and a distance, from a distance and a number

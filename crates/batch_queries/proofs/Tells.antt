@@ -14,7 +14,7 @@ use Rattle.stored_index.specs.Stored.{IsStored}
 use Rattle.run_status.specs.Told.{Teller, Tellings, TellsAll, TellsLines}
 use Rattle.batch_run.specs.Copies.{IsCommitIn, copied_pages}
 use Rattle.batch_run.specs.declared.queries.Reply.{Reply}
-use Rattle.batch_queries.specs.Asked.{text_of_reply}
+use Rattle.batch_queries.specs.Queries.{text_of_reply}
 use Rattle.batch_queries.specs.Ends.{ReadsOnce}
 
 -- the replies behind those to the requests of one line

@@ -20,15 +20,15 @@ text_of (Refused cause) = []
 abbrev pub reply_text : Index → Request → List ℕ
 reply_text i request = text_of (step_on i request)
 
-abbrev pub replied : List ℕ → Told
-replied text = record { text = text; refused = 0; touched = 0 }
+abbrev pub told_reply : List ℕ → Told
+told_reply text = record { text = text; refused = 0; touched = 0 }
 
 -- Of a request over an index. What is stored has no snapshot.
 abbrev pub told_on : Index → (line : ℕ) → Request → Told
 told_on i line asks.Blank = silence
-told_on i line (asks.InBox None lo hi) = replied (reply_text i (asks.InBox None lo hi))
-told_on i line (asks.InPolygon None rings) = replied (reply_text i (asks.InPolygon None rings))
-told_on i line (asks.Nearest None k at) = replied (reply_text i (asks.Nearest None k at))
+told_on i line (asks.InBox None lo hi) = told_reply (reply_text i (asks.InBox None lo hi))
+told_on i line (asks.InPolygon None rings) = told_reply (reply_text i (asks.InPolygon None rings))
+told_on i line (asks.Nearest None k at) = told_reply (reply_text i (asks.Nearest None k at))
 told_on i line (asks.InBox (Some name) lo hi) = refusal (refused_text line why.UnknownSnapshot)
 told_on i line (asks.InPolygon (Some name) rings) = refusal (refused_text line why.UnknownSnapshot)
 told_on i line (asks.Nearest (Some name) k at) = refusal (refused_text line why.UnknownSnapshot)

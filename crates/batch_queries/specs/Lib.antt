@@ -1,5 +1,5 @@
 pub mod Batched
-pub mod Asked
+pub mod Queries
 pub mod Ends
 pub mod Merging
 pub mod MergeRuns

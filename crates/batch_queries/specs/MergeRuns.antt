@@ -12,7 +12,7 @@ use Rattle.index_model.specs.State.{Index, State, at_rest}
 use Rattle.stored_index.specs.Kept.{SameKept}
 use Rattle.stored_index.specs.Stored.{IsStored}
 use Rattle.index_opening.specs.Evidence.{IsEvident}
-use Rattle.segment_view.specs.Parts.{Part, ids_of}
+use Rattle.segment_view.specs.LiveSegments.{LiveSegment, ids_of}
 use Rattle.file_names.specs.Names.{is_named}
 use Rattle.segment_set.specs.Sets.{BegunMerge}
 use Rattle.segment_set.specs.Seen.{Sees}
@@ -21,7 +21,7 @@ use Rattle.index_core.specs.Effects.{BringsCanonical}
 use Rattle.index_core.specs.Light.{KeepsLevels}
 use Rattle.index_core.specs.Sessions.{Guards, IsUnchanged, SessionData, Trusts}
 use Rattle.index_core.specs.Steps.{KeepsUndone, SaysCommit}
-use Rattle.index_core.specs.Whole.{Moment}
+use Rattle.index_core.specs.Whole.{SessionMoment}
 use Rattle.run_status.specs.Ends.{DoesNothing, IsDamaged, OnStatusDamage}
 use Rattle.run_status.specs.declared.status.Status.{Status}
 use Rattle.run_status.specs.declared.status.Status.TheVariants as status
@@ -32,7 +32,7 @@ use Rattle.batch_queries.specs.Ends.{TellsStored}
 use Rattle.batch_queries.specs.Merging.{EndsMerging, MergeLeaves, merged_count}
 
 -- the folder's files with its faults, and what went out with the faults of the sink
-pub record Place : Type 0 where
+pub record MergeMoment : Type 0 where
   pub files : Files
   pub faults : ℕ
   pub written : List ℕ
@@ -40,7 +40,8 @@ pub record Place : Type 0 where
 
 -- From the one place to the other lines are answered and the first segments merged, over files that are trusted so. A
 -- damage is shown by what it carries, and is true of such files.
-pub record MergesBatch (told out trusts : Type 0) (lines : List (List ℕ)) (old new : Place) (s : Status) : Type 0 where
+pub record MergesBatch (told out trusts : Type 0) (lines : List (List ℕ)) (old new : MergeMoment) (s : Status)
+    : Type 0 where
   pub done : DoesNothing s → ⊥
   pub ends : told → trusts → (state : State) → IsStored old.files state
       → EndsMerging out (TellsBatch state) lines old.written new.written s
@@ -54,7 +55,7 @@ pub record MergesBatch (told out trusts : Type 0) (lines : List (List ℕ)) (old
 -- ---- with a session
 
 -- A resident copy and a session are open over files that store an index, and with them both are of that.
-pub record IsOpened (D : ℕ) (files : Files) (r : Resident D) (s : SessionData) : Type 0 where
+pub record AreOpen (D : ℕ) (files : Files) (r : Resident D) (s : SessionData) : Type 0 where
   pub index : Index
   pub stored : IsStored files (Some index)
   pub copy : (i : Index) → IsStored files (Some i) → IsCopyOf i.docs r
@@ -75,35 +76,35 @@ pub record IsBegun (D : ℕ) (files : Files) (s : SessionData) (ids : List ℕ) 
   pub named : (id : ℕ) → is_among ids id ≡ true → is_named s.set.names.names (Segment id) ≡ true
 
 -- the batch is answered, and the merge of the first segments begun; what is kept stays, whatever is answered
-pub record BeginsMerge {T : Type 0} (D : ℕ) (told : Type 0) (r : Resident D) (old new : Moment)
+pub record BeginsMerge {T : Type 0} (D : ℕ) (told : Type 0) (r : Resident D) (old new : SessionMoment)
     (result : Result T PageFault) : Type 0 where
-  pub begun : told → IsOpened D old.files r old.session → (i : Index) → IsStored old.files (Some i)
+  pub begun : told → AreOpen D old.files r old.session → (i : Index) → IsStored old.files (Some i)
       → OnOk result (IsBegun D new.files new.session (first_ids old.session) i)
-  pub brings : told → IsOpened D old.files r old.session
+  pub brings : told → AreOpen D old.files r old.session
       → BringsCanonical D old.files new.files old.session.set.parts new.session.set.parts
-  pub kept : told → IsOpened D old.files r old.session → SameKept old.files new.files
-  pub whole : told → IsOpened D old.files r old.session → NotDamaged result
+  pub kept : told → AreOpen D old.files r old.session → SameKept old.files new.files
+  pub whole : told → AreOpen D old.files r old.session → NotDamaged result
   pub cause : HasPageCause old.faults new.faults result
-  pub evident : OnDamage result (IsEvident (told × IsOpened D old.files r old.session) new.files)
+  pub evident : OnDamage result (IsEvident (told × AreOpen D old.files r old.session) new.files)
 
 -- the merge is ended and committed: no segment of now has one of these ids
-pub record IsMerged (D : ℕ) (ids : List ℕ) (i : Index) (old new : Moment) : Type 0 where
+pub record IsMergeDone (D : ℕ) (ids : List ℕ) (i : Index) (old new : SessionMoment) : Type 0 where
   pub stored : IsStored new.files (Some (at_rest i))
   pub index : Index
   pub seen : Sees D new.files new.session.set index
   pub guards : Guards D new.files new.session
   pub says : SaysCommit new.files new.session.commit
   pub unchanged : IsUnchanged new.session
-  pub apart : (p : Part) → Contains new.session.set.parts p → is_among ids p.head.id ≡ false
+  pub apart : (p : LiveSegment) → Contains new.session.set.parts p → is_among ids p.head.id ≡ false
   pub brings : BringsCanonical D old.files new.files old.session.set.parts new.session.set.parts
   pub levels : KeepsLevels old.files new.files
 
 -- and after a fault what is kept is the same, or what was stored is there anew
-pub record EndsMerge {T : Type 0} (D : ℕ) (told : Type 0) (ids : List ℕ) (i : Index) (old new : Moment)
+pub record EndsMerge {T : Type 0} (D : ℕ) (told : Type 0) (ids : List ℕ) (i : Index) (old new : SessionMoment)
     (result : Result T PageFault) : Type 0 where
   pub keeps : told → IsBegun D old.files old.session ids i
       → SameKept old.files new.files ⊎ IsStored new.files (Some (at_rest i))
-  pub done : told → IsBegun D old.files old.session ids i → OnOk result (IsMerged D ids i old new)
+  pub done : told → IsBegun D old.files old.session ids i → OnOk result (IsMergeDone D ids i old new)
   pub undone : told → IsBegun D old.files old.session ids i → KeepsUndone old.files new.files result
   pub lasting : told → IsBegun D old.files old.session ids i → KeepsCommit old.files new.files
   pub whole : told → IsBegun D old.files old.session ids i → NotDamaged result

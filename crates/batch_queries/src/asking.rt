@@ -5,7 +5,7 @@ ghost use Rattle.std.specs.List.{flat_map};
 ghost use Rattle.script_lang.specs.Lines.{lines_of};
 ghost use Rattle.script_lang.specs.Seen.{IsWithinLimits, request_of as command_request};
 ghost use Rattle.batch_run.specs.Queries.{IsInRange};
-ghost use Rattle.batch_queries.specs.Asked.{asked_in, now_of, request_of};
+ghost use Rattle.batch_queries.specs.Queries.{query_in, now_of, request_of};
 
 use crate::Memory;
 use batch_run::Query;
@@ -17,7 +17,7 @@ use std::alloc::{AllocError, Global};
 pub(crate) fn collect<const D: usize>(alloc: Global, lines: &[u8]) -> Result<Vec<Query<D>>, Memory>
     requires some { 1 ≤ D }
     requires few { D ≤ 8 }
-    ensures asked { IfOk result (λ v. map request_of v.items ≡ flat_map (asked_in D) (lines_of lines.now)) }
+    ensures asked { IfOk result (λ v. map request_of v.items ≡ flat_map (query_in D) (lines_of lines.now)) }
     ensures range { IfOk result (λ v. All (IsInRange D) v.items) }
 {
     let mut queries = Vec::new(alloc);
@@ -39,7 +39,7 @@ fn collect_line<const D: usize>(
     requires some { 1 ≤ D }
     requires few { D ≤ 8 }
     ensures asked { OnOk result
-        (map request_of queries.new.items ≡ map request_of queries.old.items ++ asked_in D line.now) }
+        (map request_of queries.new.items ≡ map request_of queries.old.items ++ query_in D line.now) }
     ensures range { All (IsInRange D) queries.old.items → OnOk result (All (IsInRange D) queries.new.items) }
 {
     match read_line::<D>(alloc, line) {

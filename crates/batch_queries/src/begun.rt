@@ -6,7 +6,7 @@ ghost use Rattle.index_model.specs.State.{Index};
 ghost use Rattle.stored_index.specs.Stored.{IsStored};
 ghost use Rattle.batch_queries.specs.Batched.{IsBatchText};
 ghost use Rattle.batch_queries.specs.Merging.{below, merged_count};
-ghost use Rattle.batch_queries.specs.MergeRuns.{BeginsMerge, EndsMerge, IsOpened};
+ghost use Rattle.batch_queries.specs.MergeRuns.{BeginsMerge, EndsMerge, AreOpen};
 
 use crate::Memory;
 use crate::asking::collect;
@@ -36,7 +36,7 @@ pub(crate) fn answer_beside<const D: usize, F: Folder, R: Threads + Sync, G: Gat
     requires some { 1 ≤ D }
     requires few { D ≤ 8 }
     requires lines { length lines.now ≤ 2 ^ 32 }
-    ensures text { IsOpened D (F.files folder.old) resident.now session.old → (i : Index)
+    ensures text { AreOpen D (F.files folder.old) resident.now session.old → (i : Index)
         → IsStored (F.files folder.old) (Some i)
         → IfOk result (λ t. IsBatchText (Some i) (lines_of lines.now) t.bytes.items t.refused) }
     ensures begins { BeginsMerge D (IsTrue F.told) resident.now

@@ -14,7 +14,7 @@ ghost use Rattle.batch_run.specs.Copies.{IsCommitIn};
 ghost use Rattle.batch_queries.specs.Batched.{TellsBatch};
 ghost use Rattle.batch_queries.specs.Ends.{TellsStored};
 ghost use Rattle.batch_queries.specs.Merging.{EndsMerging, MergeLeaves};
-ghost use Rattle.batch_queries.specs.MergeRuns.{IsOpened, MergesBatch};
+ghost use Rattle.batch_queries.specs.MergeRuns.{AreOpen, MergesBatch};
 
 use crate::begun::{answer_beside, end_merge};
 use crate::telling::tell_bare;
@@ -197,7 +197,7 @@ fn merge_with<const D: usize, F: Folder, K: Sink, R: Threads + Sync, G: Gate>(
     requires some { 1 ≤ D }
     requires few { D ≤ 8 }
     requires lines { length lines.now ≤ 2 ^ 32 }
-    ensures { MergesBatch (IsTrue F.told) (IsTrue K.told) (IsOpened D (F.files folder.old) resident.now session.old)
+    ensures { MergesBatch (IsTrue F.told) (IsTrue K.told) (AreOpen D (F.files folder.old) resident.now session.old)
         (lines_of lines.now)
         (record {
           files = F.files folder.old;

@@ -9,7 +9,7 @@ ghost use Rattle.script_lang.specs.Requests.{Request};
 ghost use Rattle.script_lang.specs.Seen.{request_of as command_request};
 ghost use Rattle.index_model.specs.State.{Index};
 ghost use Rattle.run_status.specs.Told.{IsTold};
-ghost use Rattle.batch_queries.specs.Asked.{asked_in, now_of, text_of_reply};
+ghost use Rattle.batch_queries.specs.Queries.{query_in, now_of, text_of_reply};
 ghost use Rattle.batch_queries.specs.Batched.{IsBatchText, TellsBatch, reply_text, told_on};
 
 use crate::Memory;
@@ -46,9 +46,9 @@ pub(crate) fn tell_all<const D: usize>(
     requires some { 1 ≤ D }
     requires few { D ≤ 8 }
     requires lines { length lines.now ≤ 2 ^ 32 }
-    requires each { length replies.now ≡ length (flat_map (asked_in D) (lines_of lines.now)) }
+    requires each { length replies.now ≡ length (flat_map (query_in D) (lines_of lines.now)) }
     ensures { (i : Index) → i.dims ≡ D
-        → map text_of_reply replies.now ≡ map (reply_text i) (flat_map (asked_in D) (lines_of lines.now))
+        → map text_of_reply replies.now ≡ map (reply_text i) (flat_map (query_in D) (lines_of lines.now))
         → IfOk result (λ t. IsBatchText (Some i) (lines_of lines.now) t.bytes.items t.refused) }
 {
     let mut bytes = Vec::new(alloc);
@@ -77,11 +77,11 @@ fn tell_line<const D: usize>(
 ) -> Result<Line, Memory>
     requires some { 1 ≤ D }
     requires few { D ≤ 8 }
-    requires there { length (asked_in D line.now) ≤ length replies.now }
+    requires there { length (query_in D line.now) ≤ length replies.now }
     ensures told { (i : Index) → i.dims ≡ D → (more : List Request)
-        → map text_of_reply replies.now ≡ map (reply_text i) (asked_in D line.now ++ more)
+        → map text_of_reply replies.now ≡ map (reply_text i) (query_in D line.now ++ more)
         → IfOk result (λ l. IsTold (TellsBatch (Some i) number line.now) text.old.items text.new.items l.refused) }
-    ensures asks { IfOk result (λ l. length (asked_in D line.now) ≡ cond l.asks 1 0) }
+    ensures asks { IfOk result (λ l. length (query_in D line.now) ≡ cond l.asks 1 0) }
 {
     match read_line::<D>(alloc, line) {
         Ok(command) => tell(number, &command, replies, text),

@@ -15,10 +15,10 @@ use Rattle.stored_index.specs.Segments.{SegmentData, all_live_entries, entries_a
 use Rattle.stored_index.specs.Stored.{HoldsFiles, HoldsIndex}
 use Rattle.stored_index.proofs.Pairwise.{partner_of}
 use Rattle.stored_index.proofs.Parts.{contents}
-use Rattle.segment_view.specs.Parts.{AreRead, Contents, IsRead, Part, live_in_parts}
+use Rattle.segment_view.specs.LiveSegments.{AreRead, Contents, IsRead, LiveSegment, live_in_parts}
 use Rattle.index_opening.specs.Opened.{IsOpened}
 use Rattle.index_opening.proofs.Listed.{as_part, opened_heads, opened_lives, parts_held}
-use Rattle.batch_run.specs.Held.{Holds}
+use Rattle.batch_run.specs.Held.{HoldsDocs}
 
 entries_map : (es : Contents) (held : List SegmentData) → All (λ (d : SegmentData). es d.head.id ≡ d.entries) held
     → live_in_parts es (map as_part held) ≡ all_live_entries held
@@ -54,14 +54,14 @@ module _ (D : ℕ) (files : Files) (c : CommitData) (docs : List Document) (dims
   held_docs = subst (λ (xs : List Item). AreDocs c.next xs docs) (sym (entries_map held_contents h.parts by_id)) h.are_docs
 
 -- segments that were opened hold, with files that are the same still, the documents of the index
-pub opened_hold : (D : ℕ) (start mid now : Files) (c : CommitData) (parts : List Part) (docs : List Document) → c.dims ≡ D → mid ≡ start → now ≡ mid
-    → AllZip (IsOpened (IsTrue true) mid c) c.listed parts → HoldsIndex start c docs → Holds D now parts docs
+pub opened_hold : (D : ℕ) (start mid now : Files) (c : CommitData) (parts : List LiveSegment) (docs : List Document) → c.dims ≡ D → mid ≡ start → now ≡ mid
+    → AllZip (IsOpened (IsTrue true) mid c) c.listed parts → HoldsIndex start c docs → HoldsDocs D now parts docs
 opened_hold D start mid now c parts docs dims first second opened h =
-    subst (λ (f : Files). Holds D f parts docs) (sym second) (record {
+    subst (λ (f : Files). HoldsDocs D f parts docs) (sym second) (record {
       contents = held_contents D mid c docs dims here;
       read = subst (AreRead D mid (held_contents D mid c docs dims here)) (sym same) (held_read D mid c docs dims here);
       next = c.next;
-      are_docs = subst (λ (ps : List Part). AreDocs c.next (live_in_parts (held_contents D mid c docs dims here) ps) docs) (sym same)
+      are_docs = subst (λ (ps : List LiveSegment). AreDocs c.next (live_in_parts (held_contents D mid c docs dims here) ps) docs) (sym same)
           (held_docs D mid c docs dims here);
     })
   where

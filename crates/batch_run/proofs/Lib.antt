@@ -3,4 +3,4 @@ mod CopiedFiles
 mod Held
 mod Whole
 mod Replied
-mod Sizes
+pub mod Sizes

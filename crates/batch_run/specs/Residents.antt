@@ -6,7 +6,7 @@ use Rattle.documents.specs.Documents.{Document}
 use Rattle.commit_list.specs.Commits.{CommitData}
 use Rattle.stored_index.specs.Stored.{HoldsIndex}
 use Rattle.batch_run.specs.Copies.{IsCommitIn}
-use Rattle.batch_run.specs.Held.{Holds}
+use Rattle.batch_run.specs.Held.{HoldsDocs}
 use Rattle.batch_run.specs.Queries.{reply_of}
 use Rattle.batch_run.specs.declared.queries.Query.{Query}
 use Rattle.batch_run.specs.declared.queries.Reply.{Reply}
@@ -14,7 +14,7 @@ use Rattle.batch_run.specs.declared.resident.Resident.{Resident}
 
 -- the resident copy is one of these documents
 abbrev pub IsCopyOf : {D : ℕ} → List Document → Resident D → Type 0
-IsCopyOf {D} docs r = Holds D (folder_files r.files) r.segments docs
+IsCopyOf {D} docs r = HoldsDocs D (folder_files r.files) r.segments docs
 
 -- the files hold the index of a commit, where they say that commit, and the copy is one of its documents
 pub record IsCopyIn {D : ℕ} (files : Files) (c : CommitData) (r : Resident D) : Type 0 where

@@ -7,7 +7,7 @@ ghost use Rattle.outer_io.specs.MemFolder.{folder_files};
 ghost use Rattle.page_cache.specs.declared.faults.PageFault.TheVariants as page;
 ghost use Rattle.page_cache.specs.Cache.{Agrees};
 ghost use Rattle.page_cache.specs.Evidence.{NotDamaged};
-ghost use Rattle.batch_run.specs.Held.{Holds};
+ghost use Rattle.batch_run.specs.Held.{HoldsDocs};
 ghost use Rattle.batch_run.specs.Residents.{AreReplies};
 ghost use Rattle.batch_run.specs.Queries.{IsInRange, near_of, reply_of};
 
@@ -58,8 +58,8 @@ fn answer<const D: usize>(
 ) -> Result<Reply, Memory>
     requires range { IsInRange D query.now }
     requires agrees { Agrees (folder_files pages.old.files.now) cache.old }
-    requires held { ∥ ((docs : List Document) × Holds D (folder_files pages.old.files.now) segments.now docs) ∥₁ }
-    ensures reply { (docs : List Document) → Holds D (folder_files pages.old.files.now) segments.now docs
+    requires held { ∥ ((docs : List Document) × HoldsDocs D (folder_files pages.old.files.now) segments.now docs) ∥₁ }
+    ensures reply { (docs : List Document) → HoldsDocs D (folder_files pages.old.files.now) segments.now docs
         → IfOk result (λ r. r ≡ reply_of D docs query.now) }
     ensures files { folder_files pages.new.files.now ≡ folder_files pages.old.files.now }
     ensures agrees { Agrees (folder_files pages.old.files.now) cache.new }
@@ -86,8 +86,8 @@ fn find<const D: usize, S: Shape<D>>(
     shape: &mut S,
 ) -> Result<Reply, Memory>
     requires agrees { Agrees (folder_files pages.old.files.now) cache.old }
-    requires held { ∥ ((docs : List Document) × Holds D (folder_files pages.old.files.now) segments.now docs) ∥₁ }
-    ensures reply { (docs : List Document) → Holds D (folder_files pages.old.files.now) segments.now docs
+    requires held { ∥ ((docs : List Document) × HoldsDocs D (folder_files pages.old.files.now) segments.now docs) ∥₁ }
+    ensures reply { (docs : List Document) → HoldsDocs D (folder_files pages.old.files.now) segments.now docs
         → IfOk result (λ r. r ≡ Reply.Hits (hits (S.has shape.old) docs)) }
     ensures files { folder_files pages.new.files.now ≡ folder_files pages.old.files.now }
     ensures agrees { Agrees (folder_files pages.old.files.now) cache.new }
@@ -112,8 +112,8 @@ fn find_near<const D: usize>(
     requires some { 1 ≤ k }
     requires few { k ≤ 10000 }
     requires agrees { Agrees (folder_files pages.old.files.now) cache.old }
-    requires held { ∥ ((docs : List Document) × Holds D (folder_files pages.old.files.now) segments.now docs) ∥₁ }
-    ensures reply { (docs : List Document) → Holds D (folder_files pages.old.files.now) segments.now docs
+    requires held { ∥ ((docs : List Document) × HoldsDocs D (folder_files pages.old.files.now) segments.now docs) ∥₁ }
+    ensures reply { (docs : List Document) → HoldsDocs D (folder_files pages.old.files.now) segments.now docs
         → IfOk result (λ r. r ≡ Reply.Near (map near_of (nearest k at.now.c docs))) }
     ensures files { folder_files pages.new.files.now ≡ folder_files pages.old.files.now }
     ensures agrees { Agrees (folder_files pages.old.files.now) cache.new }

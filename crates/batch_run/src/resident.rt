@@ -3,7 +3,7 @@
 ghost use Rattle.std.specs.Prelude.{◌≡◌, List};
 ghost use Rattle.outer_io.specs.MemFolder.{folder_files};
 ghost use Rattle.documents.specs.Documents.{Document};
-ghost use Rattle.batch_run.specs.Held.{Holds};
+ghost use Rattle.batch_run.specs.Held.{HoldsDocs};
 
 use crate::pages::SharedPages;
 use outer_io::MemFolder;
@@ -15,7 +15,7 @@ use segment_view::Segments;
 pub struct Resident<const D: usize> {
     pub(crate) segments: Segments<D>,
     pub(crate) files: MemFolder,
-    ghost held: { ∥ ((docs : List Document) × Holds D (folder_files files) segments docs) ∥₁ },
+    ghost held: { ∥ ((docs : List Document) × HoldsDocs D (folder_files files) segments docs) ∥₁ },
 }
 
 impl<const D: usize> Resident<D> {

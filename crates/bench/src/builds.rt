@@ -1,7 +1,7 @@
 //! Trees built by several threads.
 
 ghost use Rattle.std.specs.Prelude.{◌≡◌, ◌≤◌, ◌^◌, vec_len, IfOk};
-ghost use Rattle.bkd_build.specs.Parts.{AreEntries};
+ghost use Rattle.bkd_build.specs.Pieces.{AreEntries};
 
 use crate::draws::{coordinate, next};
 use bkd_build::{Built, OpenGate, build};

@@ -15,10 +15,10 @@ use Rattle.leaf_codec.specs.Leaves.{AreLeaf}
 use Rattle.leaf_codec.specs.Spelling.{spelling}
 use Rattle.leaf_codec.proofs.OrderLemmas.{NoneTwice-IsPermutation}
 use Rattle.inner_pack.specs.Trees.{Cut, cuts_of, lengths_of, own_cells}
-use Rattle.bkd_build.specs.Cuts.{ComesBefore}
+use Rattle.bkd_build.specs.Cuts.{AllComeBefore}
 use Rattle.bkd_build.specs.Extents.{IsLeast, IsWidest}
 use Rattle.bkd_build.specs.Canon.{KdTree, Leaf, Split, entries_of, leaves_of, index_tree_of, left_count, IsCanonSplit}
-use Rattle.bkd_build.specs.Parts.{AreEntries, Pieces, pieces_of, no_pieces, one_node, joined, Adds}
+use Rattle.bkd_build.specs.Pieces.{AreEntries, Pieces, pieces_of, no_pieces, one_node, joined_pieces, AddsPieces}
 use Rattle.bkd_build.proofs.CutLemmas.{before-moved}
 use Rattle.bkd_build.proofs.ExtentLemmas.{IsLeast-IsPermutation, IsWidest-IsPermutation}
 
@@ -73,7 +73,7 @@ entries-drop {D} k es high h = record {
 -- a cut at the rank of the left half, in the widest dimension, splits the node
 pub split_of_cut : (D leaf d rank : ℕ) (x : ℤ) (es fs : List (Entry D)) → IsPermutation es fs → leaf < length es → rank ≡ left_count leaf (length es)
     → rank < length es
-    → IsWidest D d (items_of es) → ComesBefore (leaf_cmp d) (take rank (items_of fs)) (drop rank (items_of fs)) → IsLeast d x (drop rank (items_of fs))
+    → IsWidest D d (items_of es) → AllComeBefore (leaf_cmp d) (take rank (items_of fs)) (drop rank (items_of fs)) → IsLeast d x (drop rank (items_of fs))
     → IsCanonSplit D leaf d x (items_of (take rank fs)) (items_of (drop rank fs))
 split_of_cut D leaf d rank x es fs p many is below widest apart value =
     subst (λ (ls : List Item). IsCanonSplit D leaf d x ls (items_of (drop rank fs))) (items-take rank fs)
@@ -124,7 +124,7 @@ node_of c = (c.dimension, c.at)
 
 -- the pieces of a node are its own, then those of its left and of its right half
 pieces_joined : (D d : ℕ) (x : ℤ) (l r : KdTree) (before : Pieces)
-    → joined (joined (joined before (one_node d x)) (pieces_of D l)) (pieces_of D r) ≡ joined before (pieces_of D (Split d x l r))
+    → joined_pieces (joined_pieces (joined_pieces before (one_node d x)) (pieces_of D l)) (pieces_of D r) ≡ joined_pieces before (pieces_of D (Split d x l r))
 pieces_joined D d x l r before = λ i. record { nodes = nodes i; lengths = lengths i; cells = cells i; leaves = leaves i }
   where
     nodes : ((before.nodes ++ (d, x) ∷ []) ++ map node_of (cuts_of (index_tree_of D l))) ++ map node_of (cuts_of (index_tree_of D r))
@@ -144,32 +144,34 @@ pieces_joined D d x l r before = λ i. record { nodes = nodes i; lengths = lengt
     leaves = simp (map-append, append_assoc)
 
 pub node_adds : (D leaf d : ℕ) (x : ℤ) (items ls rs : List Item) (before middle after : Pieces) → IsPermutation items (ls ++ rs) → IsCanonSplit D leaf d x ls rs
-    → Adds D leaf ls (joined before (one_node d x)) middle → Adds D leaf rs middle after → Adds D leaf items before after
+    → AddsPieces D leaf ls (joined_pieces before (one_node d x)) middle → AddsPieces D leaf rs middle after → AddsPieces D leaf items before after
 node_adds D leaf d x items ls rs before middle after p split left right = record {
   tree = Split d x left.tree right.tree;
   canon = (split-IsPermutation D leaf d x ls rs (entries_of left.tree) (entries_of right.tree) left.same right.same split, left.canon, right.canon);
   same = IsPermutation-trans items (ls ++ rs) (entries_of left.tree ++ entries_of right.tree) p
       (IsPermutation-append ls (entries_of left.tree) rs (entries_of right.tree) left.same right.same);
-  is = right.is ∙ ap (λ (ps : Pieces). joined ps (pieces_of D right.tree)) left.is ∙ pieces_joined D d x left.tree right.tree before;
+  is = right.is ∙ ap (λ (ps : Pieces). joined_pieces ps (pieces_of D right.tree)) left.is ∙ pieces_joined D d x left.tree right.tree before;
 }
 
 -- from halves that were built apart
 pub halves_add : (D leaf d : ℕ) (x : ℤ) (items ls rs : List Item) (first second whole : Pieces) → IsPermutation items (ls ++ rs) → IsCanonSplit D leaf d x ls rs
-    → Adds D leaf ls no_pieces first → Adds D leaf rs no_pieces second → whole ≡ joined (joined (one_node d x) first) second → Adds D leaf items no_pieces whole
+    → AddsPieces D leaf ls no_pieces first → AddsPieces D leaf rs no_pieces second → whole ≡ joined_pieces (joined_pieces (one_node d x) first) second
+        → AddsPieces D leaf items no_pieces whole
 halves_add D leaf d x items ls rs first second whole p split left right is = record {
   tree = Split d x left.tree right.tree;
   canon = (split-IsPermutation D leaf d x ls rs (entries_of left.tree) (entries_of right.tree) left.same right.same split, left.canon, right.canon);
   same = IsPermutation-trans items (ls ++ rs) (entries_of left.tree ++ entries_of right.tree) p
       (IsPermutation-append ls (entries_of left.tree) rs (entries_of right.tree) left.same right.same);
-  is = is ∙ ap (λ (ps : Pieces). joined (joined (one_node d x) ps) second) left.is
-      ∙ ap (λ (ps : Pieces). joined (joined (one_node d x) (pieces_of D left.tree)) ps) right.is ∙ pieces_joined D d x left.tree right.tree no_pieces;
+  is = is ∙ ap (λ (ps : Pieces). joined_pieces (joined_pieces (one_node d x) ps) second) left.is
+      ∙ ap (λ (ps : Pieces). joined_pieces (joined_pieces (one_node d x) (pieces_of D left.tree)) ps) right.is
+          ∙ pieces_joined D d x left.tree right.tree no_pieces;
 }
 
 -- ---- a leaf
 
 pub leaf_adds : (D leaf : ℕ) (items entries : List Item) (own : Region) (before after : Pieces) → IsPermutation items entries → length items ≤ leaf
     → AreLeaf D entries
-    → IsLeastCell (map (λ (x : Item). x.at) entries) own → after ≡ joined before (pieces_of D (Leaf entries own)) → Adds D leaf items before after
+    → IsLeastCell (map (λ (x : Item). x.at) entries) own → after ≡ joined_pieces before (pieces_of D (Leaf entries own)) → AddsPieces D leaf items before after
 leaf_adds D leaf items entries own before after p few are cell is = record {
   tree = Leaf entries own;
   canon = record { few = omega (arith, length_permutation items entries p, few); entries = are; cell = cell };

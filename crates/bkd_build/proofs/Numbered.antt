@@ -10,7 +10,7 @@ use Rattle.point_codec.specs.Seen.{items_of}
 use Rattle.point_codec.specs.declared.entries.Entry.{Entry}
 use Rattle.leaf_codec.specs.LeafOrder.{same_item, NoneTwice}
 use Rattle.leaf_codec.proofs.OrderLemmas.{count-cons}
-use Rattle.bkd_build.specs.Parts.{AreEntries}
+use Rattle.bkd_build.specs.Pieces.{AreEntries}
 use Rattle.bkd_build.proofs.Ascending.{one_item}
 
 -- so many entries, with numbers below n, none of them twice

@@ -9,7 +9,7 @@ use Rattle.leaf_codec.specs.Dimensions.{sorted_dimension}
 use Rattle.leaf_codec.specs.LeafOrder.{leaf_cmp}
 use Rattle.leaf_codec.specs.Leaves.{AreLeaf}
 use Rattle.leaf_codec.proofs.Permuted.{sorted_dimension-IsPermutation}
-use Rattle.bkd_build.specs.Cuts.{ComesBefore}
+use Rattle.bkd_build.specs.Cuts.{AllComeBefore}
 use Rattle.bkd_build.specs.Extents.{IsLeast}
 use Rattle.bkd_build.specs.Canon.{KdTree, Leaf, Split, entries_of, left_count, IsCanonLeaf, IsCanonSplit, IsCanon, Canon}
 use Rattle.bkd_build.proofs.Ascending.{ascends_strictly, one_ascending, same_items, one_cut}
@@ -53,7 +53,7 @@ halves : (D leaf d e : ℕ) (x y : ℤ) (ls rs us vs : List Item) → IsCanonSpl
 halves D leaf d e x y ls rs us vs a b p =
     let dims : d ≡ e = one_widest D d e (us ++ vs) (IsWidest-IsPermutation D d (ls ++ rs) (us ++ vs) p a.widest) b.widest in
     let long : length ls ≡ length us = a.rank ∙ ap (left_count leaf) (sym (length_permutation (ls ++ rs) (us ++ vs) p)) ∙ sym b.rank in
-    let parts = one_cut d ls rs us vs p long a.apart (subst (λ (d : ℕ). ComesBefore (leaf_cmp d) us vs) (sym dims) b.apart) in
+    let parts = one_cut d ls rs us vs p long a.apart (subst (λ (d : ℕ). AllComeBefore (leaf_cmp d) us vs) (sym dims) b.apart) in
     (dims, one_least d x y vs (IsLeast-IsPermutation d x rs vs parts.1 a.value) (subst (λ (d : ℕ). IsLeast d y vs) (sym dims) b.value), parts.0, parts.1)
 
 pub one_tree : (D leaf : ℕ) (t u : KdTree) → IsCanon D leaf t → IsCanon D leaf u → IsPermutation (entries_of t) (entries_of u) → t ≡ u

@@ -14,8 +14,8 @@ use Rattle.inner_pack.specs.Trees.{IndexTree, IsCell, IsShaped, lengths_of}
 use Rattle.inner_pack.specs.Bodies.{Body, HasTree}
 use Rattle.inner_pack.specs.Parts.{ArePartsOf}
 use Rattle.bkd_build.specs.Canon.{KdTree, entries_of, index_tree_of, leaves_for, IsBuilt}
-use Rattle.bkd_build.specs.Parts.{Adds, Pieces, no_pieces, held}
-use Rattle.bkd_build.specs.declared.parts.Part.{Part}
+use Rattle.bkd_build.specs.Pieces.{AddsPieces, Pieces, no_pieces, held_pieces}
+use Rattle.bkd_build.specs.declared.parts.BuiltSubtree.{BuiltSubtree}
 use Rattle.bkd_build.proofs.Shapes.{shaped, shaped_count, all_points, all_fit, few_leaves, some_leaves}
 use Rattle.bkd_build.proofs.Fits.{cell_round_points, cells_lie}
 
@@ -26,7 +26,7 @@ unmapped P (x ∷ xs) h =
 
 pub parts_are : (D leaf : ℕ) (items : List Item) (root : Region) (nodes : List (ℕ × ℤ)) (lengths : List ℕ) (cells : List (Cell D)) (leaves : List (List ℕ))
     → 1 ≤ D → D ≤ 8 → 2 ≤ leaf → 1 ≤ length items → length items ≤ 16777216 → IsLeastCell (map (λ (x : Item). x.at) items) root
-    → (a : Adds D leaf items no_pieces (record { nodes = nodes; lengths = lengths; cells = map region_of cells; leaves = leaves }))
+    → (a : AddsPieces D leaf items no_pieces (record { nodes = nodes; lengths = lengths; cells = map region_of cells; leaves = leaves }))
     → ArePartsOf D root nodes lengths cells (index_tree_of D a.tree)
 parts_are D leaf items root nodes lengths cells leaves dims few two some count cell a =
     let t : KdTree = a.tree in
@@ -61,10 +61,10 @@ parts_are D leaf items root nodes lengths cells leaves dims few two some count c
     }
 
 -- the same of what is lent of a part
-pub parts_lent : (D leaf : ℕ) (es : List (Entry D)) (root : Region) (part : Part D) (nodes : List (ℕ × ℤ)) (lengths : List ℕ) (cells : List (Cell D))
+pub parts_lent : (D leaf : ℕ) (es : List (Entry D)) (root : Region) (part : BuiltSubtree D) (nodes : List (ℕ × ℤ)) (lengths : List ℕ) (cells : List (Cell D))
     → 1 ≤ D → D ≤ 8 → 2 ≤ leaf → 1 ≤ length es → length es ≤ 16777216 → IsLeastCell (map (λ (x : Item). x.at) (items_of es)) root
     → nodes ≡ part.nodes.items → lengths ≡ part.lengths.items → cells ≡ part.cells.items
-    → (a : Adds D leaf (items_of es) no_pieces (held part)) → ArePartsOf D root nodes lengths cells (index_tree_of D a.tree)
+    → (a : AddsPieces D leaf (items_of es) no_pieces (held_pieces part)) → ArePartsOf D root nodes lengths cells (index_tree_of D a.tree)
 parts_lent D leaf es root part nodes lengths cells dims few two some count cell nodes_are lengths_are cells_are a =
     let long : length (items_of es) ≡ length es = length-map es (λ (e : Entry D). record { doc = e.doc; at = e.point.c }) in
     rw (nodes_are, lengths_are, cells_are)
@@ -72,7 +72,7 @@ parts_lent D leaf es root part nodes lengths cells dims few two some count cell 
     (omega (arith, long, count)) cell a)
 
 pub whole_built : (D leaf : ℕ) (items : List Item) (root : Region) (pieces : Pieces) (index : Body) → IsLeastCell (map (λ (x : Item). x.at) items) root
-    → (a : Adds D leaf items no_pieces pieces) → index.form ≡ 3 → HasTree D index root (index_tree_of D a.tree)
+    → (a : AddsPieces D leaf items no_pieces pieces) → index.form ≡ 3 → HasTree D index root (index_tree_of D a.tree)
     → IsBuilt D leaf items (record { index = index; leaves = pieces.leaves })
 whole_built D leaf items root pieces index cell a form has = record {
   tree = a.tree;

@@ -9,7 +9,7 @@ use Rattle.leaf_codec.specs.Leaves.{AreLeaf}
 use Rattle.leaf_codec.specs.Spelling.{spelling}
 use Rattle.inner_pack.specs.Trees.{IndexTree, Leaf as IndexLeaf, Split as IndexSplit}
 use Rattle.inner_pack.specs.Bodies.{Body, HasTree}
-use Rattle.bkd_build.specs.Cuts.{ComesBefore}
+use Rattle.bkd_build.specs.Cuts.{AllComeBefore}
 use Rattle.bkd_build.specs.Extents.{IsLeast, IsWidest}
 
 pub data KdTree : Type 0 where
@@ -54,7 +54,7 @@ pub record IsCanonSplit (D leaf d : ℕ) (at : ℤ) (ls rs : List Item) : Type 0
   pub many : leaf < length (ls ++ rs)
   pub widest : IsWidest D d (ls ++ rs)
   pub rank : length ls ≡ left_count leaf (length (ls ++ rs))
-  pub apart : ComesBefore (leaf_cmp d) ls rs
+  pub apart : AllComeBefore (leaf_cmp d) ls rs
   pub value : IsLeast d at rs
 
 -- each leaf and each inner node is so

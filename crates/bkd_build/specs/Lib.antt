@@ -1,5 +1,5 @@
 pub mod Cuts
 pub mod Extents
 pub mod Canon
-pub mod Parts
+pub mod Pieces
 pub mod Leaves

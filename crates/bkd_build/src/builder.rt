@@ -8,7 +8,7 @@ ghost use Rattle.leaf_codec.specs.Leaves.{leaf_limit};
 ghost use Rattle.bkd_build.specs.Canon.{IsBuilt};
 
 use crate::gate::Gate;
-use crate::parts::{Part, cell_round};
+use crate::parts::{BuiltSubtree, cell_round};
 use crate::tree::build_part;
 use byte_cursor::{Bytes, Memory};
 use inner_pack::Index;
@@ -88,7 +88,7 @@ pub fn build<const D: usize, R: Threads + Sync, G: Gate>(
 {
     let root = cell_round(entries);
     let part = build_part(rt, alloc, entries, leaf as usize, forks, gate)?;
-    let Part {
+    let BuiltSubtree {
         nodes,
         lengths,
         cells,

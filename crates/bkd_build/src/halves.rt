@@ -4,7 +4,7 @@ ghost use Rattle.std.specs.Prelude.{◌≡◌, ◌≤◌, ◌<◌, length, take,
 ghost use Rattle.std.specs.List.Sorted.{IsPermutation};
 ghost use Rattle.point_codec.specs.Seen.{items_of};
 ghost use Rattle.bkd_build.specs.Canon.{left_count, IsCanonSplit};
-ghost use Rattle.bkd_build.specs.Parts.{AreEntries};
+ghost use Rattle.bkd_build.specs.Pieces.{AreEntries};
 
 use crate::cuts::cut;
 use crate::extents::widest;

@@ -12,7 +12,7 @@ use std::alloc::Global;
 
 /// The inner nodes of a subtree in preorder, and its leaves from left to right.
 #[derive(Drop)]
-pub(crate) struct Part<const D: usize> {
+pub(crate) struct BuiltSubtree<const D: usize> {
     /// Of each inner node the dimension and the value of its split.
     pub(crate) nodes: Vec<(u8, i32)>,
     /// Of each leaf how many bytes spell it.
@@ -23,22 +23,22 @@ pub(crate) struct Part<const D: usize> {
     pub(crate) leaves: Vec<Bytes>,
 }
 
-impl<const D: usize> Part<D> {
+impl<const D: usize> BuiltSubtree<D> {
     ghost use Rattle.std.specs.List.Sorted.{IsPermutation};
     ghost use Rattle.point_codec.specs.Seen.{items_of};
     ghost use Rattle.leaf_codec.specs.Leaves.{leaf_limit};
-    ghost use Rattle.bkd_build.specs.Parts.{AreEntries, Adds, held, joined, no_pieces, one_node};
+    ghost use Rattle.bkd_build.specs.Pieces.{AreEntries, AddsPieces, held_pieces, joined_pieces, no_pieces, one_node};
 
-    /// A part with nothing in it, and with room for so many leaves and the nodes over them.
-    pub(crate) fn with_room(alloc: Global, leaves: usize) -> Result<Part<D>, Memory>
+    /// A subtree with nothing in it, and with room for so many leaves and the nodes over them.
+    pub(crate) fn with_room(alloc: Global, leaves: usize) -> Result<BuiltSubtree<D>, Memory>
         requires { (1 ≤ D) × (D ≤ 8) }
-        ensures { IfOk result (λ part. held part ≡ no_pieces) }
+        ensures { IfOk result (λ part. held_pieces part ≡ no_pieces) }
     {
         let nodes = Vec::with_capacity(alloc, leaves)?;
         let lengths = Vec::with_capacity(alloc, leaves)?;
         let cells = Vec::with_capacity(alloc, leaves)?;
         let leaves = Vec::with_capacity(alloc, leaves)?;
-        Ok(Part {
+        Ok(BuiltSubtree {
             nodes,
             lengths,
             cells,
@@ -47,16 +47,17 @@ impl<const D: usize> Part<D> {
     }
 
     /// Adds an inner node.
-    pub(crate) fn put_node(&mut self, node: Halving) -> Result<(), Memory>
+    pub(crate) fn push_node(&mut self, node: Halving) -> Result<(), Memory>
         requires { (1 ≤ D) × (D ≤ 8) }
-        ensures { OnOk result (held self.new ≡ joined (held self.old) (one_node node.dimension node.at)) }
+        ensures { OnOk result
+            (held_pieces self.new ≡ joined_pieces (held_pieces self.old) (one_node node.dimension node.at)) }
     {
         self.nodes.push((node.dimension, node.at))?;
         Ok(())
     }
 
     /// Adds a leaf with these entries, which it puts in leaf order.
-    pub(crate) fn put_leaf(
+    pub(crate) fn push_leaf(
         &mut self,
         alloc: Global,
         entries: &mut [Entry<D>],
@@ -67,7 +68,8 @@ impl<const D: usize> Part<D> {
         requires leaf { leaf ≤ leaf_limit D }
         requires few { length entries.old ≤ leaf }
         ensures same { IsPermutation entries.old entries.new }
-        ensures added { OnOk result (Adds D leaf (items_of entries.old) (held self.old) (held self.new)) }
+        ensures added { OnOk result
+            (AddsPieces D leaf (items_of entries.old) (held_pieces self.old) (held_pieces self.new)) }
     {
         arrange(entries);
         let bytes = encode_leaf(alloc, entries)?;
@@ -78,12 +80,12 @@ impl<const D: usize> Part<D> {
         Ok(())
     }
 
-    /// Adds what the other part holds.
-    pub(crate) fn append(&mut self, other: Part<D>) -> Result<(), Memory>
+    /// Adds what the other subtree holds.
+    pub(crate) fn append(&mut self, other: BuiltSubtree<D>) -> Result<(), Memory>
         requires { (1 ≤ D) × (D ≤ 8) }
-        ensures { OnOk result (held self.new ≡ joined (held self.old) (held other.entry)) }
+        ensures { OnOk result (held_pieces self.new ≡ joined_pieces (held_pieces self.old) (held_pieces other.entry)) }
     {
-        let Part {
+        let BuiltSubtree {
             mut nodes,
             mut lengths,
             mut cells,

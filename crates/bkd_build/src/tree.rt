@@ -6,11 +6,12 @@ ghost use Rattle.std.specs.Thread.{IsSync};
 ghost use Rattle.point_codec.specs.Seen.{items_of};
 ghost use Rattle.leaf_codec.specs.Leaves.{leaf_limit};
 ghost use Rattle.bkd_build.specs.Canon.{IsCanonSplit};
-ghost use Rattle.bkd_build.specs.Parts.{AreEntries, Adds, AddsBoth, held, joined, no_pieces, one_node};
+ghost use Rattle.bkd_build.specs.Pieces.{AreEntries, AddsPieces, AddsBoth, held_pieces, joined_pieces, no_pieces};
+ghost use Rattle.bkd_build.specs.Pieces.{one_node};
 
 use crate::gate::Gate;
 use crate::halves::{Halving, halve};
-use crate::parts::Part;
+use crate::parts::BuiltSubtree;
 use byte_cursor::Memory;
 use point_codec::Entry;
 use std::alloc::Global;
@@ -23,19 +24,20 @@ fn grow<const D: usize>(
     alloc: Global,
     entries: &mut [Entry<D>],
     leaf: usize,
-    part: &mut Part<D>,
+    part: &mut BuiltSubtree<D>,
 ) -> Result<(), Memory>
     requires dims { (1 ≤ D) × (D ≤ 8) }
     requires leaf { (1 ≤ leaf) × (leaf ≤ leaf_limit D) }
     requires entries { AreEntries entries.old }
     ensures same { IsPermutation entries.old entries.new }
-    ensures added { OnOk result (Adds D leaf (items_of entries.old) (held part.old) (held part.new)) }
+    ensures added { OnOk result
+        (AddsPieces D leaf (items_of entries.old) (held_pieces part.old) (held_pieces part.new)) }
 {
     if entries.len() <= leaf {
-        return part.put_leaf(alloc, entries, leaf);
+        return part.push_leaf(alloc, entries, leaf);
     }
     let node = halve(entries, leaf);
-    part.put_node(node)?;
+    part.push_node(node)?;
     let (left, right) = entries.split_at_mut(node.rank);
     grow_halves(alloc, left, right, leaf, part)?;
     Ok(())
@@ -48,7 +50,7 @@ fn grow_halves<const D: usize>(
     left: &mut [Entry<D>],
     right: &mut [Entry<D>],
     leaf: usize,
-    part: &mut Part<D>,
+    part: &mut BuiltSubtree<D>,
 ) -> Result<(), Memory>
     requires dims { (1 ≤ D) × (D ≤ 8) }
     requires leaf { (1 ≤ leaf) × (leaf ≤ leaf_limit D) }
@@ -57,7 +59,7 @@ fn grow_halves<const D: usize>(
     ensures left_same { IsPermutation left.old left.new }
     ensures right_same { IsPermutation right.old right.new }
     ensures added { OnOk result
-        (AddsBoth D leaf (items_of left.old) (items_of right.old) (held part.old) (held part.new)) }
+        (AddsBoth D leaf (items_of left.old) (items_of right.old) (held_pieces part.old) (held_pieces part.new)) }
 {
     grow(alloc, left, leaf, part)?;
     grow(alloc, right, leaf, part)?;
@@ -69,14 +71,14 @@ fn grown<const D: usize>(
     alloc: Global,
     entries: &mut [Entry<D>],
     leaf: usize,
-) -> Result<Part<D>, Memory>
+) -> Result<BuiltSubtree<D>, Memory>
     requires dims { (1 ≤ D) × (D ≤ 8) }
     requires leaf { (1 ≤ leaf) × (leaf ≤ leaf_limit D) }
     requires entries { AreEntries entries.old }
     ensures same { IsPermutation entries.old entries.new }
-    ensures built { IfOk result (λ part. Adds D leaf (items_of entries.old) no_pieces (held part)) }
+    ensures built { IfOk result (λ part. AddsPieces D leaf (items_of entries.old) no_pieces (held_pieces part)) }
 {
-    let mut part = Part::with_room(alloc, entries.len().div_ceil(leaf))?;
+    let mut part = BuiltSubtree::with_room(alloc, entries.len().div_ceil(leaf))?;
     grow(alloc, entries, leaf, &mut part)?;
     Ok(part)
 }
@@ -85,15 +87,16 @@ fn grown<const D: usize>(
 fn over<const D: usize>(
     alloc: Global,
     node: Halving,
-    left: Part<D>,
-    right: Part<D>,
-) -> Result<Part<D>, Memory>
+    left: BuiltSubtree<D>,
+    right: BuiltSubtree<D>,
+) -> Result<BuiltSubtree<D>, Memory>
     requires { (1 ≤ D) × (D ≤ 8) }
     ensures { IfOk result
-        (λ part. held part ≡ joined (joined (one_node node.dimension node.at) (held left.entry)) (held right.entry)) }
+        (λ part. held_pieces part ≡ joined_pieces
+            (joined_pieces (one_node node.dimension node.at) (held_pieces left.entry)) (held_pieces right.entry)) }
 {
-    let mut part = Part::with_room(alloc, left.leaves.len() + right.leaves.len())?;
-    part.put_node(node)?;
+    let mut part = BuiltSubtree::with_room(alloc, left.leaves.len() + right.leaves.len())?;
+    part.push_node(node)?;
     part.append(left)?;
     part.append(right)?;
     Ok(part)
@@ -108,12 +111,12 @@ pub(crate) fn build_part<const D: usize, R: Threads + Sync, G: Gate>(
     leaf: usize,
     forks: u8,
     gate: &G,
-) -> Result<Part<D>, Memory>
+) -> Result<BuiltSubtree<D>, Memory>
     requires dims { (1 ≤ D) × (D ≤ 8) }
     requires leaf { (1 ≤ leaf) × (leaf ≤ leaf_limit D) }
     requires entries { AreEntries entries.old }
     ensures same { IsPermutation entries.old entries.new }
-    ensures built { IfOk result (λ part. Adds D leaf (items_of entries.old) no_pieces (held part)) }
+    ensures built { IfOk result (λ part. AddsPieces D leaf (items_of entries.old) no_pieces (held_pieces part)) }
 {
     if forks == 0 || entries.len() <= leaf {
         return grown(alloc, entries, leaf);
@@ -137,7 +140,7 @@ fn both<const D: usize, R: Threads + Sync, G: Gate>(
     leaf: usize,
     forks: u8,
     gate: &G,
-) -> (Result<Part<D>, Memory>, Result<Part<D>, Memory>)
+) -> (Result<BuiltSubtree<D>, Memory>, Result<BuiltSubtree<D>, Memory>)
     requires dims { (1 ≤ D) × (D ≤ 8) }
     requires leaf { (1 ≤ leaf) × (leaf ≤ leaf_limit D) }
     requires forks { 0 < forks }
@@ -145,23 +148,24 @@ fn both<const D: usize, R: Threads + Sync, G: Gate>(
     requires right { AreEntries right.old }
     ensures left_same { IsPermutation left.old left.new }
     ensures right_same { IsPermutation right.old right.new }
-    ensures left_built { IfOk result.0 (λ part. Adds D leaf (items_of left.old) no_pieces (held part)) }
-    ensures right_built { IfOk result.1 (λ part. Adds D leaf (items_of right.old) no_pieces (held part)) }
+    ensures left_built { IfOk result.0 (λ part. AddsPieces D leaf (items_of left.old) no_pieces (held_pieces part)) }
+    ensures right_built { IfOk result.1 (λ part. AddsPieces D leaf (items_of right.old) no_pieces (held_pieces part)) }
 {
-    let mut first = || -> Result<Part<D>, Memory>
+    let mut first = || -> Result<BuiltSubtree<D>, Memory>
         requires { IsSync R.row × IsSync G.row × (0 < forks) × (1 ≤ D) × (D ≤ 8) × (1 ≤ leaf) × (leaf ≤ leaf_limit D)
             × AreEntries left.now }
         ensures same { IsPermutation left.entry.now left.exit.now }
-        ensures built { IfOk result (λ part. Adds D leaf (items_of left.entry.now) no_pieces (held part)) }
+        ensures built { IfOk result (λ part. AddsPieces D leaf (items_of left.entry.now) no_pieces (held_pieces part)) }
     {
         gate.pass(0);
         build_part(rt, alloc, left, leaf, forks - 1, gate)
     };
-    let mut second = || -> Result<Part<D>, Memory>
+    let mut second = || -> Result<BuiltSubtree<D>, Memory>
         requires { IsSync R.row × IsSync G.row × (0 < forks) × (1 ≤ D) × (D ≤ 8) × (1 ≤ leaf) × (leaf ≤ leaf_limit D)
             × AreEntries right.now }
         ensures same { IsPermutation right.entry.now right.exit.now }
-        ensures built { IfOk result (λ part. Adds D leaf (items_of right.entry.now) no_pieces (held part)) }
+        ensures built { IfOk result
+            (λ part. AddsPieces D leaf (items_of right.entry.now) no_pieces (held_pieces part)) }
     {
         gate.pass(1);
         build_part(rt, alloc, right, leaf, forks - 1, gate)

@@ -4,10 +4,10 @@ use Rattle.std.proofs.lemmas.Int.{ints}
 use Rattle.point_codec.specs.Points.{Region, all_le}
 use Rattle.point_codec.specs.Cells.{within, left_of, right_of}
 use Rattle.cell_relate.specs.Relations.{AllAnswer, IsUncrossed}
-use Rattle.cell_relate.proofs.Corners.{all_le-refl}
 use Rattle.cell_relate.proofs.RelationLemmas.{AllAnswer-within, is_outside-all, is_outside-inside, is_outside-outside, is_outside-crosses}
 use Rattle.inner_pack.specs.Trees.{IndexTree, Leaf, Split, HasCells, cell_of, leaf_count}
-use Rattle.bkd_reader.specs.Counts.{tested, touched}
+use Rattle.bkd_reader.specs.Counts.{tested_entries, touched_leaves}
+use Rattle.point_codec.proofs.Corners.{all_le-refl}
 
 set_below : (h : List ℤ) (d : ℕ) (x : ℤ) → x ≤ℤ get_or h d (pos 0) → all_le (set h d x) h ≡ true
 set_below [] d x le = refl
@@ -41,11 +41,11 @@ all_cell D has b path (Leaf len own) cells all = AllAnswer-within has b own path
 all_cell D has b path (Split d x l r) cells all = all
 
 one_touched : (D : ℕ) (has : List ℤ → Bool) (crosses : Region → Bool) (path : Region) (len : ℕ) (own : Region) → HasCells D path (Leaf len own)
-    → AllAnswer has true own → touched has crosses (Leaf len own) ≡ 1
+    → AllAnswer has true own → touched_leaves has crosses (Leaf len own) ≡ 1
 one_touched D has crosses path len own cells all = rw (is_outside-all has crosses own cells.0.ordered all) refl
 
 touched_below : (D : ℕ) (has : List ℤ → Bool) (crosses : Region → Bool) (path : Region) (t : IndexTree) → HasCells D path t → AllAnswer has true path
-    → touched has crosses t ≡ leaf_count t
+    → touched_leaves has crosses t ≡ leaf_count t
 touched_below D has crosses path (Leaf len own) cells all = one_touched D has crosses path len own cells (AllAnswer-within has true own path cells.1 all)
 touched_below D has crosses path (Split d x l r) cells all =
     let a = touched_below D has crosses (left_of path d x) l cells.1 (all_left D has true path d x l r cells all) in
@@ -54,24 +54,24 @@ touched_below D has crosses path (Split d x l r) cells all =
 
 -- below a node all of whose points are the shape's each leaf is touched
 pub touched_all : (D : ℕ) (has : List ℤ → Bool) (crosses : Region → Bool) (path : Region) (t : IndexTree) → HasCells D path t
-    → AllAnswer has true (cell_of path t) → touched has crosses t ≡ leaf_count t
+    → AllAnswer has true (cell_of path t) → touched_leaves has crosses t ≡ leaf_count t
 touched_all D has crosses path (Leaf len own) cells all = one_touched D has crosses path len own cells all
 touched_all D has crosses path (Split d x l r) cells all = touched_below D has crosses path (Split d x l r) cells all
 
 -- ---- what a leaf costs, by the answer on its own cell
 
 module _ (has : List ℤ → Bool) (crosses : Region → Bool) (count : ℕ → ℕ) (first len : ℕ) (seen own : Region) (same : seen ≡ own) where
-  pub uncrossed_tested : (b : Bool) → IsUncrossed has crosses seen b → 0 ≡ tested crosses count first (Leaf len own)
-  uncrossed_tested b u = subst (λ r. 0 ≡ tested crosses count first (Leaf len r)) same (rw u.uncrossed refl)
+  pub uncrossed_tested : (b : Bool) → IsUncrossed has crosses seen b → 0 ≡ tested_entries crosses count first (Leaf len own)
+  uncrossed_tested b u = subst (λ r. 0 ≡ tested_entries crosses count first (Leaf len r)) same (rw u.uncrossed refl)
 
-  pub outside_touched : IsUncrossed has crosses seen false → 0 ≡ touched has crosses (Leaf len own)
-  outside_touched u = subst (λ r. 0 ≡ touched has crosses (Leaf len r)) same (rw (is_outside-outside has crosses seen u) refl)
+  pub outside_touched : IsUncrossed has crosses seen false → 0 ≡ touched_leaves has crosses (Leaf len own)
+  outside_touched u = subst (λ r. 0 ≡ touched_leaves has crosses (Leaf len r)) same (rw (is_outside-outside has crosses seen u) refl)
 
-  pub inside_touched : IsUncrossed has crosses seen true → 1 ≡ touched has crosses (Leaf len own)
-  inside_touched u = subst (λ r. 1 ≡ touched has crosses (Leaf len r)) same (rw (is_outside-inside has crosses seen u) refl)
+  pub inside_touched : IsUncrossed has crosses seen true → 1 ≡ touched_leaves has crosses (Leaf len own)
+  inside_touched u = subst (λ r. 1 ≡ touched_leaves has crosses (Leaf len r)) same (rw (is_outside-inside has crosses seen u) refl)
 
-  pub crossed_tested : crosses seen ≡ true → count first ≡ tested crosses count first (Leaf len own)
-  crossed_tested e = subst (λ r. count first ≡ tested crosses count first (Leaf len r)) same (rw e refl)
+  pub crossed_tested : crosses seen ≡ true → count first ≡ tested_entries crosses count first (Leaf len own)
+  crossed_tested e = subst (λ r. count first ≡ tested_entries crosses count first (Leaf len r)) same (rw e refl)
 
-  pub crossed_touched : crosses seen ≡ true → 1 ≡ touched has crosses (Leaf len own)
-  crossed_touched e = subst (λ r. 1 ≡ touched has crosses (Leaf len r)) same (rw (is_outside-crosses has crosses seen e) refl)
+  pub crossed_touched : crosses seen ≡ true → 1 ≡ touched_leaves has crosses (Leaf len own)
+  crossed_touched e = subst (λ r. 1 ≡ touched_leaves has crosses (Leaf len r)) same (rw (is_outside-crosses has crosses seen e) refl)

@@ -27,10 +27,11 @@ use Rattle.segment_file.specs.Heads.{Head, page_of}
 use Rattle.segment_file.specs.Segments.{HoldsLeaf, HoldsTree, SegmentParts, IsSegment}
 use Rattle.segment_file.specs.Damages.{IsLeafDamage}
 use Rattle.bkd_reader.specs.Below.{IsRoot}
-use Rattle.bkd_reader.specs.Counts.{tested}
+use Rattle.bkd_reader.specs.Counts.{tested_entries}
 use Rattle.bkd_reader.specs.Hits.{is_hit, hits_in, AreHits, JoinsHits, Appends}
 use Rattle.bkd_reader.proofs.HitLemmas.{hits_join, all_hit}
 use Rattle.bkd_reader.proofs.Cells.{all_left, all_right, all_cell}
+use Rattle.segment_file.proofs.Subtrees.{leaf_page}
 
 -- ---- how many leaves
 
@@ -115,12 +116,6 @@ tree_hits D bytes head has live first s (Split d x l r) items out h k =
     let b = tree_hits D bytes head has live (first + leaf_count l) (right_begin s l r) r h.back_items k.back_hits h.back_holds k.back_are in
     k.joined ∙ ap (λ z. z ++ k.back_hits) a ∙ ap (λ z. hits_in has live h.front_items ++ z) b
     ∙ sym (hits_join has live h.front_items h.back_items) ∙ ap (hits_in has live) (sym h.joined)
-
--- the page of the first leaf of a subtree whose leaves are spelled is one for its place
-leaf_page : (D : ℕ) (bytes : List ℕ) (head : Head) (first : ℕ) (s : Spot) (len : ℕ) (own : Region) (items : List Item)
-    → HoldsLeaf D bytes head first s len own items → IsFilePage (Segment head.id) bytes (page_of head s.page)
-unfolding HoldsLeaf
-leaf_page D bytes head first s len own items h = h.page
 
 pub first_page : (D : ℕ) (bytes : List ℕ) (head : Head) (first : ℕ) (s : Spot) (t : IndexTree) (items : List Item) → HoldsTree D bytes head first s t items
     → IsFilePage (Segment head.id) bytes (page_of head s.page)
@@ -249,7 +244,7 @@ tested_hits bytes head has live node place first s path (Split d x l r) items ol
 
 -- all entries of a crossed leaf may be tested
 pub tested_leaf : (crosses : Region → Bool) (count : ℕ → ℕ) (place : LeafPlace) (first : ℕ) (s : Spot) (path : Region) (t : IndexTree) → IsPlaceOf place s t
-    → crosses (cell_of path t) ≡ true → tested crosses count first t ≡ count first
+    → crosses (cell_of path t) ≡ true → tested_entries crosses count first t ≡ count first
 tested_leaf crosses count place first s path (Leaf len own) at e = rw e refl
 tested_leaf crosses count place first s path (Split d x l r) at e = let f = at.is in cc
 

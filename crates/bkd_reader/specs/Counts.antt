@@ -6,12 +6,12 @@ use Rattle.inner_pack.specs.Trees.{IndexTree, Leaf, Split, leaf_count}
 
 -- how many entries, live or dead, are in leaves whose own cell the shape crosses; the subtree's first leaf has this
 -- number
-abbrev pub tested : (crosses : Region → Bool) (count : ℕ → ℕ) (first : ℕ) → IndexTree → ℕ
-tested crosses count first (Leaf len own) = if crosses own then count first else 0
-tested crosses count first (Split d x l r) =
-    tested crosses count first l + tested crosses count (first + leaf_count l) r
+abbrev pub tested_entries : (crosses : Region → Bool) (count : ℕ → ℕ) (first : ℕ) → IndexTree → ℕ
+tested_entries crosses count first (Leaf len own) = if crosses own then count first else 0
+tested_entries crosses count first (Split d x l r) =
+    tested_entries crosses count first l + tested_entries crosses count (first + leaf_count l) r
 
 -- how many leaves are not outside: their own cell is crossed, or has all its points in the shape
-abbrev pub touched : (has : List ℤ → Bool) (crosses : Region → Bool) → IndexTree → ℕ
-touched has crosses (Leaf len own) = if is_outside has crosses own then 0 else 1
-touched has crosses (Split d x l r) = touched has crosses l + touched has crosses r
+abbrev pub touched_leaves : (has : List ℤ → Bool) (crosses : Region → Bool) → IndexTree → ℕ
+touched_leaves has crosses (Leaf len own) = if is_outside has crosses own then 0 else 1
+touched_leaves has crosses (Split d x l r) = touched_leaves has crosses l + touched_leaves has crosses r

@@ -7,7 +7,7 @@ ghost use Rattle.inner_pack.specs.Trees.{IndexTree, Leaf, leaf_count};
 ghost use Rattle.inner_pack.specs.Bodies.{HasTree};
 ghost use Rattle.inner_pack.specs.Nodes.{IsAt};
 ghost use Rattle.segment_file.specs.Heads.{count_of};
-ghost use Rattle.bkd_reader.specs.Counts.{tested, touched};
+ghost use Rattle.bkd_reader.specs.Counts.{tested_entries, touched_leaves};
 
 use cell_relate::{Relation, Shape};
 use inner_pack::NodeAt;
@@ -28,8 +28,8 @@ pub struct Tally {
 /// own cell alone: a shape need not cross the cell of a node of which it crosses a leaf's cell.
 pub fn survey<const D: usize, S: Shape<D>>(head: &SegmentHead<D>, shape: &mut S) -> Tally
     ensures counts { (root : Region) (t : IndexTree) → HasTree D head.now.index root t
-        → (result.tested ≡ tested (S.crosses shape.old) (count_of head.now) 0 t)
-        × (result.touched ≡ touched (S.has shape.old) (S.crosses shape.old) t)
+        → (result.tested ≡ tested_entries (S.crosses shape.old) (count_of head.now) 0 t)
+        × (result.touched ≡ touched_leaves (S.has shape.old) (S.crosses shape.old) t)
         × (result.leaves ≡ leaf_count t) }
     ensures tests { S.tests shape.new ≡ S.tests shape.old }
     ensures compares { (root : Region) (t : IndexTree) → HasTree D head.now.index root t
@@ -52,9 +52,9 @@ fn cost<const D: usize, S: Shape<D>>(
     shape: &mut S,
 ) -> (u64, u64)
     ensures tested { (first : ℕ) (s : Spot) (path : Region) (t : IndexTree) → IsAt node.now first s path t
-        → result.0 ≡ tested (S.crosses shape.old) (count_of head.now) first t }
+        → result.0 ≡ tested_entries (S.crosses shape.old) (count_of head.now) first t }
     ensures touched { (first : ℕ) (s : Spot) (path : Region) (t : IndexTree) → IsAt node.now first s path t
-        → result.1 ≡ touched (S.has shape.old) (S.crosses shape.old) t }
+        → result.1 ≡ touched_leaves (S.has shape.old) (S.crosses shape.old) t }
     ensures tests { S.tests shape.new ≡ S.tests shape.old }
     ensures compares { S.compares shape.new ≤ S.compares shape.old + node.now.leaves }
     ensures has { S.has shape.new ≡ S.has shape.old }
@@ -80,10 +80,10 @@ fn leaf_cost<const D: usize, S: Shape<D>>(
 ) -> (u64, u64)
     ensures tested { (first : ℕ) (s : Spot) (path : Region) (len : ℕ) (own : Region)
         → IsAt node.now first s path (Leaf len own)
-        → result.0 ≡ tested (S.crosses shape.old) (count_of head.now) first (Leaf len own) }
+        → result.0 ≡ tested_entries (S.crosses shape.old) (count_of head.now) first (Leaf len own) }
     ensures touched { (first : ℕ) (s : Spot) (path : Region) (len : ℕ) (own : Region)
         → IsAt node.now first s path (Leaf len own)
-        → result.1 ≡ touched (S.has shape.old) (S.crosses shape.old) (Leaf len own) }
+        → result.1 ≡ touched_leaves (S.has shape.old) (S.crosses shape.old) (Leaf len own) }
     ensures tests { S.tests shape.new ≡ S.tests shape.old }
     ensures compares { S.compares shape.new ≤ S.compares shape.old + 1 }
     ensures has { S.has shape.new ≡ S.has shape.old }

@@ -14,7 +14,7 @@ ghost use Rattle.page_cache.specs.Evidence.{OnDamage, NotDamaged};
 ghost use Rattle.segment_file.specs.Heads.{count_of};
 ghost use Rattle.segment_file.specs.Segments.{HoldsTree};
 ghost use Rattle.segment_file.specs.Damages.{IsLeafDamage, IsLeafDamageOf};
-ghost use Rattle.bkd_reader.specs.Counts.{tested};
+ghost use Rattle.bkd_reader.specs.Counts.{tested_entries};
 ghost use Rattle.bkd_reader.specs.Hits.{AreHits, Appends, Begins, hits_in};
 
 use cell_relate::Shape;
@@ -47,7 +47,7 @@ pub fn test_leaf<const D: usize, S: Shape<D>, F: Pages>(
         (S.has shape.old) live.now first s t)) }
     ensures tests { (first : ℕ) (s : Spot) (path : Region) (t : IndexTree) → IsAt node.now first s path t
         → S.crosses shape.old (cell_of path t) ≡ true
-        → S.tests shape.new ≤ S.tests shape.old + tested (S.crosses shape.old) (count_of head.now) first t }
+        → S.tests shape.new ≤ S.tests shape.old + tested_entries (S.crosses shape.old) (count_of head.now) first t }
     ensures compares { S.compares shape.new ≡ S.compares shape.old }
     ensures reads { F.reads folder.new ≤ F.reads folder.old + 1 }
     ensures has { S.has shape.new ≡ S.has shape.old }

@@ -24,7 +24,7 @@ use segment_file::{SegmentHead, bad_leaf, leaf_in, load_leaf};
 use std::alloc::{AllocError, Global};
 
 /// Appends the numbers of the live entries of a leaf all points of whose cell the shape has. The shape is not asked.
-pub fn take_leaf<const D: usize, F: Pages>(
+pub fn collect_leaf<const D: usize, F: Pages>(
     alloc: Global,
     head: &SegmentHead<D>,
     node: &NodeAt<'_, D>,

@@ -16,11 +16,11 @@ ghost use Rattle.segment_file.specs.Heads.{count_of};
 ghost use Rattle.segment_file.specs.Segments.{HoldsTree, IsSegment};
 ghost use Rattle.segment_file.specs.Damages.{IsLeafDamage, IsLeafDamageOf};
 ghost use Rattle.bkd_reader.specs.Below.{IsRoot};
-ghost use Rattle.bkd_reader.specs.Counts.{tested, touched};
+ghost use Rattle.bkd_reader.specs.Counts.{tested_entries, touched_leaves};
 ghost use Rattle.bkd_reader.specs.Hits.{AreHits, Appends, Begins, hits_in};
 
 use crate::crossed::test_leaf;
-use crate::inside::take_leaf;
+use crate::inside::collect_leaf;
 use cell_relate::{Relation, Shape};
 use inner_pack::NodeAt;
 use live_bits::LiveBits;
@@ -57,11 +57,11 @@ pub fn intersect<const D: usize, S: Shape<D>, F: Pages>(
         (S.has shape.old) live.now 0 front t)) }
     // What it costs, over every folder.
     ensures tests { (root : Region) (t : IndexTree) → HasTree D head.now.index root t
-        → S.tests shape.new ≤ S.tests shape.old + tested (S.crosses shape.old) (count_of head.now) 0 t }
+        → S.tests shape.new ≤ S.tests shape.old + tested_entries (S.crosses shape.old) (count_of head.now) 0 t }
     ensures compares { (root : Region) (t : IndexTree) → HasTree D head.now.index root t
         → S.compares shape.new ≤ S.compares shape.old + 2 * leaf_count t }
     ensures reads { (root : Region) (t : IndexTree) → HasTree D head.now.index root t
-        → F.reads folder.new ≤ F.reads folder.old + touched (S.has shape.old) (S.crosses shape.old) t }
+        → F.reads folder.new ≤ F.reads folder.old + touched_leaves (S.has shape.old) (S.crosses shape.old) t }
     // What stays.
     ensures has { S.has shape.new ≡ S.has shape.old }
     ensures crosses { S.crosses shape.new ≡ S.crosses shape.old }
@@ -108,11 +108,11 @@ fn visit<const D: usize, S: Shape<D>, F: Pages>(
         (AreHits D (bytes_of (F.files folder.old (Segment head.now.id))) head.now
         (S.has shape.old) live.now first s t)) }
     ensures tests { (first : ℕ) (s : Spot) (path : Region) (t : IndexTree) → IsRoot node.now first s path t
-        → S.tests shape.new ≤ S.tests shape.old + tested (S.crosses shape.old) (count_of head.now) first t }
+        → S.tests shape.new ≤ S.tests shape.old + tested_entries (S.crosses shape.old) (count_of head.now) first t }
     ensures compares { (first : ℕ) (s : Spot) (path : Region) (t : IndexTree) → IsAt node.now first s path t
         → S.compares shape.new + 1 ≤ S.compares shape.old + 2 * leaf_count t }
     ensures reads { (first : ℕ) (s : Spot) (path : Region) (t : IndexTree) → IsRoot node.now first s path t
-        → F.reads folder.new ≤ F.reads folder.old + touched (S.has shape.old) (S.crosses shape.old) t }
+        → F.reads folder.new ≤ F.reads folder.old + touched_leaves (S.has shape.old) (S.crosses shape.old) t }
     ensures has { S.has shape.new ≡ S.has shape.old }
     ensures crosses { S.crosses shape.new ≡ S.crosses shape.old }
     ensures files { IsTrue F.told → F.files folder.new ≡ F.files folder.old }
@@ -130,7 +130,7 @@ fn visit<const D: usize, S: Shape<D>, F: Pages>(
 {
     match shape.compare(&node.cell()) {
         Relation::Outside => Ok(()),
-        Relation::Inside => take(alloc, head, node, cache, folder, live, hits),
+        Relation::Inside => collect_all(alloc, head, node, cache, folder, live, hits),
         Relation::Crosses => match node.children() {
             Some((left, right)) => {
                 visit(alloc, head, &left, cache, folder, shape, live, hits)?;
@@ -142,7 +142,7 @@ fn visit<const D: usize, S: Shape<D>, F: Pages>(
 }
 
 /// Appends the numbers of the live entries below a node all points of whose cell the shape has. The shape is not asked.
-fn take<const D: usize, F: Pages>(
+fn collect_all<const D: usize, F: Pages>(
     alloc: Global,
     head: &SegmentHead<D>,
     node: &NodeAt<'_, D>,
@@ -174,9 +174,9 @@ fn take<const D: usize, F: Pages>(
 {
     match node.children() {
         Some((left, right)) => {
-            take(alloc, head, &left, cache, folder, live, hits)?;
-            take(alloc, head, &right, cache, folder, live, hits)
+            collect_all(alloc, head, &left, cache, folder, live, hits)?;
+            collect_all(alloc, head, &right, cache, folder, live, hits)
         }
-        None => take_leaf(alloc, head, node, cache, folder, live, hits),
+        None => collect_leaf(alloc, head, node, cache, folder, live, hits),
     }
 }

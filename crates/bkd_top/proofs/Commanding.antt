@@ -4,9 +4,9 @@ use Rattle.std.proofs.lemmas.Bool.{false≢true}
 use Rattle.outer_io.specs.Files.{Files}
 use Rattle.script_lang.specs.Lines.{lines_of}
 use Rattle.stored_index.specs.Stored.{IsStored}
-use Rattle.command_words.specs.Commands.{Asked, Run, Load, Explain, Check, Generate, Session, Count, Ranges, Batch, MergingBatch, said}
+use Rattle.command_words.specs.Commands.{Task, Run, Load, Explain, Check, Generate, Session, Count, Ranges, Batch, MergingBatch, task_of}
 use Rattle.command_words.specs.declared.Words.{Words}
-use Rattle.drawn_points.specs.Generated.{generated}
+use Rattle.drawn_points.specs.Generated.{generate_answer}
 use Rattle.explain_queries.specs.Explained.{IsScope, Scope, silence}
 use Rattle.load_points.specs.Loaded.{load_answer}
 use Rattle.run_status.specs.Told as telling
@@ -14,9 +14,9 @@ use Rattle.count_queries.specs.Counted as counts
 use Rattle.batch_queries.specs.Batched.{TellsBatch}
 use Rattle.batch_queries.specs.Ends.{EndsBatch}
 use Rattle.batch_queries.specs.Merging.{EndsMerging, MergeLeaves}
-use Rattle.bkd_top.specs.Calls.{Call, LeavesAsked, OnAsked, TakesInput, WholeLeaves}
+use Rattle.bkd_top.specs.Calls.{Call, LeavesTask, OnTask, TakesInput, WholeLeaves}
 use Rattle.bkd_top.specs.Checking.{EndsCheck}
-use Rattle.bkd_top.specs.Commands.{Before, EndsAsked, EndsExplain, EndsWhole, reads_input, reads_whole}
+use Rattle.bkd_top.specs.Commands.{Before, EndsTask, EndsExplain, EndsWhole, reads_input, reads_whole}
 use Rattle.run_status.specs.Causes.{ReadsInput}
 use Rattle.index_core.proofs.Brought.{commit_itself}
 use Rattle.script_run.proofs.Calling.{nothing_costs}
@@ -33,7 +33,7 @@ use Rattle.run_status.specs.declared.status.Status.TheVariants as status
 use Rattle.script_run.proofs.Going.{stops_here}
 use Rattle.script_run.proofs.RangeScripts.{ends_ranges}
 
-pub asked_is : (x y : Asked) (o : Option Asked) → o ≡ Some x → o ≡ Some y → x ≡ y
+pub asked_is : (x y : Task) (o : Option Task) → o ≡ Some x → o ≡ Some y → x ≡ y
 asked_is x y o is also = some_inj (sym is ∙ also)
   where
     some_inj : Some x ≡ Some y → x ≡ y
@@ -54,8 +54,8 @@ completes status.SinkFault before now usage large none damage causes = absurd (n
 completes (status.Damaged d) before now usage large none damage causes = absurd (damage tt)
 
 -- memory was wanting before anything was done
-pub no_memory_ends : (told : Type 0) (a : Asked) (b : Before) (files : Files) (new : List ℕ) → IsStored files b.state → files ≡ b.files
-    → (told → new ≡ b.written) → EndsAsked told a b files new status.Memory
+pub no_memory_ends : (told : Type 0) (a : Task) (b : Before) (files : Files) (new : List ℕ) → IsStored files b.state → files ≡ b.files
+    → (told → new ≡ b.written) → EndsTask told a b files new status.Memory
 no_memory_ends told (Run cache forks) b files new keeps same still =
     stops_here {told = told} (meaning language.Points) (start b.state (lines_of b.input) b.written) files new still (inl keeps)
 no_memory_ends told (Load columns forks) b files new keeps same still = record { text = still; stored = inl keeps }
@@ -81,14 +81,14 @@ no_memory_ends told (Batch forks) b files new keeps same still = still
 no_memory_ends told (MergingBatch forks) b files new keeps same still = inl still
 
 -- what passes a test of what is asked does not fail it
-pub is_so : {P : Type 0} (test : Asked → Bool) (w : Words) (a : Asked) → said w ≡ a → test a ≡ true → test (said w) ≡ false → P
+pub is_so : {P : Type 0} (test : Task → Bool) (w : Words) (a : Task) → task_of w ≡ a → test a ≡ true → test (task_of w) ≡ false → P
 is_so test w a is so not_so = absurd (false≢true (sym not_so ∙ ap test is ∙ so))
 
-pub not_so : {P : Type 0} (test : Asked → Bool) (w : Words) (a : Asked) → said w ≡ a → test a ≡ false → test (said w) ≡ true → P
+pub not_so : {P : Type 0} (test : Task → Bool) (w : Words) (a : Task) → task_of w ≡ a → test a ≡ false → test (task_of w) ≡ true → P
 not_so test w a is not so = absurd (false≢true (sym not ∙ ap test (sym is) ∙ so))
 
 -- what reads the whole input reads the input
-pub whole_reads : (a : Asked) → reads_whole a ≡ true → reads_input a ≡ true
+pub whole_reads : (a : Task) → reads_whole a ≡ true → reads_input a ≡ true
 whole_reads (Run cache forks) e = refl
 whole_reads (Load columns forks) e = refl
 whole_reads (Explain cache) e = refl
@@ -102,48 +102,48 @@ whole_reads (MergingBatch forks) e = refl
 
 -- each command ends as its own definition says
 module _ (told : Type 0) (w : Words) (b : Before) (files : Files) (new : List ℕ) (s : Status) where
-  pub run_ends : (cache forks : ℕ) → said w ≡ Run cache forks → Ends (meaning language.Points) told (start b.state (lines_of b.input) b.written) files new s
-      → EndsAsked told (said w) b files new s
-  run_ends cache forks is ends = subst (λ (a : Asked). EndsAsked told a b files new s) (sym is) ends
+  pub run_ends : (cache forks : ℕ) → task_of w ≡ Run cache forks → Ends (meaning language.Points) told (start b.state (lines_of b.input) b.written) files new s
+      → EndsTask told (task_of w) b files new s
+  run_ends cache forks is ends = subst (λ (a : Task). EndsTask told a b files new s) (sym is) ends
 
-  pub load_ends : (columns : List (List ℕ)) (forks : ℕ) → said w ≡ Load columns forks → EndsWhole told b (load_answer b.state b.input columns) files new s
-      → EndsAsked told (said w) b files new s
-  load_ends columns forks is ends = subst (λ (a : Asked). EndsAsked told a b files new s) (sym is) ends
+  pub load_ends : (columns : List (List ℕ)) (forks : ℕ) → task_of w ≡ Load columns forks → EndsWhole told b (load_answer b.state b.input columns) files new s
+      → EndsTask told (task_of w) b files new s
+  load_ends columns forks is ends = subst (λ (a : Task). EndsTask told a b files new s) (sym is) ends
 
-  pub explain_ends : (cache : ℕ) → said w ≡ Explain cache
-      → ((scope : Scope) → IsScope b.files scope → EndsExplain told scope (lines_of b.input) b.written new s) → EndsAsked told (said w) b files new s
-  explain_ends cache is ends = subst (λ (a : Asked). EndsAsked told a b files new s) (sym is) ends
+  pub explain_ends : (cache : ℕ) → task_of w ≡ Explain cache
+      → ((scope : Scope) → IsScope b.files scope → EndsExplain told scope (lines_of b.input) b.written new s) → EndsTask told (task_of w) b files new s
+  explain_ends cache is ends = subst (λ (a : Task). EndsTask told a b files new s) (sym is) ends
 
-  pub check_ends : said w ≡ Check → (files ≡ b.files) × EndsCheck told b.files b.written new s → EndsAsked told (said w) b files new s
-  check_ends is ends = subst (λ (a : Asked). EndsAsked told a b files new s) (sym is) ends
+  pub check_ends : task_of w ≡ Check → (files ≡ b.files) × EndsCheck told b.files b.written new s → EndsTask told (task_of w) b files new s
+  check_ends is ends = subst (λ (a : Task). EndsTask told a b files new s) (sym is) ends
 
-  pub generate_ends : (docs seed forks : ℕ) → said w ≡ Generate docs seed forks → EndsWhole told b (generated b.state docs seed) files new s
-      → EndsAsked told (said w) b files new s
-  generate_ends docs seed forks is ends = subst (λ (a : Asked). EndsAsked told a b files new s) (sym is) ends
+  pub generate_ends : (docs seed forks : ℕ) → task_of w ≡ Generate docs seed forks → EndsWhole told b (generate_answer b.state docs seed) files new s
+      → EndsTask told (task_of w) b files new s
+  generate_ends docs seed forks is ends = subst (λ (a : Task). EndsTask told a b files new s) (sym is) ends
 
-  pub session_asked : (cache forks : ℕ) → said w ≡ Session cache forks
-      → EndsSession (meaning language.Points) told (start b.state (lines_of b.input) b.written) files new s → EndsAsked told (said w) b files new s
-  session_asked cache forks is ends = subst (λ (a : Asked). EndsAsked told a b files new s) (sym is) ends
+  pub session_asked : (cache forks : ℕ) → task_of w ≡ Session cache forks
+      → EndsSession (meaning language.Points) told (start b.state (lines_of b.input) b.written) files new s → EndsTask told (task_of w) b files new s
+  session_asked cache forks is ends = subst (λ (a : Task). EndsTask told a b files new s) (sym is) ends
 
-  pub ranges_ends : (cache forks : ℕ) → said w ≡ Ranges cache forks
-      → (AreRanges b.state → EndsRanges told (start b.state (lines_of b.input) b.written) files new s) → EndsAsked told (said w) b files new s
-  ranges_ends cache forks is ends = subst (λ (a : Asked). EndsAsked told a b files new s) (sym is) ends
+  pub ranges_ends : (cache forks : ℕ) → task_of w ≡ Ranges cache forks
+      → (AreRanges b.state → EndsRanges told (start b.state (lines_of b.input) b.written) files new s) → EndsTask told (task_of w) b files new s
+  ranges_ends cache forks is ends = subst (λ (a : Task). EndsTask told a b files new s) (sym is) ends
 
-  pub count_ends : (cache : ℕ) → said w ≡ Count cache
+  pub count_ends : (cache : ℕ) → task_of w ≡ Count cache
       → ((scope : counts.Scope) → counts.IsScope b.files scope → telling.EndsTold told (counts.TellsCount scope) (lines_of b.input) b.written new s)
-      → EndsAsked told (said w) b files new s
-  count_ends cache is ends = subst (λ (a : Asked). EndsAsked told a b files new s) (sym is) ends
+      → EndsTask told (task_of w) b files new s
+  count_ends cache is ends = subst (λ (a : Task). EndsTask told a b files new s) (sym is) ends
 
-  pub batch_ends : (forks : ℕ) → said w ≡ Batch forks → EndsBatch told (TellsBatch b.state) (lines_of b.input) b.written new s
-      → EndsAsked told (said w) b files new s
-  batch_ends forks is ends = subst (λ (a : Asked). EndsAsked told a b files new s) (sym is) ends
+  pub batch_ends : (forks : ℕ) → task_of w ≡ Batch forks → EndsBatch told (TellsBatch b.state) (lines_of b.input) b.written new s
+      → EndsTask told (task_of w) b files new s
+  batch_ends forks is ends = subst (λ (a : Task). EndsTask told a b files new s) (sym is) ends
 
-  pub merging_ends : (forks : ℕ) → said w ≡ MergingBatch forks → EndsMerging told (TellsBatch b.state) (lines_of b.input) b.written new s
-      → EndsAsked told (said w) b files new s
-  merging_ends forks is ends = subst (λ (a : Asked). EndsAsked told a b files new s) (sym is) ends
+  pub merging_ends : (forks : ℕ) → task_of w ≡ MergingBatch forks → EndsMerging told (TellsBatch b.state) (lines_of b.input) b.written new s
+      → EndsTask told (task_of w) b files new s
+  merging_ends forks is ends = subst (λ (a : Task). EndsTask told a b files new s) (sym is) ends
 
 -- what is asked isn't nothing
-pub is_none_and : {P : Type 0} (a : Asked) (o : Option Asked) → o ≡ None → o ≡ Some a → P
+pub is_none_and : {P : Type 0} (a : Task) (o : Option Task) → o ≡ None → o ≡ Some a → P
 is_none_and a o none some = absurd (apart (sym none ∙ some))
   where
     apart : None ≡ Some a → ⊥
@@ -152,11 +152,11 @@ is_none_and a o none some = absurd (apart (sym none ∙ some))
 -- ---- the input
 
 -- the words ask for this command, which takes its input so
-pub taken_by : (w : Words) (a : Asked) (left now : List ℕ) (s : Status) → said w ≡ a → TakesInput a left now s → TakesInput (said w) left now s
-taken_by w a left now s is takes = subst (λ (b : Asked). TakesInput b left now s) (sym is) takes
+pub taken_by : (w : Words) (a : Task) (left now : List ℕ) (s : Status) → task_of w ≡ a → TakesInput a left now s → TakesInput (task_of w) left now s
+taken_by w a left now s is takes = subst (λ (b : Task). TakesInput b left now s) (sym is) takes
 
 -- what reads the whole input takes it so
-pub taken_whole : (a : Asked) (left now : List ℕ) (s : Status) → reads_whole a ≡ true → TakesInput a left now s → ReadsInput left now s
+pub taken_whole : (a : Task) (left now : List ℕ) (s : Status) → reads_whole a ≡ true → TakesInput a left now s → ReadsInput left now s
 taken_whole (Run cache forks) left now s e takes = takes
 taken_whole (Load columns forks) left now s e takes = takes
 taken_whole (Explain cache) left now s e takes = takes
@@ -172,7 +172,7 @@ taken_whole (MergingBatch forks) left now s e takes = takes
 no_input : (left now : List ℕ) → ReadsInput left now status.Memory
 no_input left now = record { too_large = λ e. absurd cc; fits = λ goes. absurd goes; whole = λ goes. absurd goes }
 
-pub none_taken : (o : Option Asked) (left now : List ℕ) → OnAsked (λ a. TakesInput a left now status.Memory) o
+pub none_taken : (o : Option Task) (left now : List ℕ) → OnTask (λ a. TakesInput a left now status.Memory) o
 none_taken None left now = tt
 none_taken (Some (Run cache forks)) left now = no_input left now
 none_taken (Some (Load columns forks)) left now = no_input left now
@@ -202,8 +202,8 @@ called source sink input old new written written_now before now = record {
 }
 
 -- the words ask for this command, which leaves so much
-pub left_by : (w : Words) (a : Asked) (c : Call) (s : Status) → said w ≡ a → LeavesAsked a c s → LeavesAsked (said w) c s
-left_by w a c s is leaves = subst (λ (b : Asked). LeavesAsked b c s) (sym is) leaves
+pub left_by : (w : Words) (a : Task) (c : Call) (s : Status) → task_of w ≡ a → LeavesTask a c s → LeavesTask (task_of w) c s
+left_by w a c s is leaves = subst (λ (b : Task). LeavesTask b c s) (sym is) leaves
 
 no_whole : (files : Files) → WholeLeaves files files status.Memory
 no_whole files = record { levels = λ state h a. absurd a; undone = inl (kept_itself files) }
@@ -219,8 +219,8 @@ no_merge files = record {
 }
 
 -- where memory was wanting before anything was done each command has left what was there
-none_left_of : (a : Asked) (source sink : Bool) (input written : List ℕ) (files : Files) (reads : ℕ)
-    → LeavesAsked a
+none_left_of : (a : Task) (source sink : Bool) (input written : List ℕ) (files : Files) (reads : ℕ)
+    → LeavesTask a
     (record { source = source; sink = sink; input = input; old = files; new = files; written = written; written_now = written; before = reads; now = reads })
     status.Memory
 none_left_of (Run cache forks) source sink input written files reads = λ told. nothing_costs language.Points (lines_of input) files reads status.Memory (λ a. a)
@@ -238,8 +238,8 @@ none_left_of (Load columns forks) source sink input written files reads = no_who
 none_left_of (Generate docs seed forks) source sink input written files reads = no_whole files
 none_left_of Check source sink input written files reads = record { ends = λ told. refl; files = refl; reads = λ pages is. omega arith; named = tt }
 
-pub none_left : (o : Option Asked) (source sink : Bool) (input written : List ℕ) (files : Files) (reads : ℕ)
-    → OnAsked (λ a. LeavesAsked a
+pub none_left : (o : Option Task) (source sink : Bool) (input written : List ℕ) (files : Files) (reads : ℕ)
+    → OnTask (λ a. LeavesTask a
     (record { source = source; sink = sink; input = input; old = files; new = files; written = written; written_now = written; before = reads; now = reads })
     status.Memory) o
 none_left None source sink input written files reads = tt

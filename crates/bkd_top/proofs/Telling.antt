@@ -6,7 +6,6 @@ use Rattle.outer_io.specs.Parts.{WritesPart}
 use Rattle.page_cache.specs.declared.faults.PageFault.{PageFault}
 use Rattle.page_cache.specs.declared.faults.PageFault.TheVariants as page
 use Rattle.page_cache.specs.Evidence.{FaultShows}
-use Rattle.script_lang.specs.Lines.{lines_of}
 use Rattle.explain_queries.specs.Explained.{Scope, Told, TellsLine, TellsLines, followed_by, silence}
 use Rattle.explain_queries.specs.Explains.{IsTold}
 use Rattle.run_status.specs.Sent.{IsSent}
@@ -15,7 +14,7 @@ use Rattle.run_status.specs.Ends.{IsDamaged}
 use Rattle.run_status.specs.Stops.{status_of, stop_of}
 use Rattle.run_status.specs.declared.stop.Stop.{Stop}
 use Rattle.run_status.specs.declared.stop.Stop.TheVariants as stop
-use Rattle.script_run.proofs.Ending.{counted}
+use Rattle.run_status.proofs.Ending.{counted}
 
 step_length : (line : ℕ) (ls : List (List ℕ)) → line + 1 + length ls ≡ line + suc (length ls)
 step_length line ls = omega arith
@@ -260,9 +259,3 @@ left_on s line rest x more before now new all is left reads =
 
 pub left_end : (s : Scope) (line : ℕ) (rest : List (List ℕ)) (before now all : ℕ) → Left s line rest before now all → now ≤ before + all
 left_end s line rest before now all left = omega (arith, left.fits)
-
--- a text without bytes has no line
-pub no_lines : (bytes : List ℕ) → length bytes ≡ 0 → lines_of bytes ≡ []
-unfolding lines_of
-no_lines [] h = refl
-no_lines (b ∷ bs) h = absurd (omega arith)

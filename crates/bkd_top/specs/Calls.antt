@@ -3,7 +3,7 @@
 use Rattle.std.specs.Prelude.{ℕ, ◌≡◌, ◌⊎◌, Bool, IsTrue, List, [], Option, None, Some}
 use Rattle.outer_io.specs.Files.{Files}
 use Rattle.script_lang.specs.Lines.{lines_of}
-use Rattle.command_words.specs.Commands.{Asked, Run, Load, Explain, Check, Generate, Session, Count, Ranges, Batch}
+use Rattle.command_words.specs.Commands.{Task, Run, Load, Explain, Check, Generate, Session, Count, Ranges, Batch}
 use Rattle.command_words.specs.Commands.{MergingBatch}
 use Rattle.index_model.specs.State.{State}
 use Rattle.stored_index.specs.Stored.{IsStored}
@@ -22,20 +22,20 @@ use Rattle.bkd_top.specs.Checking.{Checks}
 use Rattle.bkd_top.specs.Commands.{ReadsFew}
 
 -- words of no command are told as that, unless memory was wanting, and no others are
-pub record TellsUsage (asked : Option Asked) (s : Status) : Type 0 where
+pub record TellsUsage (asked : Option Task) (s : Status) : Type 0 where
   pub only : s ≡ status.Usage → asked ≡ None
   pub told : asked ≡ None → (s ≡ status.Usage) ⊎ (s ≡ status.Memory)
 
 -- where a command is asked for, this holds of it
-abbrev pub OnAsked : (Asked → Type 0) → Option Asked → Type 0
-OnAsked P None = Unit {0}
-OnAsked P (Some asked) = P asked
+abbrev pub OnTask : (Task → Type 0) → Option Task → Type 0
+OnTask P None = Unit {0}
+OnTask P (Some asked) = P asked
 
 -- ---- the input
 
 -- The whole input is read before anything is done, or none of it; but the lines of a session are read as they are
 -- done, to the end of the input where all are.
-abbrev pub TakesInput : Asked → (left left_now : List ℕ) → Status → Type 0
+abbrev pub TakesInput : Task → (left left_now : List ℕ) → Status → Type 0
 TakesInput (Run cache forks) left now s = ReadsInput left now s
 TakesInput (Load columns forks) left now s = ReadsInput left now s
 TakesInput (Explain cache) left now s = ReadsInput left now s
@@ -100,17 +100,17 @@ pub record BatchLeaves (c : Call) (s : Status) : Type 0 where
   pub stored : (LeavesNoText s → ⊥) → StoresSome c.old
   pub unwritten : LeavesNoText s → c.written_now ≡ c.written
 
-abbrev pub LeavesAsked : Asked → Call → Status → Type 0
-LeavesAsked (Run cache forks) c s = IsTrue c.source
+abbrev pub LeavesTask : Task → Call → Status → Type 0
+LeavesTask (Run cache forks) c s = IsTrue c.source
     → RunCosts language.Points (lines_of c.input) c.old c.new c.before c.now s
-LeavesAsked (Session cache forks) c s = IsTrue c.source
+LeavesTask (Session cache forks) c s = IsTrue c.source
     → RunCosts language.Points (lines_of c.input) c.old c.new c.before c.now s
-LeavesAsked (Ranges cache forks) c s = IsTrue c.source
+LeavesTask (Ranges cache forks) c s = IsTrue c.source
     → RunCosts language.Ranges (lines_of c.input) c.old c.new c.before c.now s
-LeavesAsked (Explain cache) c s = ExplainCosts (IsTrue c.source) (lines_of c.input) c.old c.new c.before c.now
-LeavesAsked (Load columns forks) c s = WholeLeaves c.old c.new s
-LeavesAsked (Generate docs seed forks) c s = WholeLeaves c.old c.new s
-LeavesAsked (Count cache) c s = CountCosts (IsTrue c.source) (lines_of c.input) c.old c.new c.before c.now
-LeavesAsked (Batch forks) c s = BatchLeaves c s
-LeavesAsked (MergingBatch forks) c s = MergingLeaves c s
-LeavesAsked Check c s = Checks (IsTrue c.sink) c.old c.new c.written c.written_now c.before c.now s
+LeavesTask (Explain cache) c s = ExplainCosts (IsTrue c.source) (lines_of c.input) c.old c.new c.before c.now
+LeavesTask (Load columns forks) c s = WholeLeaves c.old c.new s
+LeavesTask (Generate docs seed forks) c s = WholeLeaves c.old c.new s
+LeavesTask (Count cache) c s = CountCosts (IsTrue c.source) (lines_of c.input) c.old c.new c.before c.now
+LeavesTask (Batch forks) c s = BatchLeaves c s
+LeavesTask (MergingBatch forks) c s = MergingLeaves c s
+LeavesTask Check c s = Checks (IsTrue c.sink) c.old c.new c.written c.written_now c.before c.now s

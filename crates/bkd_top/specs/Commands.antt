@@ -9,10 +9,10 @@ use Rattle.index_model.specs.State.{State}
 use Rattle.index_model.specs.Script.{Answer}
 use Rattle.stored_index.specs.Stored.{IsStored}
 use Rattle.stored_index.specs.Opening.{IsOpening, segments_pages}
-use Rattle.command_words.specs.Commands.{Asked, Run, Load, Explain, Check, Generate, Session, Count, Ranges, Batch}
+use Rattle.command_words.specs.Commands.{Task, Run, Load, Explain, Check, Generate, Session, Count, Ranges, Batch}
 use Rattle.command_words.specs.Commands.{MergingBatch}
 use Rattle.load_points.specs.Loaded.{load_answer}
-use Rattle.drawn_points.specs.Generated.{generated}
+use Rattle.drawn_points.specs.Generated.{generate_answer}
 use Rattle.explain_queries.specs.Explained.{Scope, IsScope, Told, TellsLine, TellsLines}
 use Rattle.count_queries.specs.Counted as counts
 use Rattle.script_run.specs.Languages.{meaning}
@@ -33,7 +33,7 @@ use Rattle.run_status.specs.declared.stop.Stop.TheVariants as stop
 -- ---- what is asked
 
 -- the input is read
-abbrev pub reads_input : Asked → Bool
+abbrev pub reads_input : Task → Bool
 reads_input (Run cache forks) = true
 reads_input (Load columns forks) = true
 reads_input (Explain cache) = true
@@ -46,17 +46,17 @@ reads_input (Batch forks) = true
 reads_input (MergingBatch forks) = true
 
 -- its lines are done as they come, and no input is too large
-abbrev pub is_session : Asked → Bool
+abbrev pub is_session : Task → Bool
 is_session (Session cache forks) = true
 is_session _ = false
 
 -- the whole input is read first
-abbrev pub reads_whole : Asked → Bool
+abbrev pub reads_whole : Task → Bool
 reads_whole (Session cache forks) = false
 reads_whole asked = reads_input asked
 
 -- something is asked, and it is so
-abbrev pub does : (Asked → Bool) → Option Asked → Bool
+abbrev pub does : (Task → Bool) → Option Task → Bool
 does test None = false
 does test (Some asked) = test asked
 
@@ -200,21 +200,22 @@ ReadsFew files lines old new =
 
 -- Explaining, checking, counting and answering a batch leave what is stored. Of a script of ranges it is said over
 -- points that are ranges.
-abbrev pub EndsAsked : (told : Type 0) → Asked → Before → Files → List ℕ → Status → Type 0
-EndsAsked told (Run cache forks) b files new s =
+abbrev pub EndsTask : (told : Type 0) → Task → Before → Files → List ℕ → Status → Type 0
+EndsTask told (Run cache forks) b files new s =
     Ends (meaning language.Points) told (start b.state (lines_of b.input) b.written) files new s
-EndsAsked told (Load columns forks) b files new s = EndsWhole told b (load_answer b.state b.input columns) files new s
-EndsAsked told (Explain cache) b files new s = (scope : Scope) → IsScope b.files scope
+EndsTask told (Load columns forks) b files new s = EndsWhole told b (load_answer b.state b.input columns) files new s
+EndsTask told (Explain cache) b files new s = (scope : Scope) → IsScope b.files scope
     → EndsExplain told scope (lines_of b.input) b.written new s
-EndsAsked told Check b files new s = (files ≡ b.files) × EndsCheck told b.files b.written new s
-EndsAsked told (Generate docs seed forks) b files new s = EndsWhole told b (generated b.state docs seed) files new s
-EndsAsked told (Session cache forks) b files new s =
+EndsTask told Check b files new s = (files ≡ b.files) × EndsCheck told b.files b.written new s
+EndsTask told (Generate docs seed forks) b files new s =
+    EndsWhole told b (generate_answer b.state docs seed) files new s
+EndsTask told (Session cache forks) b files new s =
     EndsSession (meaning language.Points) told (start b.state (lines_of b.input) b.written) files new s
-EndsAsked told (Count cache) b files new s =
+EndsTask told (Count cache) b files new s =
     (scope : counts.Scope) → counts.IsScope b.files scope
     → telling.EndsTold told (counts.TellsCount scope) (lines_of b.input) b.written new s
-EndsAsked told (Ranges cache forks) b files new s =
+EndsTask told (Ranges cache forks) b files new s =
     AreRanges b.state → EndsRanges told (start b.state (lines_of b.input) b.written) files new s
-EndsAsked told (Batch forks) b files new s = EndsBatch told (TellsBatch b.state) (lines_of b.input) b.written new s
-EndsAsked told (MergingBatch forks) b files new s =
+EndsTask told (Batch forks) b files new s = EndsBatch told (TellsBatch b.state) (lines_of b.input) b.written new s
+EndsTask told (MergingBatch forks) b files new s =
     EndsMerging told (TellsBatch b.state) (lines_of b.input) b.written new s

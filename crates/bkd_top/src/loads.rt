@@ -9,7 +9,7 @@ ghost use Rattle.index_model.specs.Script.{Answer};
 ghost use Rattle.index_model.specs.State.{State};
 ghost use Rattle.stored_index.specs.Stored.{IsStored};
 ghost use Rattle.index_opening.specs.Evidence.{IsEvident};
-ghost use Rattle.drawn_points.specs.Generated.{generated};
+ghost use Rattle.drawn_points.specs.Generated.{generate_answer};
 ghost use Rattle.load_points.specs.Loaded.{load_answer};
 ghost use Rattle.index_core.specs.Brought.{KeepsCommit};
 ghost use Rattle.index_core.specs.Steps.{KeepsUndone};
@@ -143,7 +143,7 @@ pub fn run_generate<F: Folder, K: Sink, R: Threads + Sync, G: Gate>(
     ensures ends { IsTrue F.told → (state : State) → IsStored (F.files folder.old) state → (input : List ℕ)
         → EndsWhole (IsTrue K.told)
         (record { state = state; files = F.files folder.old; input = input; written = K.written out.old })
-        (generated state docs seed) (F.files folder.new) (K.written out.new) result }
+        (generate_answer state docs seed) (F.files folder.new) (K.written out.new) result }
     ensures canon { IsTrue F.told → (state : State) → IsStored (F.files folder.old) state → IsAnswer result
         → HasNewCanonical (F.files folder.old) (F.files folder.new) }
     ensures whole { IsTrue F.told → WholeLeaves (F.files folder.old) (F.files folder.new) result }

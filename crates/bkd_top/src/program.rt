@@ -4,13 +4,13 @@ ghost use Rattle.std.specs.Prelude.{◌≡◌, ◌≤◌, ◌^◌, ◌⊎◌, []
 ghost use Rattle.index_model.specs.State.{State};
 ghost use Rattle.stored_index.specs.Stored.{IsStored};
 ghost use Rattle.run_status.specs.Ends.{DoesNothing};
-ghost use Rattle.command_words.specs.Commands.{Asked, IsWithin, asked, said};
+ghost use Rattle.command_words.specs.Commands.{Task, IsWithin, task_in, task_of};
 ghost use Rattle.index_core.specs.Brought.{KeepsCommit};
 ghost use Rattle.index_core.specs.Whole.{HasNewCanonical};
 ghost use Rattle.run_status.specs.Causes.{HasCauses, NoneRose, ReadsInput};
-ghost use Rattle.bkd_top.specs.Calls.{LeavesAsked, OnAsked, TakesInput, TellsDamage, TellsUsage};
+ghost use Rattle.bkd_top.specs.Calls.{LeavesTask, OnTask, TakesInput, TellsDamage, TellsUsage};
 ghost use Rattle.run_status.specs.Ends.{IsAnswer};
-ghost use Rattle.bkd_top.specs.Commands.{EndsAsked, does, is_session, reads_input, reads_whole};
+ghost use Rattle.bkd_top.specs.Commands.{EndsTask, does, is_session, reads_input, reads_whole};
 
 use crate::check::run_check;
 use crate::explain::run_explain;
@@ -55,31 +55,31 @@ pub fn run<S: Source, F: Folder, K: Sink, R: Threads + Sync, G: Gate>(
     out: &mut K,
     gate: &G,
 ) -> Status
-    ensures usage { TellsUsage (asked (map string_bytes words.now)) result }
+    ensures usage { TellsUsage (task_in (map string_bytes words.now)) result }
     // the headline, and what each other end leaves of the text and the folder
-    ensures ends { IsTrue F.told → (state : State) → IsStored (F.files folder.old) state → (a : Asked)
-        → asked (map string_bytes words.now) ≡ Some a → (reads_input a ≡ true → IsTrue S.told)
-        → EndsAsked (IsTrue K.told) a
+    ensures ends { IsTrue F.told → (state : State) → IsStored (F.files folder.old) state → (a : Task)
+        → task_in (map string_bytes words.now) ≡ Some a → (reads_input a ≡ true → IsTrue S.told)
+        → EndsTask (IsTrue K.told) a
         (record { state = state; files = F.files folder.old; input = S.left input.old; written = K.written out.old })
         (F.files folder.new) (K.written out.new) result }
     // where no call failed, a command over a folder that stores a state is done, or memory was wanting
-    ensures complete { IsTrue F.told → (state : State) → IsStored (F.files folder.old) state → (a : Asked)
-        → asked (map string_bytes words.now) ≡ Some a → (reads_input a ≡ true → IsTrue S.told)
+    ensures complete { IsTrue F.told → (state : State) → IsStored (F.files folder.old) state → (a : Task)
+        → task_in (map string_bytes words.now) ≡ Some a → (reads_input a ≡ true → IsTrue S.told)
         → (reads_whole a ≡ true → length (S.left input.old) ≤ 2 ^ 29)
         → NoneRose (record { source = S.faults input.old; folder = F.faults folder.old; sink = K.faults out.old })
         (record { source = S.faults input.new; folder = F.faults folder.new; sink = K.faults out.new })
         → IsAnswer result ⊎ (result ≡ Status.Memory) }
     ensures input { IsTrue S.told
-        → OnAsked (λ a. TakesInput a (S.left input.old) (S.left input.new) result)
-        (asked (map string_bytes words.now)) }
-    ensures unread { does (λ a. reads_input a) (asked (map string_bytes words.now)) ≡ false → input.new ≡ input.old }
-    ensures untouched { does (λ a. is_session a) (asked (map string_bytes words.now)) ≡ false → DoesNothing result
+        → OnTask (λ a. TakesInput a (S.left input.old) (S.left input.new) result)
+        (task_in (map string_bytes words.now)) }
+    ensures unread { does (λ a. reads_input a) (task_in (map string_bytes words.now)) ≡ false → input.new ≡ input.old }
+    ensures untouched { does (λ a. is_session a) (task_in (map string_bytes words.now)) ≡ false → DoesNothing result
         → (folder.new ≡ folder.old) × (out.new ≡ out.old) }
     // each segment that the commit lists anew is canonical
     ensures canon { IsTrue F.told → (state : State) → IsStored (F.files folder.old) state → IsAnswer result
         → HasNewCanonical (F.files folder.old) (F.files folder.new) }
     // what it leaves and costs, whatever the folder holds
-    ensures leaves { IsTrue F.told → OnAsked (λ a. LeavesAsked a
+    ensures leaves { IsTrue F.told → OnTask (λ a. LeavesTask a
         (record {
           source = S.told;
           sink = K.told;
@@ -90,7 +90,7 @@ pub fn run<S: Source, F: Folder, K: Sink, R: Threads + Sync, G: Gate>(
           written_now = K.written out.new;
           before = F.reads folder.old;
           now = F.reads folder.new;
-        }) result) (asked (map string_bytes words.now)) }
+        }) result) (task_in (map string_bytes words.now)) }
     // whatever it ends with, what was kept is, or a commit of which each listed file is whole
     ensures lasting { IsTrue F.told → KeepsCommit (F.files folder.old) (F.files folder.new) }
     // why it ended otherwise
@@ -119,18 +119,18 @@ fn run_command<S: Source, F: Folder, K: Sink, R: Threads + Sync, G: Gate>(
     requires { IsWithin words }
     ensures never_usage { result ≡ Status.Usage → ⊥ }
     ensures ends { IsTrue F.told → (state : State) → IsStored (F.files folder.old) state
-        → (reads_input (said words) ≡ true → IsTrue S.told)
-        → EndsAsked (IsTrue K.told) (said words)
+        → (reads_input (task_of words) ≡ true → IsTrue S.told)
+        → EndsTask (IsTrue K.told) (task_of words)
         (record { state = state; files = F.files folder.old; input = S.left input.old; written = K.written out.old })
         (F.files folder.new) (K.written out.new) result }
-    ensures input { IsTrue S.told → TakesInput (said words) (S.left input.old) (S.left input.new) result }
-    ensures unread { reads_input (said words) ≡ false → input.new ≡ input.old }
-    ensures large { result ≡ Status.TooLarge → reads_whole (said words) ≡ true }
-    ensures untouched { is_session (said words) ≡ false → DoesNothing result → (folder.new ≡ folder.old)
+    ensures input { IsTrue S.told → TakesInput (task_of words) (S.left input.old) (S.left input.new) result }
+    ensures unread { reads_input (task_of words) ≡ false → input.new ≡ input.old }
+    ensures large { result ≡ Status.TooLarge → reads_whole (task_of words) ≡ true }
+    ensures untouched { is_session (task_of words) ≡ false → DoesNothing result → (folder.new ≡ folder.old)
         × (out.new ≡ out.old) }
     ensures canon { IsTrue F.told → (state : State) → IsStored (F.files folder.old) state → IsAnswer result
         → HasNewCanonical (F.files folder.old) (F.files folder.new) }
-    ensures leaves { IsTrue F.told → LeavesAsked (said words)
+    ensures leaves { IsTrue F.told → LeavesTask (task_of words)
         (record {
           source = S.told;
           sink = K.told;

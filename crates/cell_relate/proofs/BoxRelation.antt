@@ -5,8 +5,8 @@ use Rattle.point_codec.specs.Cells.{within}
 use Rattle.cell_relate.specs.declared.shape.Relation.TheVariants.{Inside, Outside}
 use Rattle.cell_relate.specs.Relations.{AllAnswer, IsUncrossed, RelatesTo}
 use Rattle.cell_relate.specs.Boxes.{meets, crosses}
-use Rattle.cell_relate.proofs.Corners.{both_true, all_le-trans}
 use Rattle.cell_relate.proofs.RelationLemmas.{in_box-lo, in_box-within}
+use Rattle.point_codec.proofs.Corners.{both_true, all_le-trans}
 
 -- a point of both is between their corners
 common : (box cell : Region) (p : List ℤ) → in_box box p ≡ true → in_box cell p ≡ true → meets box cell ≡ true

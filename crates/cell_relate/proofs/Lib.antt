@@ -1,4 +1,3 @@
-pub mod Corners
 pub mod BoxRelation
 pub mod RelationLemmas
 pub mod Reach

@@ -6,7 +6,7 @@ use Rattle.std.proofs.lemmas.Int.{to_z-of_z}
 use mir.Val.{to_z, of_z}
 use Rattle.point_codec.specs.Points.{Region, all_le, in_box}
 use Rattle.cell_relate.specs.Relations.{IsReach}
-use Rattle.cell_relate.proofs.Corners.{both_true}
+use Rattle.point_codec.proofs.Corners.{both_true}
 
 -- what holds in each dimension holds in one
 all_le_in : (a b : List ℤ) (d : ℕ) → all_le a b ≡ true → int_le (get_or a d (pos 0)) (get_or b d (pos 0)) ≡ true

@@ -6,7 +6,7 @@ use Rattle.point_codec.specs.Cells.{within}
 use Rattle.cell_relate.specs.declared.shape.Relation.{Relation}
 use Rattle.cell_relate.specs.declared.shape.Relation.TheVariants.{Inside, Outside, Crosses}
 use Rattle.cell_relate.specs.Relations.{AllAnswer, RelatesTo, is_outside}
-use Rattle.cell_relate.proofs.Corners.{both_true, all_le-refl, all_le-trans}
+use Rattle.point_codec.proofs.Corners.{both_true, all_le-refl, all_le-trans}
 
 -- the least corner is a point of its cell
 pub in_box-lo : (cell : Region) → all_le cell.lo cell.hi ≡ true → in_box cell cell.lo ≡ true

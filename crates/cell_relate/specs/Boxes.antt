@@ -4,7 +4,7 @@ use Rattle.point_codec.specs.Points.{Region, all_le}
 use Rattle.point_codec.specs.Cells.{within}
 
 -- a box with the numbers of points and of cells that were asked of it
-pub record Asked : Type 0 where
+pub record CountedBox : Type 0 where
   pub bounds : Region
   pub tests : ℕ
   pub compares : ℕ

@@ -22,9 +22,9 @@ pub struct BoxShape<const D: usize> {
 }
 
 impl<const D: usize> Model for BoxShape<D> {
-    ghost use Rattle.cell_relate.specs.Boxes.{Asked};
+    ghost use Rattle.cell_relate.specs.Boxes.{CountedBox};
 
-    ghost Value = { Asked };
+    ghost Value = { CountedBox };
 
     ghost view = { λ b. record { bounds = record { lo = b.lo.c; hi = b.hi.c }; tests = b.tests; compares = b.compares } };
 }

@@ -24,7 +24,7 @@ use Rattle.clap.specs.declared.parser.matches.ArgMatches.{ArgMatches}
 use Rattle.clap.specs.declared.parser.matches.Found.{Found}
 use Rattle.clap.specs.declared.parser.matches.MatchedArg.{MatchedArg}
 use Rattle.command_words.specs.Commands.{Form, command_of}
-use Rattle.command_words.specs.Found.{AreFound, HasText, IsFound, are_distinct, is_plain}
+use Rattle.command_words.specs.Found.{AreOptionTexts, HasText, IsOptionText, are_distinct, is_plain}
 
 -- ---- ids that are apart
 
@@ -174,22 +174,22 @@ module _ (c : Command) (m : ArgMatches) (p : IsParsedFrom c m) (plain : is_plain
           }
 
       by_values : (x : MatchedArg) → matched_of (found_of m) (option_at c k d).id.now ≡ Some x
-          → (vals : List (Bor (List ℕ))) → x.vals.items ≡ vals → IsFound (found_of m) (rule_of (option_at c k d))
+          → (vals : List (Bor (List ℕ))) → x.vals.items ≡ vals → IsOptionText (found_of m) (rule_of (option_at c k d))
       by_values x found [] empty = inl (empty_first (found_of m) _ x found empty)
       by_values x found (v ∷ vs) vals = inr (entry_gives x found v vs vals)
 
       by_entry : (o : Option MatchedArg) → matched_of (found_of m) (option_at c k d).id.now ≡ o
-          → IsFound (found_of m) (rule_of (option_at c k d))
+          → IsOptionText (found_of m) (rule_of (option_at c k d))
       by_entry None none = inl (no_first (found_of m) _ none)
       by_entry (Some x) found = by_values x found x.vals.items refl
 
 -- what a parse of a plain command finds
-pub finds : (c : Command) (m : ArgMatches) → IsParsedFrom c m → is_plain (app_of c) ≡ true → AreFound (found_of m) (app_of c).top.rules
+pub finds : (c : Command) (m : ArgMatches) → IsParsedFrom c m → is_plain (app_of c) ≡ true → AreOptionTexts (found_of m) (app_of c).top.rules
 finds c m p plain =
-    All-map (λ (option : Rule). is_some option.parser ≡ true → IsFound (found_of m) option) rule_of (args_of c)
+    All-map (λ (option : Rule). is_some option.parser ≡ true → IsOptionText (found_of m) option) rule_of (args_of c)
     (λ k d lt some. by_entry c m p plain k d lt some _ refl)
 
 -- the same by the command's form
-pub found_option : (found : Found) (command : App) (form : Form) → command ≡ command_of form → AreFound found command.top.rules
-    → AreFound found (command_of form).top.rules
-found_option found command form is all = subst (λ (a : App). AreFound found a.top.rules) is all
+pub found_option : (found : Found) (command : App) (form : Form) → command ≡ command_of form → AreOptionTexts found command.top.rules
+    → AreOptionTexts found (command_of form).top.rules
+found_option found command form is all = subst (λ (a : App). AreOptionTexts found a.top.rules) is all

@@ -10,7 +10,7 @@ use Rattle.clap.specs.Words.{IsSignedIn, ReadsOne, first_of, first_value, one_te
 use Rattle.clap.proofs.WalkLemmas.{first_value-rows}
 use Rattle.clap.specs.declared.parser.matches.Found.{Found}
 use Rattle.command_words.specs.Commands.{number_of, number_option}
-use Rattle.command_words.specs.Found.{HasText, IsFound}
+use Rattle.command_words.specs.Found.{HasText, IsOptionText}
 
 no_plus : (ds : List ℕ) → IsNumeral 10 ds → without_leading_plus ds ≡ ds
 no_plus [] numeral = refl
@@ -47,7 +47,7 @@ module _ (E : Type 0) (G : List ℕ → Result ℕ E → Type 0) (parses : (u : 
       absurd (parses (without_minus text) (Err h.0) h.1 (rw same passes.0, rw same fits))
 
   -- the number of an option is read from what was found for it, and lies in its range
-  pub number_found : (f : Found) (id : List ℕ) (low high : ℕ) → high < 2 ^ 32 → IsFound f (number_option id low high) → (r : Option ℕ)
+  pub number_found : (f : Found) (id : List ℕ) (low high : ℕ) → high < 2 ^ 32 → IsOptionText f (number_option id low high) → (r : Option ℕ)
       → (one_text f id ≡ None → r ≡ None) → ((t : List ℕ) → one_text f id ≡ Some t → ReadsOne G t r)
       → (r ≡ option_map number_of (first_of id (rows_of f))) × IfSome r (λ n. (low ≤ n) × (n ≤ high))
   number_found f id low high small (inl none) r absent present =

@@ -6,7 +6,7 @@ use Rattle.std.proofs.lemmas.Slice.Eq.{bytes_eq-Decides}
 use Rattle.clap.specs.Words.{App, HasKind, Kinds, Row, fault_of, kind_of, matches_of}
 use Rattle.clap.specs.declared.error.Error.{Error}
 use Rattle.clap.specs.declared.error.kind.ErrorKind.TheVariants.{OutOfMemory}
-use Rattle.command_words.specs.Commands.{asked, batch, check, count, explain, found_by, generate, load, run, unless_refused, ranges, session}
+use Rattle.command_words.specs.Commands.{task_in, batch, check, count, explain, found_by, generate, load, run, unless_refused, ranges, session}
 
 pub rows_found : (command : App) (words : List (List ℕ)) (rows : List Row) → fault_of command words ≡ []
     → rows ≡ matches_of command words → found_by command words ≡ Some rows
@@ -28,7 +28,7 @@ pub unknown : (texts : List (List ℕ)) (name : List ℕ) → 2 ≤ length texts
     → (name ≡ run.name → ⊥) → (name ≡ load.name → ⊥) → (name ≡ explain.name → ⊥) → (name ≡ check.name → ⊥) → (name ≡ generate.name → ⊥)
     → (name ≡ session.name → ⊥) → (name ≡ count.name → ⊥)
     → (name ≡ ranges.name → ⊥) → (name ≡ batch.name → ⊥)
-    → asked texts ≡ None
+    → task_in texts ≡ None
 unknown [] name two second no_run no_load no_explain no_check no_generate no_session no_count no_ranges no_batch = absurd (omega arith)
 unknown (folder ∷ []) name two second no_run no_load no_explain no_check no_generate no_session no_count no_ranges no_batch = absurd (omega arith)
 unknown (folder ∷ word ∷ options) name two second no_run no_load no_explain no_check no_generate no_session no_count no_ranges no_batch =

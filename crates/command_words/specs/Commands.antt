@@ -12,17 +12,17 @@ use Rattle.command_words.specs.declared.Words.{Words}
 use Rattle.command_words.specs.declared.Words.TheVariants as words
 
 -- what can be asked for
-pub data Asked : Type 0 where
-  Run : (cache forks : ℕ) → Asked
-  Load : (columns : List (List ℕ)) (forks : ℕ) → Asked
-  Explain : (cache : ℕ) → Asked
-  Check : Asked
-  Generate : (docs seed forks : ℕ) → Asked
-  Session : (cache forks : ℕ) → Asked
-  Count : (cache : ℕ) → Asked
-  Ranges : (cache forks : ℕ) → Asked
-  Batch : (forks : ℕ) → Asked
-  MergingBatch : (forks : ℕ) → Asked
+pub data Task : Type 0 where
+  Run : (cache forks : ℕ) → Task
+  Load : (columns : List (List ℕ)) (forks : ℕ) → Task
+  Explain : (cache : ℕ) → Task
+  Check : Task
+  Generate : (docs seed forks : ℕ) → Task
+  Session : (cache forks : ℕ) → Task
+  Count : (cache : ℕ) → Task
+  Ranges : (cache forks : ℕ) → Task
+  Batch : (forks : ℕ) → Task
+  MergingBatch : (forks : ℕ) → Task
 
 -- ---- the options
 
@@ -40,8 +40,8 @@ abbrev pub flag : List ℕ → Rule
 flag name = record (text_option name) { action = Some SetTrue }
 
 -- an option that may not be left out
-abbrev pub required : Rule → Rule
-required option = record option { required = true }
+abbrev pub required_option : Rule → Rule
+required_option option = record option { required = true }
 
 abbrev pub cache : Rule
 cache = number_option (codes "cache") 1 65536
@@ -50,13 +50,13 @@ abbrev pub forks : Rule
 forks = number_option (codes "forks") 0 6
 
 abbrev pub columns : Rule
-columns = required (text_option (codes "columns"))
+columns = required_option (text_option (codes "columns"))
 
 abbrev pub docs : Rule
-docs = required (number_option (codes "docs") 1 1000000)
+docs = required_option (number_option (codes "docs") 1 1000000)
 
 abbrev pub seed : Rule
-seed = required (number_option (codes "seed") 1 2147483646)
+seed = required_option (number_option (codes "seed") 1 2147483646)
 
 abbrev pub merge : Rule
 merge = flag (codes "merge")
@@ -104,7 +104,7 @@ columns_by found = option_and_then names_of (first_of columns.id found)
 pub record Form : Type 0 where
   pub name : List ℕ
   pub options : List Rule
-  pub asks : List Row → Option Asked
+  pub asks : List Row → Option Task
 
 abbrev pub run : Form
 run = record {
@@ -189,28 +189,28 @@ unfoldable pub found_by : App → List (List ℕ) → Option (List Row)
 found_by command words = unless_refused (fault_of command words) (matches_of command words)
 
 -- what the words of a command ask for
-abbrev pub asked_by : Form → List (List ℕ) → Option Asked
-asked_by form words = option_and_then form.asks (found_by (command_of form) words)
+abbrev pub task_by : Form → List (List ℕ) → Option Task
+task_by form words = option_and_then form.asks (found_by (command_of form) words)
 
 -- what the words after the program's own name ask for; None where they are those of no command
-abbrev pub asked : List (List ℕ) → Option Asked
-asked [] = None
-asked (folder ∷ []) = None
-asked (folder ∷ name ∷ options) =
-    option_and_then (λ form. asked_by form (name ∷ options)) (find (λ form. bytes_eq name form.name) forms)
+abbrev pub task_in : List (List ℕ) → Option Task
+task_in [] = None
+task_in (folder ∷ []) = None
+task_in (folder ∷ name ∷ options) =
+    option_and_then (λ form. task_by form (name ∷ options)) (find (λ form. bytes_eq name form.name) forms)
 
 -- what is answered
-abbrev pub said : Words → Asked
-said (words.Run cache_pages forks) = Run cache_pages forks
-said (words.Load columns forks) = Load columns.items forks
-said (words.Explain cache_pages) = Explain cache_pages
-said words.Check = Check
-said (words.Generate docs seed forks) = Generate docs seed forks
-said (words.Session cache_pages forks) = Session cache_pages forks
-said (words.Count cache_pages) = Count cache_pages
-said (words.Ranges cache_pages forks) = Ranges cache_pages forks
-said (words.Batch forks) = Batch forks
-said (words.MergingBatch forks) = MergingBatch forks
+abbrev pub task_of : Words → Task
+task_of (words.Run cache_pages forks) = Run cache_pages forks
+task_of (words.Load columns forks) = Load columns.items forks
+task_of (words.Explain cache_pages) = Explain cache_pages
+task_of words.Check = Check
+task_of (words.Generate docs seed forks) = Generate docs seed forks
+task_of (words.Session cache_pages forks) = Session cache_pages forks
+task_of (words.Count cache_pages) = Count cache_pages
+task_of (words.Ranges cache_pages forks) = Ranges cache_pages forks
+task_of (words.Batch forks) = Batch forks
+task_of (words.MergingBatch forks) = MergingBatch forks
 
 -- ---- the ranges
 

@@ -16,14 +16,14 @@ pub record HasText (found : Found) (id : List ℕ) (ignore_case : Bool) (parser 
   pub passes : Accepts ignore_case parser text
 
 -- for an option such a text, or nothing
-abbrev pub IsFound : Found → Rule → Type 0
-IsFound found option =
+abbrev pub IsOptionText : Found → Rule → Type 0
+IsOptionText found option =
     ((first_value found option.id ≡ None) × (one_text found option.id ≡ None))
     ⊎ HasText found option.id option.ignore_case (parser_of_value option.parser)
 
 -- the same of each option that has a parser
-abbrev pub AreFound : Found → List Rule → Type 0
-AreFound found options = All (λ option. is_some option.parser ≡ true → IsFound found option) options
+abbrev pub AreOptionTexts : Found → List Rule → Type 0
+AreOptionTexts found options = All (λ option. is_some option.parser ≡ true → IsOptionText found option) options
 
 -- no two names are the same
 abbrev pub are_distinct : List (List ℕ) → Bool

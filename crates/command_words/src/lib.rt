@@ -7,7 +7,7 @@ mod options;
 mod reading;
 
 ghost use Rattle.std.specs.Prelude.{◌≡◌, Some, None, IfOk, Err, map, string_bytes};
-ghost use Rattle.command_words.specs.Commands.{IsWithin, asked, said};
+ghost use Rattle.command_words.specs.Commands.{IsWithin, task_in, task_of};
 
 use byte_cursor::Bytes;
 use reading::{
@@ -85,8 +85,8 @@ impl<T: Drop> From<AllocFailed<T>> for WordsFault {
 /// | `FOLDER ranges [--cache N] [--forks N]` | cache 1,024; forks 1 |
 /// | `FOLDER batch [--forks N] [--merge]` | forks 1; nothing is merged |
 pub fn read_words(alloc: Global, words: &[String]) -> Result<Words, WordsFault>
-    ensures words { IfOk result (λ w. asked (map string_bytes words.now) ≡ Some (said w)) }
-    ensures usage { result ≡ Err WordsFault.Usage → asked (map string_bytes words.now) ≡ None }
+    ensures words { IfOk result (λ w. task_in (map string_bytes words.now) ≡ Some (task_of w)) }
+    ensures usage { result ≡ Err WordsFault.Usage → task_in (map string_bytes words.now) ≡ None }
     ensures ranges { IfOk result IsWithin }
 {
     let [_folder, name, ..] = words else {

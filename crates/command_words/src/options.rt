@@ -5,7 +5,7 @@ ghost use Rattle.std.specs.List.{slice_split};
 ghost use Rattle.clap.specs.Words.{first_of, found_of, rows_of, rule_of};
 ghost use Rattle.command_words.specs.Commands.{AreColumns, text_option, number_option, number_of, are_names};
 ghost use Rattle.command_words.specs.Commands.{columns_by, flag, is_set, names_of};
-ghost use Rattle.command_words.specs.Found.{IsFound};
+ghost use Rattle.command_words.specs.Found.{IsOptionText};
 
 use crate::WordsFault;
 use byte_cursor::Bytes;
@@ -65,7 +65,7 @@ impl NumberOption {
 
     /// The number that the words give, if they have the option.
     pub(crate) fn read(self, matches: &ArgMatches<'_>) -> Option<u32>
-        requires { IsFound (found_of matches.now) (number_option self.name.now self.least self.greatest) }
+        requires { IsOptionText (found_of matches.now) (number_option self.name.now self.least self.greatest) }
         ensures number { result ≡ option_map number_of (first_of self.name.now (rows_of (found_of matches.now))) }
         ensures range { IfSome result (λ n. (self.least ≤ n) × (n ≤ self.greatest)) }
     {

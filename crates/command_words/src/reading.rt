@@ -2,9 +2,9 @@
 
 ghost use Rattle.std.specs.Prelude.{◌≡◌, ◌≢◌, Some, None, true, IfOk, Err, map, string_bytes};
 ghost use Rattle.clap.specs.Words.{app_of, found_of, kind_of, rows_of};
-ghost use Rattle.command_words.specs.Commands.{IsWithin, asked_by, command_of, said, found_by, run, load, explain};
+ghost use Rattle.command_words.specs.Commands.{IsWithin, task_by, command_of, task_of, found_by, run, load, explain};
 ghost use Rattle.command_words.specs.Commands.{check, generate, session, count, ranges, batch};
-ghost use Rattle.command_words.specs.Found.{AreFound, is_plain};
+ghost use Rattle.command_words.specs.Found.{AreOptionTexts, is_plain};
 
 use crate::options::{
     CACHE, COLUMNS, DOCS, FORKS, MERGE, SEED, columns_by, flag, has_flag, text_option,
@@ -22,8 +22,8 @@ const FORK_LEVELS: u32 = 1;
 
 /// `run [--cache N] [--forks N]`
 pub(crate) fn read_run(alloc: Global, words: &[String]) -> Result<Words, WordsFault>
-    ensures words { IfOk result (λ w. asked_by run (map string_bytes words.now) ≡ Some (said w)) }
-    ensures usage { result ≡ Err WordsFault.Usage → asked_by run (map string_bytes words.now) ≡ None }
+    ensures words { IfOk result (λ w. task_by run (map string_bytes words.now) ≡ Some (task_of w)) }
+    ensures usage { result ≡ Err WordsFault.Usage → task_by run (map string_bytes words.now) ≡ None }
     ensures ranges { IfOk result IsWithin }
 {
     let command = run_command(alloc)?;
@@ -36,8 +36,8 @@ pub(crate) fn read_run(alloc: Global, words: &[String]) -> Result<Words, WordsFa
 
 /// `load --columns A,B [--forks N]`
 pub(crate) fn read_load(alloc: Global, words: &[String]) -> Result<Words, WordsFault>
-    ensures words { IfOk result (λ w. asked_by load (map string_bytes words.now) ≡ Some (said w)) }
-    ensures usage { result ≡ Err WordsFault.Usage → asked_by load (map string_bytes words.now) ≡ None }
+    ensures words { IfOk result (λ w. task_by load (map string_bytes words.now) ≡ Some (task_of w)) }
+    ensures usage { result ≡ Err WordsFault.Usage → task_by load (map string_bytes words.now) ≡ None }
     ensures ranges { IfOk result IsWithin }
 {
     let command = load_command(alloc)?;
@@ -50,8 +50,8 @@ pub(crate) fn read_load(alloc: Global, words: &[String]) -> Result<Words, WordsF
 
 /// `explain [--cache N]`
 pub(crate) fn read_explain(alloc: Global, words: &[String]) -> Result<Words, WordsFault>
-    ensures words { IfOk result (λ w. asked_by explain (map string_bytes words.now) ≡ Some (said w)) }
-    ensures usage { result ≡ Err WordsFault.Usage → asked_by explain (map string_bytes words.now) ≡ None }
+    ensures words { IfOk result (λ w. task_by explain (map string_bytes words.now) ≡ Some (task_of w)) }
+    ensures usage { result ≡ Err WordsFault.Usage → task_by explain (map string_bytes words.now) ≡ None }
     ensures ranges { IfOk result IsWithin }
 {
     let command = explain_command(alloc)?;
@@ -63,8 +63,8 @@ pub(crate) fn read_explain(alloc: Global, words: &[String]) -> Result<Words, Wor
 
 /// `check`
 pub(crate) fn read_check(alloc: Global, words: &[String]) -> Result<Words, WordsFault>
-    ensures words { IfOk result (λ w. asked_by check (map string_bytes words.now) ≡ Some (said w)) }
-    ensures usage { result ≡ Err WordsFault.Usage → asked_by check (map string_bytes words.now) ≡ None }
+    ensures words { IfOk result (λ w. task_by check (map string_bytes words.now) ≡ Some (task_of w)) }
+    ensures usage { result ≡ Err WordsFault.Usage → task_by check (map string_bytes words.now) ≡ None }
     ensures ranges { IfOk result IsWithin }
 {
     parse(Command::new(alloc, "check"), words)?;
@@ -73,8 +73,8 @@ pub(crate) fn read_check(alloc: Global, words: &[String]) -> Result<Words, Words
 
 /// `generate --docs N --seed N [--forks N]`
 pub(crate) fn read_generate(alloc: Global, words: &[String]) -> Result<Words, WordsFault>
-    ensures words { IfOk result (λ w. asked_by generate (map string_bytes words.now) ≡ Some (said w)) }
-    ensures usage { result ≡ Err WordsFault.Usage → asked_by generate (map string_bytes words.now) ≡ None }
+    ensures words { IfOk result (λ w. task_by generate (map string_bytes words.now) ≡ Some (task_of w)) }
+    ensures usage { result ≡ Err WordsFault.Usage → task_by generate (map string_bytes words.now) ≡ None }
     ensures ranges { IfOk result IsWithin }
 {
     let command = generate_command(alloc)?;
@@ -87,8 +87,8 @@ pub(crate) fn read_generate(alloc: Global, words: &[String]) -> Result<Words, Wo
 
 /// `session [--cache N] [--forks N]`
 pub(crate) fn read_session(alloc: Global, words: &[String]) -> Result<Words, WordsFault>
-    ensures words { IfOk result (λ w. asked_by session (map string_bytes words.now) ≡ Some (said w)) }
-    ensures usage { result ≡ Err WordsFault.Usage → asked_by session (map string_bytes words.now) ≡ None }
+    ensures words { IfOk result (λ w. task_by session (map string_bytes words.now) ≡ Some (task_of w)) }
+    ensures usage { result ≡ Err WordsFault.Usage → task_by session (map string_bytes words.now) ≡ None }
     ensures ranges { IfOk result IsWithin }
 {
     let command = session_command(alloc)?;
@@ -101,8 +101,8 @@ pub(crate) fn read_session(alloc: Global, words: &[String]) -> Result<Words, Wor
 
 /// `count [--cache N]`
 pub(crate) fn read_count(alloc: Global, words: &[String]) -> Result<Words, WordsFault>
-    ensures words { IfOk result (λ w. asked_by count (map string_bytes words.now) ≡ Some (said w)) }
-    ensures usage { result ≡ Err WordsFault.Usage → asked_by count (map string_bytes words.now) ≡ None }
+    ensures words { IfOk result (λ w. task_by count (map string_bytes words.now) ≡ Some (task_of w)) }
+    ensures usage { result ≡ Err WordsFault.Usage → task_by count (map string_bytes words.now) ≡ None }
     ensures ranges { IfOk result IsWithin }
 {
     let command = count_command(alloc)?;
@@ -114,8 +114,8 @@ pub(crate) fn read_count(alloc: Global, words: &[String]) -> Result<Words, Words
 
 /// `ranges [--cache N] [--forks N]`
 pub(crate) fn read_ranges(alloc: Global, words: &[String]) -> Result<Words, WordsFault>
-    ensures words { IfOk result (λ w. asked_by ranges (map string_bytes words.now) ≡ Some (said w)) }
-    ensures usage { result ≡ Err WordsFault.Usage → asked_by ranges (map string_bytes words.now) ≡ None }
+    ensures words { IfOk result (λ w. task_by ranges (map string_bytes words.now) ≡ Some (task_of w)) }
+    ensures usage { result ≡ Err WordsFault.Usage → task_by ranges (map string_bytes words.now) ≡ None }
     ensures ranges { IfOk result IsWithin }
 {
     let command = ranges_command(alloc)?;
@@ -128,8 +128,8 @@ pub(crate) fn read_ranges(alloc: Global, words: &[String]) -> Result<Words, Word
 
 /// `batch [--forks N] [--merge]`
 pub(crate) fn read_batch(alloc: Global, words: &[String]) -> Result<Words, WordsFault>
-    ensures words { IfOk result (λ w. asked_by batch (map string_bytes words.now) ≡ Some (said w)) }
-    ensures usage { result ≡ Err WordsFault.Usage → asked_by batch (map string_bytes words.now) ≡ None }
+    ensures words { IfOk result (λ w. task_by batch (map string_bytes words.now) ≡ Some (task_of w)) }
+    ensures usage { result ≡ Err WordsFault.Usage → task_by batch (map string_bytes words.now) ≡ None }
     ensures ranges { IfOk result IsWithin }
 {
     let command = batch_command(alloc)?;
@@ -208,7 +208,7 @@ fn parse<'a>(command: Command<'a>, words: &'a [String]) -> Result<ArgMatches<'a>
     requires plain { is_plain (app_of command) ≡ true }
     ensures rows { IfOk result
         (λ m. found_by (app_of command.entry) (map string_bytes words.entry.now) ≡ Some (rows_of (found_of m))) }
-    ensures found { IfOk result (λ m. AreFound (found_of m) (app_of command.entry).top.rules) }
+    ensures found { IfOk result (λ m. AreOptionTexts (found_of m) (app_of command.entry).top.rules) }
     ensures usage { result ≡ Err WordsFault.Usage
         → found_by (app_of command.entry) (map string_bytes words.entry.now) ≡ None }
 {

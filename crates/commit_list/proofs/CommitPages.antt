@@ -10,7 +10,7 @@ use Rattle.page_cache.specs.FilePages.{page_at, IsFilePage, ArePages, payloads_o
 use Rattle.page_cache.specs.declared.first_page.FirstPage.{FirstPage}
 use Rattle.page_cache.specs.FirstPages.{first_name, first_payload, first_size, IsFirstPage}
 use Rattle.page_cache.specs.Evidence.{ArePayloadsOf}
-use Rattle.page_cache.specs.Bodies.{pages_for, filled}
+use Rattle.page_cache.specs.Bodies.{pages_for, padded_body}
 use Rattle.commit_list.specs.declared.head.Layout.{Layout}
 use Rattle.commit_list.specs.declared.head.Layout.TheVariants.{First, Second}
 use Rattle.commit_list.specs.Commits.{CommitData}
@@ -37,7 +37,7 @@ begins-short bytes n b =
 pub body_short : (body : List ℕ) (c : CommitData) → SpellsCommit body c → (25 ≤ length body) × (length body ≤ 4829)
 body_short body c h = begins-short body (length body) (body_begins body c h)
 
-pub filled-length : (body : List ℕ) → length (filled body) ≡ 4064 * pages_for (length body)
+pub filled-length : (body : List ℕ) → length (padded_body body) ≡ 4064 * pages_for (length body)
 filled-length body =
     omega (
       arith,
@@ -47,7 +47,7 @@ filled-length body =
 
 -- ---- payloads begin as the body does
 
-pub filled_begins : (body : List ℕ) (c : CommitData) → SpellsCommit body c → BeginsBody (filled body) (length body)
+pub filled_begins : (body : List ℕ) (c : CommitData) → SpellsCommit body c → BeginsBody (padded_body body) (length body)
 filled_begins body c h = begins-more body (replicate (4064 * pages_for (length body) - length body) 0) (length body) (body_begins body c h)
 
 pub payloads_begin : (payloads : List ℕ) (c : CommitData) → (h : SpellsFilled payloads c) → BeginsBody payloads (length h.body)
@@ -72,16 +72,17 @@ begins-front bytes k n le b =
 -- a first payload with no head in range begins no body
 pub begins_none : (payload : List ℕ) → length payload ≡ 4064 → ((n : ℕ) → BeginsBody payload n → ⊥) → IsNoCommitBody payload
 begins_none payload len none c body rest h e =
-    let front : take 4064 (filled body) ≡ payload = ap (λ (bytes : List ℕ). take 4064 bytes) (sym e) ∙ take_at payload rest 4064 len in
+    let front : take 4064 (padded_body body) ≡ payload = ap (λ (bytes : List ℕ). take 4064 bytes) (sym e) ∙ take_at payload rest 4064 len in
     none (length body)
-    (subst (λ (bytes : List ℕ). BeginsBody bytes (length body)) front (begins-front (filled body) 4064 (length body) (omega arith) (filled_begins body c h)))
+    (subst (λ (bytes : List ℕ). BeginsBody bytes (length body)) front
+        (begins-front (padded_body body) 4064 (length body) (omega arith) (filled_begins body c h)))
 
 -- nor do payloads that are as many as their head asks for and are those of no body
 pub filled_none : (payloads : List ℕ) (n : ℕ) → BeginsBody payloads n → length payloads ≡ 4064 * pages_for n → HasNoFilled payloads → IsNoCommitBody payloads
 filled_none payloads n b long none c body rest h e =
     let whole = subst (λ (bytes : List ℕ). BeginsBody bytes n) e (begins-more payloads rest n b) in
-    let same : length body ≡ n = one_length (filled body) (length body) n (filled_begins body c h) whole in
-    let all : length (filled body) ≡ 4064 * pages_for n = filled-length body ∙ ap (λ (m : ℕ). 4064 * pages_for m) same in
+    let same : length body ≡ n = one_length (padded_body body) (length body) n (filled_begins body c h) whole in
+    let all : length (padded_body body) ≡ 4064 * pages_for n = filled-length body ∙ ap (λ (m : ℕ). 4064 * pages_for m) same in
     none c (record { body = body; same = sym (no_more rest (omega (arith, length-append payloads rest, ap length e, all, long))) ∙ e; spells = h })
   where
     no_more : (more : List ℕ) → length more ≡ 0 → payloads ++ more ≡ payloads
@@ -193,7 +194,7 @@ first_begins bytes payload c e h =
     let short = body_short h.body c h.spells in
     let front = first_front bytes (pages_for (length h.body)) (omega (arith, short.0)) (first_of_file bytes c h) in
     subst (λ (xs : List ℕ). BeginsBody xs (length h.body)) (ap (λ (xs : List ℕ). take 4064 xs) (sym h.file.payload) ∙ front ∙ sym e)
-    (begins-front (filled h.body) 4064 (length h.body) (omega arith) (filled_begins h.body c h.spells))
+    (begins-front (padded_body h.body) 4064 (length h.body) (omega arith) (filled_begins h.body c h.spells))
 
 -- as many pages as the head of its first payload speaks of
 pub file_pages : (bytes payload : List ℕ) (n : ℕ) (c : CommitData) → payload ≡ take 4064 (page_at bytes 0) → BeginsBody payload n → IsCommitFile bytes c

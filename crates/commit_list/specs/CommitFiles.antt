@@ -5,7 +5,7 @@ use Rattle.outer_io.specs.Files.{Files}
 use Rattle.page_cache.specs.declared.faults.Damage.{Damage}
 use Rattle.page_cache.specs.declared.faults.Damage.TheVariants.{Page, Leaf, Body, Missing, Size, Unequal, Beyond}
 use Rattle.page_cache.specs.declared.faults.Damage.TheVariants.{Doubled}
-use Rattle.page_cache.specs.Bodies.{filled, pages_for, IsBodyFile}
+use Rattle.page_cache.specs.Bodies.{padded_body, pages_for, IsBodyFile}
 use Rattle.page_cache.specs.Evidence.{IsFileDamage, IsFileDamageOf, IsSizeOf, ArePayloadsOf}
 use Rattle.commit_list.specs.Commits.{CommitData}
 use Rattle.commit_list.specs.Layout.{commit_body, BeginsBody, SpellsCommit}
@@ -24,7 +24,7 @@ pub record IsWrittenCommit (bytes : List ℕ) (c : CommitData) : Type 0 where
 -- the payloads, one after another, are the body of this commit and zeros
 pub record SpellsFilled (payloads : List ℕ) (c : CommitData) : Type 0 where
   pub body : List ℕ
-  pub same : payloads ≡ filled body
+  pub same : payloads ≡ padded_body body
   pub spells : SpellsCommit body c
 
 -- the payloads are the body of no commit
@@ -33,7 +33,8 @@ HasNoFilled payloads = (c : CommitData) → SpellsFilled payloads c → ⊥
 
 -- no body of a commit begins with these payloads
 abbrev pub IsNoCommitBody : List ℕ → Type 0
-IsNoCommitBody payloads = (c : CommitData) (body rest : List ℕ) → SpellsCommit body c → payloads ++ rest ≡ filled body
+IsNoCommitBody payloads = (c : CommitData) (body rest : List ℕ) → SpellsCommit body c
+    → payloads ++ rest ≡ padded_body body
     → ⊥
 
 -- the first page of a Commit file asks for the pages of the body that it begins

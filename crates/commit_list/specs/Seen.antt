@@ -3,8 +3,8 @@ use Rattle.commit_list.specs.declared.commits.Commit.TheInside.{Inside}
 use Rattle.commit_list.specs.Commits.{CommitData}
 
 -- its numbers and its list
-abbrev pub seen : Inside → CommitData
-seen c =
+abbrev pub commit_data : Inside → CommitData
+commit_data c =
     record {
       dims = c.dims;
       leaf = c.leaf;

@@ -26,11 +26,11 @@ impl Model for Commit {
 
     ghost Value = { CommitData };
 
-    ghost use Rattle.commit_list.specs.Seen.{seen};
+    ghost use Rattle.commit_list.specs.Seen.{commit_data};
 
-    ghost view = { seen };
+    ghost view = { commit_data };
 
-    ghost invariant = { λ c. IsCommit (seen c) };
+    ghost invariant = { λ c. IsCommit (commit_data c) };
 }
 
 impl Commit {

@@ -9,16 +9,16 @@ use Rattle.script_lang.specs.declared.faults.LineFault.{LineFault}
 use Rattle.script_lang.specs.declared.faults.LineFault.TheVariants as fault
 use Rattle.script_lang.proofs.Limits.{text_remembers}
 use Rattle.script_lang.specs.Lines.{lines_of, words_of}
-use Rattle.script_lang.specs.Parts.{Takes, left}
+use Rattle.script_lang.specs.Parts.{Takes, words_left}
 use Rattle.script_lang.specs.declared.words.Words.{Words}
 use Rattle.point_counts.specs.Grids.{plan_of}
-use Rattle.count_queries.specs.Asks.{Ask, Grid, Reading, Says, Fails, on_success, read_counts, read_grid, read_points, read_verb, read_words}
+use Rattle.count_queries.specs.Asks.{Ask, Grid, CountReading, Says, Fails, on_success, read_counts, read_grid, read_points, read_verb, read_words}
 
 -- a part of a line, and a line, that has no such fault; records, so that what they speak of is found
 record IsPart {X : Type 0} (part : Result X LineFault) : Type 0 where
   other : (f : LineFault) → part ≡ Err f → f ≢ fault.Memory
 
-record IsFine (reading : Reading) : Type 0 where
+record IsFine (reading : CountReading) : Type 0 where
   other : (f : LineFault) → reading ≡ Fails f → f ≢ fault.Memory
 
 there : {X : Type 0} (x : X) → IsPart (Ok x)
@@ -33,7 +33,7 @@ says ask = record { other = λ f e. cc }
 fails : (f : LineFault) → f ≢ fault.Memory → IsFine (Fails f)
 fails f h = record { other = λ g e. let same : f ≡ g = cc in subst (λ (x : LineFault). x ≢ fault.Memory) same h }
 
-if_fine : (b : Bool) {r s : Reading} → IsFine r → IsFine s → IsFine (cond b r s)
+if_fine : (b : Bool) {r s : CountReading} → IsFine r → IsFine s → IsFine (cond b r s)
 if_fine true held other = held
 if_fine false held other = other
 
@@ -44,7 +44,7 @@ if_part false held other = other
 fault_of : {X : Type 0} (f : LineFault) → IsPart {X = X} (Err f) → f ≢ fault.Memory
 fault_of f part = part.other f refl
 
-given_fine : {X : Type 0} {part : Result X LineFault} {next : X → Reading} → IsPart part → ((x : X) → IsFine (next x)) → IsFine (on_success part next)
+given_fine : {X : Type 0} {part : Result X LineFault} {next : X → CountReading} → IsPart part → ((x : X) → IsFine (next x)) → IsFine (on_success part next)
 given_fine {X} {part = Ok x} {next} p fine = fine x
 given_fine {X} {part = Err f} {next} p fine = fails f (fault_of f p)
 
@@ -108,7 +108,7 @@ no_memory dims line f e = (given_fine (text_part line) (λ text. words_fine dims
 
 -- ---- the words of a grid
 
-abbrev pub grid_from : (a b c d : ℕ) → List ℤ × List ℤ → Reading
+abbrev pub grid_from : (a b c d : ℕ) → List ℤ × List ℤ → CountReading
 grid_from a b c d ends = Says (Grid (plan_of ends.0 ends.1 a b c d))
 
 given_four : (a b c d : Result ℕ LineFault) (w x y z : ℕ) (box : Result (List ℤ × List ℤ) LineFault) → Ok w ≡ a → Ok x ≡ b → Ok y ≡ c → Ok z ≡ d
@@ -127,7 +127,7 @@ grid_read D place words x step_x y step_y ends a b c d is long six p q r s =
     (given_four (value_of number 2 x) (value_of number 3 step_x) (value_of number 4 y) (value_of number 5 step_y) a b c d (box_of D 6 ends) p q r s)
 
 -- four words are taken off
-pub words_four : {a b c d : List ℕ} {v w x y z : Words} → Takes a v w → Takes b w x → Takes c x y → Takes d y z → left v ≡ a ∷ b ∷ c ∷ d ∷ left z
+pub words_four : {a b c d : List ℕ} {v w x y z : Words} → Takes a v w → Takes b w x → Takes c x y → Takes d y z → words_left v ≡ a ∷ b ∷ c ∷ d ∷ words_left z
 words_four {a} {b} {c} {d} {v} {w} {x} {y} {z} p q r s =
     p.words ∙ ap (λ ws. a ∷ ws) (q.words ∙ ap (λ ws. b ∷ ws) (r.words ∙ ap (λ ws. c ∷ ws) s.words))
 

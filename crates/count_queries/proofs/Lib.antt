@@ -1,4 +1,4 @@
-mod Asking
+pub mod Asking
 mod Counted
 mod Scoped
 mod Answering

@@ -21,7 +21,7 @@ use Rattle.stored_index.specs.Opening.{IsOpening, OpensIndex, segments_pages}
 use Rattle.stored_index.proofs.Pairwise.{partner_of}
 use Rattle.stored_index.proofs.Parts.{contents, head_in, heads_once, held_heads, held_sets}
 use Rattle.stored_index.proofs.Whole.{held_for}
-use Rattle.segment_view.specs.Parts.{AreRead, Contents, IsRead, Part, heads_of, live_in_parts, lives_of}
+use Rattle.segment_view.specs.LiveSegments.{AreRead, Contents, IsRead, LiveSegment, heads_of, live_in_parts, lives_of}
 use Rattle.segment_view.specs.Held.{HasOwnHead}
 use Rattle.index_opening.specs.Opened.{IsOpened}
 use Rattle.index_opening.proofs.Listed.{as_part, lives_map, opened_heads, opened_lives, parts_held}
@@ -38,7 +38,8 @@ pub record Holds (files : Files) (c : CommitData) (s : Scope) : Type 0 where
   pub state : s.state ≡ Some (index_of c docs)
   pub parts : s.parts ≡ map as_part holds.parts
 
-some_parts : (files : Files) (c : CommitData) (i : Index) (parts : List Part) → IsCommitFile (bytes_of (files Commit)) c → AreStoredParts files (Some i) parts
+some_parts : (files : Files) (c : CommitData) (i : Index) (parts : List LiveSegment) → IsCommitFile (bytes_of (files Commit)) c
+    → AreStoredParts files (Some i) parts
     → HaveHeads files c (heads_of parts) × HaveLive files c (lives_of parts)
 some_parts files c i parts says (e, is, heads, lives) =
     subst (λ (d : CommitData). HaveHeads files d (heads_of parts) × HaveLive files d (lives_of parts)) (one_file (bytes_of (files Commit)) e c is says)
@@ -81,7 +82,7 @@ scope_of files (Some i) stored =
 pub none_scope : (files : Files) (s : Scope) → files Commit ≡ None → IsScope files s → s ≡ bare
 none_scope files s none scope = by s.state s.parts scope.stored scope.parts
   where
-    by : (state : State) (parts : List Part) → IsStored files state → AreStoredParts files state parts
+    by : (state : State) (parts : List LiveSegment) → IsStored files state → AreStoredParts files state parts
         → ◌≡◌ {A = Scope} (record { state = state; parts = parts }) bare
     by None parts stored is = λ i. record { state = None; parts = is i }
     by (Some j) parts stored is = let there = (file_there (files Commit) stored.commit stored.holds.commit).0 in absurd cc
@@ -89,13 +90,13 @@ none_scope files s none scope = by s.state s.parts scope.stored scope.parts
 -- ---- segments that were opened
 
 -- their heads are those of their files
-pub own_heads : (T : Type 0) (D : ℕ) (files : Files) (c : CommitData) (parts : List Part) → T → c.dims ≡ D → AllZip (IsOpened T files c) c.listed parts
+pub own_heads : (T : Type 0) (D : ℕ) (files : Files) (c : CommitData) (parts : List LiveSegment) → T → c.dims ≡ D → AllZip (IsOpened T files c) c.listed parts
     → All (HasOwnHead D files) parts
 own_heads T D files c parts t dims opened =
     zip_right (IsOpened T files c) (Contains c.listed) (HasOwnHead D files) c.listed parts (λ s p there o. own s p (o.head t)) (All-contains_itself c.listed)
     opened
   where
-    own : (s : Listed) (p : Part) → HasHead c.dims files s p.head → HasOwnHead D files p
+    own : (s : Listed) (p : LiveSegment) → HasHead c.dims files s p.head → HasOwnHead D files p
     own s p h =
         subst (λ n. IsHeadOf n (bytes_of (files (Segment p.head.id))) p.head) dims
         (subst (λ id. IsHeadOf c.dims (bytes_of (files (Segment id))) p.head) (sym h.id) h.is)
@@ -109,7 +110,7 @@ entries_map es (d ∷ ds) all =
     ∙ ap (λ (xs : List Item). live_entries d ++ xs) (entries_map es ds (All-tail (λ (e : SegmentData). es e.head.id ≡ e.entries) d ds all))
 
 -- where an index is stored their files hold its documents
-module _ (D : ℕ) (files : Files) (c : CommitData) (parts : List Part) (s : Scope) (dims : c.dims ≡ D) (says : IsCommitFile (bytes_of (files Commit)) c)
+module _ (D : ℕ) (files : Files) (c : CommitData) (parts : List LiveSegment) (s : Scope) (dims : c.dims ≡ D) (says : IsCommitFile (bytes_of (files Commit)) c)
     (h : Holds files c s) where
   abbrev es : Contents
   es = entries_at h.holds.parts
@@ -143,7 +144,7 @@ module _ (D : ℕ) (files : Files) (c : CommitData) (parts : List Part) (s : Sco
     docs = subst (λ (xs : List Item). AreDocs c.next xs h.docs) (sym (ap (live_in_parts es) same ∙ entries_map es h.holds.parts by_id)) h.holds.are_docs;
   }
 
-pub opened_counting : (T : Type 0) (D : ℕ) (files : Files) (c : CommitData) (parts : List Part) (s : Scope) → T → c.dims ≡ D
+pub opened_counting : (T : Type 0) (D : ℕ) (files : Files) (c : CommitData) (parts : List LiveSegment) (s : Scope) → T → c.dims ≡ D
     → IsCommitFile (bytes_of (files Commit)) c → AllZip (IsOpened T files c) c.listed parts → IsScope files s
     → IsCounting D files parts s
 opened_counting T D files c parts s t dims says opened scope =

@@ -8,7 +8,7 @@ use Rattle.page_cache.specs.Evidence.{FaultShows}
 use Rattle.page_cache.proofs.Damages.{fault_weaker}
 use Rattle.index_model.specs.State.{State}
 use Rattle.stored_index.specs.Stored.{IsStored, IsUndefined}
-use Rattle.segment_view.specs.Parts.{Part}
+use Rattle.segment_view.specs.LiveSegments.{LiveSegment}
 use Rattle.index_opening.specs.Evidence.{IsEvident, IsTwice}
 use Rattle.index_opening.proofs.Evident.{evident_at}
 use Rattle.run_status.specs.Ends.{OnStopDamage}
@@ -27,10 +27,10 @@ stop_evident S T f g result less same = stop_weaker (IsEvident S f) (IsEvident T
 pub agrees_at : (old new : Files) (cache : PageCache) → new ≡ old → Agrees old cache → Agrees new cache
 agrees_at old new cache same = subst (λ (f : Files). Agrees f cache) (sym same)
 
-pub counting_at : (D : ℕ) (old new : Files) (parts : List Part) (s : Scope) → new ≡ old → IsCounting D old parts s → IsCounting D new parts s
+pub counting_at : (D : ℕ) (old new : Files) (parts : List LiveSegment) (s : Scope) → new ≡ old → IsCounting D old parts s → IsCounting D new parts s
 counting_at D old new parts s same = subst (λ (f : Files). IsCounting D f parts s) (sym same)
 
-pub true_at : (D : ℕ) (old new : Files) (parts : List Part) (before after : PageCache) → new ≡ old → (Agrees old before → Agrees new after)
+pub true_at : (D : ℕ) (old new : Files) (parts : List LiveSegment) (before after : PageCache) → new ≡ old → (Agrees old before → Agrees new after)
     → AreTrue D old parts before → AreTrue D new parts after
 true_at D old new parts before after same agrees h = (agrees h.0, (subst (λ (f : Files). AreTrue D f parts before) (sym same) h).1)
 

@@ -8,9 +8,9 @@ use Rattle.inner_pack.specs.Trees.{IndexTree}
 use Rattle.inner_pack.specs.Bodies.{HasTree}
 use Rattle.inner_pack.proofs.OneTree.{one_index}
 use Rattle.segment_file.specs.Segments.{IsSegment}
-use Rattle.segment_view.specs.Parts.{AreRead, Contents, IsRead, Part, live_in_parts}
+use Rattle.segment_view.specs.LiveSegments.{AreRead, Contents, IsRead, LiveSegment, live_in_parts}
 use Rattle.point_counts.specs.Grids.{IsGrid, Plan, number_in}
-use Rattle.point_counts.specs.Costs.{AreOpened, is_clean, is_parted, opened_below}
+use Rattle.point_counts.specs.Costs.{OpensLeaves, is_clean, is_parted, opened_below}
 use Rattle.point_counts.specs.declared.plan.Bucket.{Bucket}
 use Rattle.run_status.specs.Told.{IsTold}
 use Rattle.count_queries.specs.Texts.{buckets_text, points_text}
@@ -19,8 +19,8 @@ use Rattle.count_queries.specs.Counts.{InScope, IsCounting}
 use Rattle.count_queries.proofs.Counted.{grid_counted, points_counted}
 
 -- a segment that is read has one tree, so that it is known how many leaves are opened
-opened_there : (D : ℕ) (files : Files) (c : Contents) (bounds : Region) (test : Region → Bool) (parts : List Part) → AreRead D files c parts → (n : ℕ)
-    × AreOpened D bounds test parts n
+opened_there : (D : ℕ) (files : Files) (c : Contents) (bounds : Region) (test : Region → Bool) (parts : List LiveSegment) → AreRead D files c parts → (n : ℕ)
+    × OpensLeaves D bounds test parts n
 unfolding IsSegment
 opened_there D files c bounds test [] read = (0, refl)
 opened_there D files c bounds test (p ∷ ps) read =
@@ -32,11 +32,13 @@ opened_there D files c bounds test (p ∷ ps) read =
     (one_index D p.head.index.form p.head.index.leaves p.head.index.bytes here.root root here.tree t here.has has).1 in
     (opened_below (is_clean p) bounds test here.tree + rest.0, (opened_below (is_clean p) bounds test here.tree, rest.0, only, rest.1, refl))
 
-module _ (D : ℕ) (files : Files) (parts : List Part) (s : Scope) (before after : List ℕ) (none : List Item) (empty : none ≡ []) (e : IsCounting D files parts s)
+module _ (D : ℕ) (files : Files) (parts : List LiveSegment) (s : Scope) (before after : List ℕ) (none : List Item) (empty : none ≡ [])
+    (e : IsCounting D files parts s)
   where
-    opened_in : (bounds : Region) (test : Region → Bool) (n : ℕ) → AreOpened D bounds test parts n → AreOpened e.index.dims bounds test s.parts n
+    opened_in : (bounds : Region) (test : Region → Bool) (n : ℕ) → OpensLeaves D bounds test parts n → OpensLeaves e.index.dims bounds test s.parts n
     opened_in bounds test n opened =
-        subst (λ (ps : List Part). AreOpened e.index.dims bounds test ps n) (sym e.parts_are) (subst (λ m. AreOpened m bounds test parts n) (sym e.dims) opened)
+        subst (λ (ps : List LiveSegment). OpensLeaves e.index.dims bounds test ps n) (sym e.parts_are)
+            (subst (λ m. OpensLeaves m bounds test parts n) (sym e.dims) opened)
 
     pub points_told : (bounds : Region) (n : ℕ) → n ≡ number_in bounds (live_in_parts e.contents parts ++ none) → after ≡ before ++ points_text n
         → IsTold (λ t. InScope s (λ i u. TellsPoints i s.parts bounds u) t) before after false

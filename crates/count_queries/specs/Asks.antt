@@ -21,12 +21,12 @@ pub data Ask : Type 0 where
   Grid : (plan : Plan) → Ask
 
 -- what a line says: this may be asked of an index, which may not have such a grid, or it has a fault
-pub data Reading : Type 0 where
-  Says : (ask : Ask) → Reading
-  Fails : (fault : LineFault) → Reading
+pub data CountReading : Type 0 where
+  Says : (ask : Ask) → CountReading
+  Fails : (fault : LineFault) → CountReading
 
 -- what is read from a part of a line, or that part's fault
-abbrev pub on_success : {X : Type 0} → Result X LineFault → (X → Reading) → Reading
+abbrev pub on_success : {X : Type 0} → Result X LineFault → (X → CountReading) → CountReading
 on_success (Ok x) next = next x
 on_success (Err f) next = Fails f
 
@@ -34,11 +34,11 @@ abbrev pub box_from : List ℤ × List ℤ → Region
 box_from ends = record { lo = ends.0; hi = ends.1 }
 
 -- `LO HI`, all coordinates of the lower corner and then those of the upper one
-unfoldable pub read_points : ℕ → List (List ℕ) → Reading
+unfoldable pub read_points : ℕ → List (List ℕ) → CountReading
 read_points dims words = on_success (box_of dims 2 words) (λ ends. Says (Points (box_from ends)))
 
 -- `X STEPX Y STEPY LO HI`
-unfoldable pub read_grid : ℕ → List (List ℕ) → Reading
+unfoldable pub read_grid : ℕ → List (List ℕ) → CountReading
 read_grid dims (x ∷ step_x ∷ y ∷ step_y ∷ ends) =
     if length ends == 2 * dims then
     on_success (value_of number 2 x) (λ x. on_success (value_of number 3 step_x) (λ step_x.
@@ -48,7 +48,7 @@ read_grid dims (x ∷ step_x ∷ y ∷ step_y ∷ ends) =
 read_grid dims _ = Fails fault.Words
 
 -- by its first word and the others; where no index is there (None), nothing can be counted
-unfoldable pub read_verb : Option ℕ → List ℕ → List (List ℕ) → Reading
+unfoldable pub read_verb : Option ℕ → List ℕ → List (List ℕ) → CountReading
 read_verb None verb words = Fails fault.NoIndex
 read_verb (Some dims) verb words =
     if bytes_eq verb (codes "points") then read_points dims words
@@ -56,10 +56,10 @@ read_verb (Some dims) verb words =
     else Fails fault.Unknown
 
 -- a line without words asks nothing, nor does one whose first word begins with '#'
-abbrev pub read_words : Option ℕ → List (List ℕ) → Reading
+abbrev pub read_words : Option ℕ → List (List ℕ) → CountReading
 read_words dims [] = Says Blank
 read_words dims (verb ∷ words) = if slice_index verb 0 == 35 then Says Blank else read_verb dims verb words
 
 -- a line of counts, read where an index of so many dimensions is there, or none
-unfoldable pub read_counts : Option ℕ → List ℕ → Reading
+unfoldable pub read_counts : Option ℕ → List ℕ → CountReading
 read_counts dims line = on_success (text_of line) (λ text. read_words dims (words_of text))

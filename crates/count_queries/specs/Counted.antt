@@ -13,24 +13,24 @@ use Rattle.commit_list.specs.CommitFiles.{IsCommitFile}
 use Rattle.script_lang.specs.Replies.{line_fault_text, refusal_text}
 use Rattle.index_model.specs.State.{Index, State}
 use Rattle.stored_index.specs.Stored.{HaveHeads, HaveLive, IsStored}
-use Rattle.segment_view.specs.Parts.{Part, heads_of, lives_of}
+use Rattle.segment_view.specs.LiveSegments.{LiveSegment, heads_of, lives_of}
 use Rattle.point_counts.specs.Grids.{IsGrid, Judges, Plan}
-use Rattle.point_counts.specs.Costs.{AreOpened, is_parted}
+use Rattle.point_counts.specs.Costs.{OpensLeaves, is_parted}
 use Rattle.point_counts.specs.declared.plan.Bucket.{Bucket}
 use Rattle.point_counts.specs.declared.plan.GridFault.{GridFault}
 use Rattle.run_status.specs.Told.{Told, silence, refusal}
 use Rattle.count_queries.specs.Texts.{buckets_text, grid_fault_text, points_text}
-use Rattle.count_queries.specs.Asks.{Ask, Blank, Points, Grid, Reading, Says, Fails, read_counts}
+use Rattle.count_queries.specs.Asks.{Ask, Blank, Points, Grid, CountReading, Says, Fails, read_counts}
 
 -- ---- what is looked at
 
 -- the state that the files store, and its segments with their live numbers
 pub record Scope : Type 0 where
   pub state : State
-  pub parts : List Part
+  pub parts : List LiveSegment
 
 -- these are the segments that the commit lists, as their files have them; without a commit there is none
-abbrev pub AreStoredParts : Files → State → List Part → Type 0
+abbrev pub AreStoredParts : Files → State → List LiveSegment → Type 0
 AreStoredParts files None parts = parts ≡ []
 AreStoredParts files (Some i) parts =
     (c : CommitData) × IsCommitFile (bytes_of (files Commit)) c × HaveHeads files c (heads_of parts)
@@ -53,16 +53,16 @@ points_in bounds docs = sum_by (λ d. count_by (in_box bounds) d.points) docs
 -- ---- a line
 
 -- of a box: it touches the leaves that may be read
-pub record TellsPoints (i : Index) (parts : List Part) (bounds : Region) (t : Told) : Type 0 where
-  pub touches : AreOpened i.dims bounds (crosses bounds) parts t.touched
+pub record TellsPoints (i : Index) (parts : List LiveSegment) (bounds : Region) (t : Told) : Type 0 where
+  pub touches : OpensLeaves i.dims bounds (crosses bounds) parts t.touched
   pub text : t.text ≡ points_text (points_in bounds i.docs)
   pub done : t.refused ≡ 0
 
 -- of a plan: its buckets that have a point of a document
-pub record TellsBuckets (i : Index) (parts : List Part) (plan : Plan) (t : Told) : Type 0 where
+pub record TellsBuckets (i : Index) (parts : List LiveSegment) (plan : Plan) (t : Told) : Type 0 where
   pub buckets : List Bucket
   pub grid : IsGrid plan (entries_in i.docs) buckets
-  pub touches : AreOpened i.dims plan.bounds (is_parted plan) parts t.touched
+  pub touches : OpensLeaves i.dims plan.bounds (is_parted plan) parts t.touched
   pub text : t.text ≡ buckets_text buckets
   pub done : t.refused ≡ 0
 
@@ -72,18 +72,18 @@ RefusesGrid i line plan t =
     (f : GridFault) × Judges i.dims plan (Err f) × (t ≡ refusal (refusal_text line (grid_fault_text f)))
 
 -- of an ask over an index
-abbrev pub TellsOn : Index → List Part → (line : ℕ) → Ask → Told → Type 0
+abbrev pub TellsOn : Index → List LiveSegment → (line : ℕ) → Ask → Told → Type 0
 TellsOn i parts line Blank t = t ≡ silence
 TellsOn i parts line (Points bounds) t = TellsPoints i parts bounds t
 TellsOn i parts line (Grid plan) t =
     RefusesGrid i line plan t ⊎ (Judges i.dims plan (Ok plan) × TellsBuckets i parts plan t)
 
 -- without an index there is nothing to tell
-abbrev pub TellsIn : State → List Part → (line : ℕ) → Ask → Told → Type 0
+abbrev pub TellsIn : State → List LiveSegment → (line : ℕ) → Ask → Told → Type 0
 TellsIn None parts line ask t = t ≡ silence
 TellsIn (Some i) parts line ask t = TellsOn i parts line ask t
 
-abbrev pub TellsReading : Scope → (line : ℕ) → Reading → Told → Type 0
+abbrev pub TellsReading : Scope → (line : ℕ) → CountReading → Told → Type 0
 TellsReading s line (Says ask) t = TellsIn s.state s.parts line ask t
 TellsReading s line (Fails fault) t = t ≡ refusal (line_fault_text line fault)
 

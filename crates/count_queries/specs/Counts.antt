@@ -10,14 +10,14 @@ use Rattle.commit_list.specs.Commits.{CommitData}
 use Rattle.documents.specs.Entries.{AreDocs}
 use Rattle.index_model.specs.State.{Index}
 use Rattle.stored_index.specs.Opening.{IsOpening, segments_pages}
-use Rattle.segment_view.specs.Parts.{AreRead, Contents, Part, heads_of, live_in_parts}
+use Rattle.segment_view.specs.LiveSegments.{AreRead, Contents, LiveSegment, heads_of, live_in_parts}
 use Rattle.segment_view.specs.Held.{HasOwnHead}
 use Rattle.index_opening.specs.Evidence.{IsEvident}
 use Rattle.run_status.specs.Told.{IsTold, Told, TellsLines}
 use Rattle.count_queries.specs.Counted.{IsScope, Scope, TellsCount}
 
 -- these segments with these files hold the documents of the index that is looked at
-pub record IsCounting (D : ℕ) (files : Files) (parts : List Part) (s : Scope) : Type 0 where
+pub record IsCounting (D : ℕ) (files : Files) (parts : List LiveSegment) (s : Scope) : Type 0 where
   pub index : Index
   pub state : s.state ≡ Some index
   pub dims : index.dims ≡ D
@@ -32,11 +32,11 @@ abbrev pub InScope : Scope → (Index → Told → Type 0) → Told → Type 0
 InScope s tells t = (i : Index) × (s.state ≡ Some i) × tells i t
 
 -- the kept pages agree with the files, and the heads are theirs
-abbrev pub AreTrue : ℕ → Files → List Part → PageCache → Type 0
+abbrev pub AreTrue : ℕ → Files → List LiveSegment → PageCache → Type 0
 AreTrue D files parts cache = Agrees files cache × All (HasOwnHead D files) parts
 
 -- between two lines: the files, the kept pages, the folder's reads and faults, and the text
-pub record Place : Type 0 where
+pub record CountMoment : Type 0 where
   pub files : Files
   pub cache : PageCache
   pub reads : ℕ
@@ -45,7 +45,8 @@ pub record Place : Type 0 where
 
 -- from the one place to the other it is told what there is to tell, no file changes, and no more is read than leaves
 -- that are touched
-pub record Answers (D : ℕ) (told : Type 0) (parts : List Part) (tells : Scope → Told → Type 0) (old new : Place)
+pub record CountsLine (D : ℕ) (told : Type 0) (parts : List LiveSegment) (tells : Scope → Told → Type 0)
+    (old new : CountMoment)
     (result : Result Bool PageFault) : Type 0 where
   pub does : told → Agrees old.files old.cache → (s : Scope) → IsCounting D old.files parts s
       → IfOk result (IsTold (tells s) old.text new.text)

@@ -6,7 +6,7 @@ ghost use Rattle.run_status.specs.Told.{IsTold};
 ghost use Rattle.count_queries.specs.Asks.{box_from};
 ghost use Rattle.count_queries.specs.Counted.{TellsBuckets, TellsCount, TellsPoints, bare};
 ghost use Rattle.count_queries.specs.Texts.{grid_fault_text};
-ghost use Rattle.count_queries.specs.Counts.{Answers, InScope};
+ghost use Rattle.count_queries.specs.Counts.{CountsLine, InScope};
 
 use crate::lines::{CountFault, CountLine, read_count_line};
 use crate::texts::{put_buckets, put_grid_fault, put_points};
@@ -31,7 +31,7 @@ pub(crate) fn answer_line<const D: usize, F: Pages>(
 ) -> Result<bool, PageFault>
     requires some { 1 ≤ D }
     requires few { D ≤ 8 }
-    ensures { Answers D (IsTrue F.told) segments.now (λ s t. TellsCount s number line.now t)
+    ensures { CountsLine D (IsTrue F.told) segments.now (λ s t. TellsCount s number line.now t)
         (record {
           files = F.files folder.old;
           cache = cache.old;
@@ -85,7 +85,7 @@ fn answer_points<const D: usize, F: Pages>(
     hi: &Point<D>,
     reply: &mut Vec<u8>,
 ) -> Result<bool, PageFault>
-    ensures { Answers D (IsTrue F.told) segments.now
+    ensures { CountsLine D (IsTrue F.told) segments.now
         (λ s t. InScope s (λ i u. TellsPoints i s.parts (box_from (lo.now.c, hi.now.c)) u) t)
         (record {
           files = F.files folder.old;
@@ -118,7 +118,7 @@ fn answer_grid<const D: usize, F: Pages>(
     plan: &GridPlan<D>,
     reply: &mut Vec<u8>,
 ) -> Result<bool, PageFault>
-    ensures { Answers D (IsTrue F.told) segments.now (λ s t. InScope s (λ i u. TellsBuckets i s.parts plan.now u) t)
+    ensures { CountsLine D (IsTrue F.told) segments.now (λ s t. InScope s (λ i u. TellsBuckets i s.parts plan.now u) t)
         (record {
           files = F.files folder.old;
           cache = cache.old;

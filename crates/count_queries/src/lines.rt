@@ -2,7 +2,7 @@
 
 ghost use Rattle.std.specs.Prelude.{◌≤◌, Some};
 ghost use Rattle.count_queries.specs.Asks.{read_counts};
-ghost use Rattle.count_queries.specs.Seen.{IsRead};
+ghost use Rattle.count_queries.specs.Seen.{IsReadLine};
 
 use crate::wanted::{Wanted, read_wanted};
 use point_codec::Point;
@@ -34,7 +34,7 @@ pub enum CountFault {
 pub fn read_count_line<const D: usize>(b: &[u8]) -> Result<CountLine<D>, CountFault>
     requires some { 1 ≤ D }
     requires few { D ≤ 8 }
-    ensures { IsRead D result (read_counts (Some D) b.now) }
+    ensures { IsReadLine D result (read_counts (Some D) b.now) }
 {
     match read_wanted(b) {
         Ok(Wanted::Blank) => Ok(CountLine::Blank),

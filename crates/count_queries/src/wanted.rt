@@ -1,7 +1,7 @@
 //! The words of a line of counts.
 
 ghost use Rattle.std.specs.Prelude.{◌≡◌, ◌≤◌, None, Some};
-ghost use Rattle.script_lang.specs.Parts.{left};
+ghost use Rattle.script_lang.specs.Parts.{words_left};
 ghost use Rattle.count_queries.specs.Asks.{read_counts, read_grid, read_points, read_verb};
 ghost use Rattle.count_queries.specs.Seen.{bare_reading, reading_of};
 
@@ -56,7 +56,7 @@ fn behind_verb<const D: usize>(verb: &str, words: Words<'_>) -> Result<Wanted<D>
     requires some { 1 ≤ D }
     requires few { D ≤ 8 }
     requires second { words.place ≡ 2 }
-    ensures { reading_of result ≡ read_verb (Some D) verb.now (left words.entry) }
+    ensures { reading_of result ≡ read_verb (Some D) verb.now (words_left words.entry) }
 {
     if verb == "points" {
         return points(words);
@@ -73,7 +73,7 @@ fn points<const D: usize>(words: Words<'_>) -> Result<Wanted<D>, LineFault>
     requires some { 1 ≤ D }
     requires few { D ≤ 8 }
     requires second { words.place ≡ 2 }
-    ensures { reading_of result ≡ read_points D (left words.entry) }
+    ensures { reading_of result ≡ read_points D (words_left words.entry) }
 {
     let (lo, hi) = box_at(words)?;
     Ok(Wanted::Points { lo, hi })
@@ -85,7 +85,7 @@ fn grid<const D: usize>(mut words: Words<'_>) -> Result<Wanted<D>, LineFault>
     requires some { 1 ≤ D }
     requires few { D ≤ 8 }
     requires second { words.place ≡ 2 }
-    ensures { reading_of result ≡ read_grid D (left words.entry) }
+    ensures { reading_of result ≡ read_grid D (words_left words.entry) }
 {
     let Some(x) = words.next() else {
         return Err(LineFault::Words);

@@ -6,10 +6,10 @@ use Rattle.document_checks.specs.declared.told.Misplaced.{Misplaced}
 use Rattle.document_checks.specs.declared.told.Misplaced.TheVariants.{Beyond, Doubled}
 
 -- the number is live in one set at most, and from the next number on in none
-abbrev pub IsPlaced : ℕ → List LiveSet → ℕ → Type 0
-IsPlaced next sets number = (places number sets ≤ 1) × (next ≤ number → places number sets ≡ 0)
+abbrev pub IsPlacedOnce : ℕ → List LiveSet → ℕ → Type 0
+IsPlacedOnce next sets number = (places number sets ≤ 1) × (next ≤ number → places number sets ≡ 0)
 
 -- the number is live from the next number on, or below it in two sets, and each lesser number stands where it may
 abbrev pub IsLeastMisplaced : ℕ → List LiveSet → Misplaced → Type 0
-IsLeastMisplaced next sets (Beyond n) = (next ≤ n) × (1 ≤ places n sets) × ((m : ℕ) → m < n → IsPlaced next sets m)
-IsLeastMisplaced next sets (Doubled n) = (n < next) × (2 ≤ places n sets) × ((m : ℕ) → m < n → IsPlaced next sets m)
+IsLeastMisplaced next sets (Beyond n) = (next ≤ n) × (1 ≤ places n sets) × ((m : ℕ) → m < n → IsPlacedOnce next sets m)
+IsLeastMisplaced next sets (Doubled n) = (n < next) × (2 ≤ places n sets) × ((m : ℕ) → m < n → IsPlacedOnce next sets m)

@@ -4,7 +4,7 @@ ghost use Rattle.std.specs.Prelude.{◌≡◌, ◌<◌, ◌≤◌, ◌*◌, ◌^
 ghost use Rattle.live_bits.specs.LiveSet.{is_live};
 ghost use Rattle.stored_index.specs.Segments.{places};
 ghost use Rattle.document_checks.specs.Marks.{is_marked};
-ghost use Rattle.document_checks.specs.Placed.{IsPlaced, IsLeastMisplaced};
+ghost use Rattle.document_checks.specs.Placed.{IsPlacedOnce, IsLeastMisplaced};
 
 use crate::Memory;
 use crate::marks::mark_word;
@@ -20,7 +20,7 @@ const LIMIT: u32 = 1 << 24;
 /// memory of a bit for each number below `next`.
 pub fn misplaced(alloc: Global, lives: &[LiveBits], next: u32) -> Result<Option<Misplaced>, Memory>
     requires { next ≤ 2 ^ 24 }
-    ensures none { IfOk result (λ r. IfNone r ((number : ℕ) → IsPlaced next lives.now number)) }
+    ensures none { IfOk result (λ r. IfNone r ((number : ℕ) → IsPlacedOnce next lives.now number)) }
     ensures some { IfOk result (λ r. IfSome r (IsLeastMisplaced next lives.now)) }
 {
     let mut marks = vec![in alloc; 0u64; next.div_ceil(64) as usize]?;

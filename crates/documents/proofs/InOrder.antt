@@ -12,6 +12,7 @@ use Rattle.std.proofs.lemmas.List.Elements.{All-nil, All-cons}
 use Rattle.std.proofs.lemmas.List.Kept.{AllPairs-cons}
 use Rattle.std.proofs.lemmas.Map.Views.{Contains-from_any, list_any-from_Contains, tells_apart}
 use Rattle.point_codec.specs.Order.{in_order}
+use Rattle.point_codec.proofs.Ordered.{marked, unmarked}
 
 first : (a b : Bool) → T (a && b) → T a
 first true b h = tt
@@ -25,13 +26,6 @@ less : (r : Ordering) → T (is_lt r) → r ≡ Less
 less Less h = refl
 less Equal h = absurd h
 less Greater h = absurd h
-
-abbrev marked : {K : Type 0} → List K → List (K × Unit {0})
-marked ps = map (λ p. (p, tt)) ps
-
-unmarked : {K : Type 0} (ps : List K) → map (λ e. e.0) (marked ps) ≡ ps
-unmarked [] = refl
-unmarked (p ∷ ps) = ap (λ qs. p ∷ qs) (unmarked ps)
 
 module _ {K : Type 0} (R : K → K → Ordering) (o : IsTotalOrder R) (exact : IsAntisymmetric R) where
   all_below : (k : K) (es : List (K × Unit {0})) → T (below_all R k es) → All (λ b. R k b ≡ Less) (map (λ e. e.0) es)

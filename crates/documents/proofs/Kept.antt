@@ -13,7 +13,7 @@ use Rattle.std.proofs.lemmas.List.Quantifiers.{all_pairs_push}
 use Rattle.std.proofs.lemmas.List.Sorted.{IsPermutation-refl, IsPermutation-sym, IsPermutation-trans}
 use Rattle.std.proofs.lemmas.List.Sorted.{IsPermutation-append_left, length_permutation, list_any-IsPermutation}
 use Rattle.point_codec.specs.Points.{Item, ArePoints}
-use Rattle.documents.specs.Documents.{Document, Ascend, deleted, hits, is_live, passes, without}
+use Rattle.documents.specs.Documents.{Document, Ascend, docs_without, hits, is_live, passes, docs_failing}
 use Rattle.documents.specs.Entries.{AreDocs, entries_but, entries_in, entries_of, entry_of, has_entry, is_among}
 use Rattle.documents.proofs.Lists.{cons_cases, cons_head, cons_tail, filter_alike, filter_twice}
 use Rattle.documents.proofs.Lists.{in_filter, in_map, nil_none, of_filter, of_map, pairs_head, pairs_tail}
@@ -101,7 +101,7 @@ kept n xs docs keeps are = record {
       (permuted_filter (λ x. keeps x.doc) xs (entries_in docs) are.same);
 }
 
-pub but_one : (n : ℕ) (xs : List Item) (docs : List Document) (number : ℕ) → AreDocs n xs docs → AreDocs n (entries_but number xs) (deleted number docs)
+pub but_one : (n : ℕ) (xs : List Item) (docs : List Document) (number : ℕ) → AreDocs n xs docs → AreDocs n (entries_but number xs) (docs_without number docs)
 but_one n xs docs number are = kept n xs docs (λ m. not (eqb m number)) are
 
 pub among_from : (numbers : List ℕ) (m : ℕ) → Contains numbers m → is_among numbers m ≡ true
@@ -122,7 +122,7 @@ among_to (k ∷ ks) m h = elim (cases_Bool (eqb k m)) [
   | inr e ↦ cons_tail k ks m (among_to ks m (sym (ap (λ b. b || is_among ks m) e) ∙ h))
 ]
 
-same_tests : (b c : Bool) → (b ≡ true → c ≡ true) → (c ≡ true → b ≡ true) → b ≡ c
+pub same_tests : (b c : Bool) → (b ≡ true → c ≡ true) → (c ≡ true → b ≡ true) → b ≡ c
 same_tests true c f g = sym (f refl)
 same_tests false true f g = g refl
 same_tests false false f g = refl
@@ -138,7 +138,7 @@ among_hits test docs up d h = same_tests _ _
     (λ p. among_from (hits test docs) d.number (in_map (λ (e : Document). e.number) (filter (passes test) docs) d (in_filter (passes test) docs d h p)))
 
 pub but_hits : (n : ℕ) (xs : List Item) (docs : List Document) (test : List ℤ → Bool) → AreDocs n xs docs
-    → AreDocs n (filter (λ (x : Item). not (is_among (hits test docs) x.doc)) xs) (without test docs)
+    → AreDocs n (filter (λ (x : Item). not (is_among (hits test docs) x.doc)) xs) (docs_failing test docs)
 but_hits n xs docs test are =
     subst (λ (ds : List Document). AreDocs n (filter (λ (x : Item). not (is_among (hits test docs) x.doc)) xs) ds)
     (filter_alike (λ (d : Document). not (is_among (hits test docs) d.number)) (λ d. not (passes test d)) docs

@@ -21,13 +21,13 @@ abbrev pub hits : (List ℤ → Bool) → List Document → List ℕ
 hits test docs = map (λ d. d.number) (filter (passes test) docs)
 
 -- the documents that don't pass
-abbrev pub without : (List ℤ → Bool) → List Document → List Document
-without test docs = filter (λ d. not (passes test d)) docs
+abbrev pub docs_failing : (List ℤ → Bool) → List Document → List Document
+docs_failing test docs = filter (λ d. not (passes test d)) docs
 
 -- a document of this number is in the list
 abbrev pub is_live : ℕ → List Document → Bool
 is_live number docs = list_any (λ d. nat_eq d.number number) docs
 
 -- the documents of other numbers
-abbrev pub deleted : ℕ → List Document → List Document
-deleted number docs = filter (λ d. not (nat_eq d.number number)) docs
+abbrev pub docs_without : ℕ → List Document → List Document
+docs_without number docs = filter (λ d. not (nat_eq d.number number)) docs

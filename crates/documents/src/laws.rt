@@ -5,7 +5,7 @@ ghost use Rattle.std.specs.Prelude.{sum_by};
 ghost use Rattle.std.specs.List.Sorted.{IsPermutation, IsStrictlyIncreasing};
 ghost use Rattle.point_codec.specs.Points.{Item, ArePoints};
 ghost use Rattle.point_codec.specs.declared.entries.Near.{Near};
-ghost use Rattle.documents.specs.Documents.{Document, deleted, hits, is_live, without};
+ghost use Rattle.documents.specs.Documents.{Document, docs_without, hits, is_live, docs_failing};
 ghost use Rattle.documents.specs.Entries.{AreDocs, MakeDocs, SameTotals, entries_but, entries_of, has_entry, is_among};
 ghost use Rattle.documents.specs.Entries.{numbers_found};
 ghost use Rattle.documents.specs.Nearest.{found_of, nearest};
@@ -50,9 +50,9 @@ pub fn docs_kept()
     ensures kept { (n : ℕ) (xs : List Item) (docs : List Document) (keeps : ℕ → Bool) → AreDocs n xs docs
         → AreDocs n (filter (λ x. keeps x.doc) xs) (filter (λ d. keeps d.number) docs) }
     ensures deleted { (n : ℕ) (xs : List Item) (docs : List Document) (number : ℕ) → AreDocs n xs docs
-        → AreDocs n (entries_but number xs) (deleted number docs) }
+        → AreDocs n (entries_but number xs) (docs_without number docs) }
     ensures without { (n : ℕ) (xs : List Item) (docs : List Document) (test : List ℤ → Bool) → AreDocs n xs docs
-        → AreDocs n (filter (λ x. not (is_among (hits test docs) x.doc)) xs) (without test docs) }
+        → AreDocs n (filter (λ x. not (is_among (hits test docs) x.doc)) xs) (docs_failing test docs) }
 {}
 
 /// The numbers of the entries whose points pass, each once and ascending, are the hits.

@@ -7,14 +7,14 @@ use Rattle.std.proofs.lemmas.Bool.Decides.{nat_tests}
 use Rattle.std.proofs.lemmas.List.Elements.{All-contains, filter_agree}
 use Rattle.std.proofs.lemmas.List.FromFn.{get_or-map-range_with_len, length-map-range_with_len, map-range_with_len_more}
 use Rattle.std.proofs.lemmas.List.Sums.{fold-append}
-use Rattle.documents.specs.Documents.{Document, deleted}
+use Rattle.documents.specs.Documents.{Document, docs_without}
 use Rattle.documents.proofs.Lists.{filter_alike, filter_twice}
 use Rattle.script_lang.specs.Requests.{Request, Create, Add, Delete}
 use Rattle.index_model.specs.State.{Index, State, new_index}
-use Rattle.index_model.specs.Step.{Outcome, Done, Refused, added, step, step_on}
+use Rattle.index_model.specs.Step.{Outcome, Done, Refused, add_outcome, step, step_on}
 use Rattle.script_lang.specs.Replies.{doc_text}
 use Rattle.drawn_points.specs.Draws.{point}
-use Rattle.drawn_points.specs.Generated.{adds, after, deletes, document, documents, kept, left_by, made, requests, stays}
+use Rattle.drawn_points.specs.Generated.{adds, after, deletes, document, documents, kept_docs, left_by, made_state, requests, stays}
 
 -- ---- documents that are added
 
@@ -43,10 +43,10 @@ all_added seed (suc n) few =
 -- ---- documents that go
 
 all_deleted : (i : Index) (numbers : List ℕ)
-    → fold after (Some i) (map Delete numbers) ≡ Some (record i { docs = fold (λ docs n. deleted n docs) i.docs numbers })
+    → fold after (Some i) (map Delete numbers) ≡ Some (record i { docs = fold (λ docs n. docs_without n docs) i.docs numbers })
 unfolding step_on
 all_deleted i [] = refl
-all_deleted i (n ∷ ns) = all_deleted (record i { docs = deleted n i.docs }) ns
+all_deleted i (n ∷ ns) = all_deleted (record i { docs = docs_without n i.docs }) ns
 
 -- the number is not among the multiples of 10 from a on, n numbers in all
 abbrev apart : ℕ → ℕ → Document → Bool
@@ -71,18 +71,18 @@ filter_all p passes [] = refl
 filter_all p passes (d ∷ ds) = cond-true (p d) _ _ (passes d) ∙ ap (λ (rest : List Document). d ∷ rest) (filter_all p passes ds)
 
 tenths_deleted : (a n : ℕ) (docs : List Document)
-    → fold (λ docs n. deleted n docs) docs (filter (λ i. i % 10 == 0) (range_with_len a n)) ≡ filter (apart a n) docs
+    → fold (λ docs n. docs_without n docs) docs (filter (λ i. i % 10 == 0) (range_with_len a n)) ≡ filter (apart a n) docs
 tenths_deleted a zero docs = sym (filter_all (apart a 0) (λ d. apart_none a d.number) docs)
 tenths_deleted a (suc n) docs = go (a % 10 == 0) refl (λ later. tenths_deleted (a + 1) n later)
   where
     go : (b : Bool) → (a % 10 == 0) ≡ b
         → ((later : List Document)
-        → fold (λ docs n. deleted n docs) later (filter (λ i. i % 10 == 0) (range_with_len (a + 1) n)) ≡ filter (apart (a + 1) n) later)
-        → fold (λ docs n. deleted n docs) docs
+        → fold (λ docs n. docs_without n docs) later (filter (λ i. i % 10 == 0) (range_with_len (a + 1) n)) ≡ filter (apart (a + 1) n) later)
+        → fold (λ docs n. docs_without n docs) docs
         (cond b (a ∷ filter (λ i. i % 10 == 0) (range_with_len (a + 1) n)) (filter (λ i. i % 10 == 0) (range_with_len (a + 1) n)))
         ≡ filter (apart a (suc n)) docs
     go true is rest =
-        rest (deleted a docs)
+        rest (docs_without a docs)
         ∙ (filter_twice (apart (a + 1) n) (λ d. not (nat_eq d.number a)) docs
         ∙ filter_agree _ _ (λ d. apart_first a n d.number (eqb-true _ _ is)) docs)
     go false is rest = rest docs ∙ filter_agree _ _ (λ d. apart_other a n d.number (eqb-false _ _ is)) docs
@@ -90,8 +90,8 @@ tenths_deleted a (suc n) docs = go (a % 10 == 0) refl (λ later. tenths_deleted 
 -- ---- the index
 
 pub made_is : (seed n : ℕ) → n ≤ 2 ^ 24
-    → made seed n ≡ Some (record (new_index 2 333) { next = n; given = n; docs = kept n (documents seed n) })
-unfolding made
+    → made_state seed n ≡ Some (record (new_index 2 333) { next = n; given = n; docs = kept_docs n (documents seed n) })
+unfolding made_state
 made_is seed n few =
     fold-append after (Some (new_index 2 333)) (adds seed n) (deletes n)
     ∙ (ap (λ (s : State). fold after s (deletes n)) (all_added seed n few)
@@ -111,10 +111,10 @@ stays_more bound x tenth = grind (arith, nat_tests)
 stays_all : (n bound x : ℕ) → n ≤ bound → x < n → not (nat_lt x bound && x % 10 == 0) ≡ not (nat_lt x n && x % 10 == 0)
 stays_all n bound x above below = grind (arith, nat_tests)
 
-pub kept_none : (docs : List Document) → kept 0 docs ≡ docs
+pub kept_none : (docs : List Document) → kept_docs 0 docs ≡ docs
 kept_none docs = filter_all (stays 0) (λ d. stays_none d.number) docs
 
-pub kept_more : (bound : ℕ) (docs : List Document) → bound % 10 ≡ 0 → kept (bound + 10) docs ≡ deleted bound (kept bound docs)
+pub kept_more : (bound : ℕ) (docs : List Document) → bound % 10 ≡ 0 → kept_docs (bound + 10) docs ≡ docs_without bound (kept_docs bound docs)
 kept_more bound docs tenth =
     filter_agree _ _ (λ d. stays_more bound d.number tenth) docs
     ∙ sym (filter_twice (λ d. not (nat_eq d.number bound)) (stays bound) docs)
@@ -125,7 +125,7 @@ numbers_below seed n k d lt =
     let is : slice_index_or (documents seed n) k d ≡ document seed k = get_or-map-range_with_len (document seed) 0 n k k d below (omega arith) in
     subst (λ (e : Document). e.number < n) (sym is) below
 
-pub kept_all : (seed n bound : ℕ) → n ≤ bound → kept bound (documents seed n) ≡ kept n (documents seed n)
+pub kept_all : (seed n bound : ℕ) → n ≤ bound → kept_docs bound (documents seed n) ≡ kept_docs n (documents seed n)
 kept_all seed n bound above =
     filter_alike (stays bound) (stays n) (documents seed n)
     (λ d has. stays_all n bound d.number above (All-contains (λ (e : Document). e.number < n) (documents seed n) d (numbers_below seed n) has))

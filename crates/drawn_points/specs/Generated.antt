@@ -6,7 +6,7 @@ use Rattle.point_codec.specs.Points.{Region, in_box}
 use Rattle.documents.specs.Documents.{Document, hits}
 use Rattle.documents.specs.Nearest.{nearest}
 use Rattle.script_lang.specs.Requests.{Request, Create, Add, Delete}
-use Rattle.script_lang.specs.Replies.{ended}
+use Rattle.script_lang.specs.Replies.{text_line}
 use Rattle.index_model.specs.State.{Index, State, new_index}
 use Rattle.index_model.specs.Step.{Outcome, Done, Refused, step}
 use Rattle.index_model.specs.Script.{Answer}
@@ -34,8 +34,8 @@ deletes n = map Delete (filter (λ i. i % 10 == 0) (range_with_len 0 n))
 abbrev pub requests : ℕ → ℕ → List Request
 requests seed n = Create 2 333 ∷ adds seed n ++ deletes n
 
-unfoldable pub made : ℕ → ℕ → State
-made seed n = fold after None (requests seed n)
+unfoldable pub made_state : ℕ → ℕ → State
+made_state seed n = fold after None (requests seed n)
 
 abbrev pub docs_of : State → List Document
 docs_of None = []
@@ -58,14 +58,15 @@ near_sum docs targets = sum_by (λ target. sum_by (λ found. found.0) (nearest 1
 -- after the documents' points come those of 64 boxes, and then those of 16 queries
 abbrev pub summary : ℕ → ℕ → List Document → List ℕ
 summary seed n docs =
-    ended (codes "docs " ++ decimal n ++ codes " live " ++ decimal (length docs))
-    ++ ended (codes "box hits " ++ decimal (box_hits docs (points seed n 64)))
-    ++ ended (codes "nearest sum " ++ decimal (near_sum docs (points seed (n + 64) 16)))
+    text_line (codes "docs " ++ decimal n ++ codes " live " ++ decimal (length docs))
+    ++ text_line (codes "box hits " ++ decimal (box_hits docs (points seed n 64)))
+    ++ text_line (codes "nearest sum " ++ decimal (near_sum docs (points seed (n + 64) 16)))
 
 -- what is answered and left: an index is made only where none is
-unfoldable pub generated : State → ℕ → ℕ → Answer
-generated None n seed = record { state = made seed n; text = summary seed n (docs_of (made seed n)); refused = 0 }
-generated (Some i) n seed = record { state = Some i; text = ended (codes "index exists"); refused = 1 }
+unfoldable pub generate_answer : State → ℕ → ℕ → Answer
+generate_answer None n seed =
+    record { state = made_state seed n; text = summary seed n (docs_of (made_state seed n)); refused = 0 }
+generate_answer (Some i) n seed = record { state = Some i; text = text_line (codes "index exists"); refused = 1 }
 
 -- ---- the documents, said at once
 
@@ -79,5 +80,5 @@ documents seed n = map (document seed) (range_with_len 0 n)
 abbrev pub stays : ℕ → Document → Bool
 stays bound d = not (nat_lt d.number bound && d.number % 10 == 0)
 
-abbrev pub kept : ℕ → List Document → List Document
-kept bound docs = filter (stays bound) docs
+abbrev pub kept_docs : ℕ → List Document → List Document
+kept_docs bound docs = filter (stays bound) docs

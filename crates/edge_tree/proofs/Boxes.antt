@@ -5,7 +5,7 @@ use Rattle.std.proofs.lemmas.Bool.{or_cases, or_left, or_right, and_from}
 use Rattle.std.proofs.lemmas.Int.{ints}
 use Rattle.std.proofs.lemmas.List.Folds.{list_any_none}
 use Rattle.point_codec.specs.Points.{Region}
-use Rattle.ring_parity.specs.Edges.{Ends, x_of, y_of, are_beyond, is_disjoint, on, misses}
+use Rattle.ring_parity.specs.Edges.{EdgeEnds, x_of, y_of, are_beyond, is_disjoint, on, misses}
 use Rattle.ring_parity.specs.Rings.{is_on_any, any_meets}
 use Rattle.ring_parity.proofs.OneAnswer.{past}
 use Rattle.ring_parity.proofs.Rays.{misses_disjoint}
@@ -22,13 +22,13 @@ above a b lo hi p q =
     or_right (int_lt a lo && int_lt b lo) (int_lt hi a && int_lt hi b)
     (and_from (int_lt hi a) (int_lt hi b) (sym (omega (arith, ints))) (sym (omega (arith, ints))))
 
-across : (e : Ends) (cell : Region) → are_beyond (x_of e.0) (x_of e.1) (x_of cell.lo) (x_of cell.hi) ≡ true → is_disjoint e cell ≡ true
+across : (e : EdgeEnds) (cell : Region) → are_beyond (x_of e.0) (x_of e.1) (x_of cell.lo) (x_of cell.hi) ≡ true → is_disjoint e cell ≡ true
 across e cell h = or_left (are_beyond (x_of e.0) (x_of e.1) (x_of cell.lo) (x_of cell.hi)) (are_beyond (y_of e.0) (y_of e.1) (y_of cell.lo) (y_of cell.hi)) h
 
-along : (e : Ends) (cell : Region) → are_beyond (y_of e.0) (y_of e.1) (y_of cell.lo) (y_of cell.hi) ≡ true → is_disjoint e cell ≡ true
+along : (e : EdgeEnds) (cell : Region) → are_beyond (y_of e.0) (y_of e.1) (y_of cell.lo) (y_of cell.hi) ≡ true → is_disjoint e cell ≡ true
 along e cell h = or_right (are_beyond (x_of e.0) (x_of e.1) (x_of cell.lo) (x_of cell.hi)) (are_beyond (y_of e.0) (y_of e.1) (y_of cell.lo) (y_of cell.hi)) h
 
-pub apart_disjoint : (b : Bounds) (e : Ends) (cell : Region) → IsBoxed b e → is_apart b cell ≡ true → is_disjoint e cell ≡ true
+pub apart_disjoint : (b : Bounds) (e : EdgeEnds) (cell : Region) → IsBoxed b e → is_apart b cell ≡ true → is_disjoint e cell ≡ true
 apart_disjoint b e cell i h =
     ⊎_elim
     (λ (x : are_apart b.west b.east (x_of cell.lo) (x_of cell.hi) ≡ true).
@@ -48,11 +48,11 @@ apart_disjoint b e cell i h =
     (or_cases (are_apart b.west b.east (x_of cell.lo) (x_of cell.hi)) (are_apart b.south b.north (y_of cell.lo) (y_of cell.hi)) h)
 
 -- none of the edges in the box has the point, where the box is apart from it
-pub off_apart : (b : Bounds) (run : List Ends) (p : List ℤ) → All (IsBoxed b) run → is_apart b (record { lo = p; hi = p }) ≡ true → is_on_any run p ≡ false
+pub off_apart : (b : Bounds) (run : List EdgeEnds) (p : List ℤ) → All (IsBoxed b) run → is_apart b (record { lo = p; hi = p }) ≡ true → is_on_any run p ≡ false
 off_apart b run p i h =
     list_any_none (λ e. on e p) run (λ k d l. past (get_or run k d) p (apart_disjoint b (get_or run k d) (record { lo = p; hi = p }) (i k d l) h))
 
 -- nor meets the cell
-pub missed_apart : (b : Bounds) (run : List Ends) (cell : Region) → All (IsBoxed b) run → is_apart b cell ≡ true → any_meets run cell ≡ false
+pub missed_apart : (b : Bounds) (run : List EdgeEnds) (cell : Region) → All (IsBoxed b) run → is_apart b cell ≡ true → any_meets run cell ≡ false
 missed_apart b run cell i h =
     list_any_none (λ e. not (misses e cell)) run (λ k d l. ap not (misses_disjoint (get_or run k d) cell (apart_disjoint b (get_or run k d) cell (i k d l) h)))

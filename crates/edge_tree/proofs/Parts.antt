@@ -7,7 +7,7 @@ use Rattle.std.specs.Prelude.{slice_range}
 use Rattle.std.proofs.lemmas.List.Concat.{flat_map-append}
 use Rattle.std.proofs.lemmas.List.{map_more, take-map, drop-map, length-map, get_or-map, take-take, drop-take, take-append-drop, append-nil}
 use Rattle.point_codec.specs.Points.{Region}
-use Rattle.ring_parity.specs.Edges.{Ends, misses}
+use Rattle.ring_parity.specs.Edges.{EdgeEnds, misses}
 use Rattle.ring_parity.specs.Rings.{any_meets}
 use Rattle.ring_parity.specs.Seen.{ends_of}
 use Rattle.ring_parity.specs.declared.edges.Edge.{Edge}
@@ -25,7 +25,7 @@ pub outlines_more : (edges : List Edge) (i : ℕ) (e : Edge) (o : Outline) → i
 outlines_more edges i e o there is h =
     let more : map ends_of (take (i + 1) edges) ≡ map ends_of (take i edges) ++ ends_of e ∷ [] =
     map_more ends_of edges i e there ∙ ap (λ (d : Edge). map ends_of (take i edges) ++ ends_of d ∷ []) (sym is) in
-    subst (λ (run : List Ends). Outlines run o) (sym more) h
+    subst (λ (run : List EdgeEnds). Outlines run o) (sym more) h
 
 -- an edge that meets the cell settles the answer, and one that does not leaves it
 pub met : (edges : List Edge) (i : ℕ) (e : Edge) (cell : Region) → i < length edges → e ≡ get_or edges i e → misses (ends_of e) cell ≡ false
@@ -44,7 +44,7 @@ none_met_more edges i e cell there is h none =
     (or_from (not (misses (ends_of e) cell)) false (ap not h) refl)
 
 -- one more run of those that follow each other
-pub runs_more : (edges : List Ends) (runs : List Run) (r : Run) → r.first ≤ r.end → all_in edges runs ≡ take r.first edges
+pub runs_more : (edges : List EdgeEnds) (runs : List Run) (r : Run) → r.first ≤ r.end → all_in edges runs ≡ take r.first edges
     → all_in edges (runs ++ r ∷ []) ≡ take r.end edges
 runs_more edges runs r ordered h =
     let next : drop r.first (take r.end edges) ≡ run_in edges r =
@@ -53,7 +53,7 @@ runs_more edges runs r ordered h =
     ∙ ap (λ es. es ++ drop r.first (take r.end edges)) (h ∙ sym (take-take r.first r.end edges ordered))
     ∙ take-append-drop r.first (take r.end edges)
 
-pub one_run : (edges : List Ends) (runs : List Run) (d : Run) → length runs ≡ 1 → all_in edges runs ≡ run_in edges (get_or runs 0 d)
+pub one_run : (edges : List EdgeEnds) (runs : List Run) (d : Run) → length runs ≡ 1 → all_in edges runs ≡ run_in edges (get_or runs 0 d)
 one_run edges [] d one = absurd (omega arith)
 one_run edges (r ∷ []) d one = append-nil (run_in edges r)
 one_run edges (r ∷ s ∷ runs) d one = absurd (omega arith)

@@ -7,7 +7,7 @@ use Rattle.std.proofs.lemmas.Int.{ints}
 use Rattle.std.proofs.lemmas.List.Elements.{All-head, All-tail, All-nil, All-cons}
 use Rattle.std.proofs.lemmas.List.Folds.{list_any-append}
 use Rattle.ring_parity.specs.Edges as EdgeSpecs
-use Rattle.ring_parity.specs.Edges.{Ends, x_of, y_of, is_above, counts}
+use Rattle.ring_parity.specs.Edges.{EdgeEnds, x_of, y_of, is_above, counts}
 use Rattle.ring_parity.specs.Rings.{is_odd}
 use Rattle.ring_parity.proofs.Crossing.{xor}
 use Rattle.ring_parity.proofs.Parity.{oddly, oddly-cons, oddly-append, oddly_same}
@@ -15,47 +15,42 @@ use Rattle.ring_parity.proofs.Rays.{counts_level, counts_west, counts_east}
 use Rattle.edge_tree.specs.declared.outline.Bounds.{Bounds}
 use Rattle.edge_tree.specs.declared.outline.Climb.{Climb}
 use Rattle.edge_tree.specs.declared.outline.Outline.{Outline}
-use Rattle.edge_tree.specs.Outlines.{IsBoxed, are_apart, is_off_ray, is_passed, climbs, pass_oddly, Outlines, IsPlace}
+use Rattle.edge_tree.specs.Outlines.{IsBoxed, are_apart, is_off_ray, is_passed, climbs, pass_oddly, Outlines, IsLocation}
 use Rattle.edge_tree.proofs.Boxes.{off_apart}
-
-differ : (a b : Bool) → not (beq a b) ≡ xor a b
-differ true true = refl
-differ true false = refl
-differ false true = refl
-differ false false = refl
+use Rattle.ring_parity.proofs.Steps.{differ}
 
 alone : (a : Bool) → xor a false ≡ a
 alone true = refl
 alone false = refl
 
-passed : ℤ → Ends → Bool
+passed : ℤ → EdgeEnds → Bool
 passed y e = is_passed (y_of e.0) (y_of e.1) y
 
 -- one edge
-pub pass_oddly-one : (e : Ends) (y : ℤ) → pass_oddly (e ∷ []) y ≡ is_passed (y_of e.0) (y_of e.1) y
-pass_oddly-one e y = oddly-cons (λ (d : Ends). is_passed (y_of d.0) (y_of d.1) y) e [] ∙ alone (is_passed (y_of e.0) (y_of e.1) y)
+pub pass_oddly-one : (e : EdgeEnds) (y : ℤ) → pass_oddly (e ∷ []) y ≡ is_passed (y_of e.0) (y_of e.1) y
+pass_oddly-one e y = oddly-cons (λ (d : EdgeEnds). is_passed (y_of d.0) (y_of d.1) y) e [] ∙ alone (is_passed (y_of e.0) (y_of e.1) y)
 
 -- two runs
-pub pass_oddly-append : (xs ys : List Ends) (y : ℤ) → pass_oddly (xs ++ ys) y ≡ not (beq (pass_oddly xs y) (pass_oddly ys y))
+pub pass_oddly-append : (xs ys : List EdgeEnds) (y : ℤ) → pass_oddly (xs ++ ys) y ≡ not (beq (pass_oddly xs y) (pass_oddly ys y))
 pass_oddly-append xs ys y =
-    oddly-append (λ (d : Ends). is_passed (y_of d.0) (y_of d.1) y) xs ys ∙ sym (differ (pass_oddly xs y) (pass_oddly ys y))
+    oddly-append (λ (d : EdgeEnds). is_passed (y_of d.0) (y_of d.1) y) xs ys ∙ sym (differ (pass_oddly xs y) (pass_oddly ys y))
 
-pub is_odd-append : (xs ys : List Ends) (p : List ℤ) → is_odd (xs ++ ys) p ≡ not (beq (is_odd xs p) (is_odd ys p))
+pub is_odd-append : (xs ys : List EdgeEnds) (p : List ℤ) → is_odd (xs ++ ys) p ≡ not (beq (is_odd xs p) (is_odd ys p))
 is_odd-append xs ys p = oddly-append (λ e. counts e p) xs ys ∙ sym (differ (is_odd xs p) (is_odd ys p))
 
-pub none_odd : (test : Ends → Bool) (run : List Ends) → All (λ e. test e ≡ false) run → oddly test run ≡ false
+pub none_odd : (test : EdgeEnds → Bool) (run : List EdgeEnds) → All (λ e. test e ≡ false) run → oddly test run ≡ false
 none_odd test [] h = refl
 none_odd test (e ∷ run) h =
     oddly-cons test e run ∙ (rw (All-head (λ d. test d ≡ false) e run h) (none_odd test run (All-tail (λ d. test d ≡ false) e run h)))
 
 -- no edge counts for a point whose ray does not come to the box, nor has it
-even_east : (b : Bounds) (run : List Ends) (p : List ℤ) → All (IsBoxed b) run → b.east <ℤ x_of p → is_odd run p ≡ false
+even_east : (b : Bounds) (run : List EdgeEnds) (p : List ℤ) → All (IsBoxed b) run → b.east <ℤ x_of p → is_odd run p ≡ false
 even_east b run p i h =
     none_odd (λ e. counts e p) run (λ k d l.
     let boxed : IsBoxed b (get_or run k d) = i k d l in
     counts_west (get_or run k d) p (omega (arith, ints, boxed.start.east)) (omega (arith, ints, boxed.end.east)))
 
-even_level : (b : Bounds) (run : List Ends) (p : List ℤ) → All (IsBoxed b) run → are_apart b.south b.north (y_of p) (y_of p) ≡ true → is_odd run p ≡ false
+even_level : (b : Bounds) (run : List EdgeEnds) (p : List ℤ) → All (IsBoxed b) run → are_apart b.south b.north (y_of p) (y_of p) ≡ true → is_odd run p ≡ false
 even_level b run p i h =
     none_odd (λ e. counts e p) run (λ k d l.
     let boxed : IsBoxed b (get_or run k d) = i k d l in
@@ -70,7 +65,7 @@ even_level b run p i h =
     start ∙ sym end)
     (or_cases (int_lt b.north (y_of p)) (int_lt (y_of p) b.south) h)))
 
-pub off_ray : (b : Bounds) (run : List Ends) (p : List ℤ) → All (IsBoxed b) run → is_off_ray b p ≡ true → IsPlace run p false false
+pub off_ray : (b : Bounds) (run : List EdgeEnds) (p : List ℤ) → All (IsBoxed b) run → is_off_ray b p ≡ true → IsLocation run p false false
 off_ray b run p i h =
     ⊎_elim
     (λ (east : int_lt b.east (x_of p) ≡ true). record {
@@ -86,18 +81,19 @@ off_ray b run p i h =
     (or_cases (int_lt b.east (x_of p)) (are_apart b.south b.north (y_of p) (y_of p)) h)
 
 -- for a point west of the box the edges count that pass its height
-pub odd_west : (b : Bounds) (run : List Ends) (p : List ℤ) → All (IsBoxed b) run → int_lt (x_of p) b.west ≡ true → IsPlace run p false (pass_oddly run (y_of p))
+pub odd_west : (b : Bounds) (run : List EdgeEnds) (p : List ℤ) → All (IsBoxed b) run → int_lt (x_of p) b.west ≡ true
+    → IsLocation run p false (pass_oddly run (y_of p))
 odd_west b run p i h = record {
   on_is = off_apart b run p i
       (or_left (are_apart b.west b.east (x_of p) (x_of p)) (are_apart b.south b.north (y_of p) (y_of p))
       (or_right (int_lt b.east (x_of p)) (int_lt (x_of p) b.west) h));
-  odd_is = oddly_same (λ e. counts e p) (λ (e : Ends). is_passed (y_of e.0) (y_of e.1) (y_of p)) run (λ k d l.
+  odd_is = oddly_same (λ e. counts e p) (λ (e : EdgeEnds). is_passed (y_of e.0) (y_of e.1) (y_of p)) run (λ k d l.
       let boxed : IsBoxed b (get_or run k d) = i k d l in
       counts_east (get_or run k d) p (omega (arith, ints, boxed.start.west)) (omega (arith, ints, boxed.end.west))
       ∙ sym (differ (is_above (get_or run k d).0 p) (is_above (get_or run k d).1 p)));
 }
 
-pub outlines_one : (e : Ends) (b : Bounds) (from to : ℤ) → IsBoxed b e → from ≡ y_of e.0 → to ≡ y_of e.1
+pub outlines_one : (e : EdgeEnds) (b : Bounds) (from to : ℤ) → IsBoxed b e → from ≡ y_of e.0 → to ≡ y_of e.1
     → Outlines (e ∷ []) (record { bounds = b; climb = Some (record { from = from; to = to }) })
 outlines_one e b from to boxed f t = record {
   boxed = All-cons (IsBoxed b) e [] boxed (All-nil (IsBoxed b));
@@ -105,13 +101,13 @@ outlines_one e b from to boxed f t = record {
 }
 
 -- what a climb tells of two runs, each of which a climb tells of
-pub climb_join : (xs ys : List Ends) (first second joined : Climb) → ((y : ℤ) → pass_oddly xs y ≡ climbs first y)
+pub climb_join : (xs ys : List EdgeEnds) (first second joined : Climb) → ((y : ℤ) → pass_oddly xs y ≡ climbs first y)
     → ((y : ℤ) → pass_oddly ys y ≡ climbs second y)
     → ((y : ℤ) → climbs joined y ≡ not (beq (climbs first y) (climbs second y))) → (y : ℤ) → pass_oddly (xs ++ ys) y ≡ climbs joined y
 climb_join xs ys first second joined f s j y =
     pass_oddly-append xs ys y ∙ (rw (f y, s y) (sym (j y)))
 
-pub climbs_joined : (xs ys : List Ends) (first second : Climb) (o n joined : Option Climb) → o ≡ Some first → n ≡ Some second
+pub climbs_joined : (xs ys : List EdgeEnds) (first second : Climb) (o n joined : Option Climb) → o ≡ Some first → n ≡ Some second
     → IfSome o (λ c. (y : ℤ) → pass_oddly xs y ≡ climbs c y) → IfSome n (λ c. (y : ℤ) → pass_oddly ys y ≡ climbs c y)
     → IfSome joined (λ c. (y : ℤ) → climbs c y ≡ not (beq (climbs first y) (climbs second y)))
     → IfSome joined (λ c. (y : ℤ) → pass_oddly (xs ++ ys) y ≡ climbs c y)
@@ -124,21 +120,21 @@ climbs_joined xs ys first second None n (Some d) p q f s j = cc
 climbs_joined xs ys first second (Some a) None (Some d) p q f s j = cc
 
 -- a point west of the box, beside a run that a climb tells of
-pub place_west : (o : Outline) (run : List Ends) (p : List ℤ) (climb : Climb) (odd : Bool) → Outlines run o → int_lt (x_of p) o.bounds.west ≡ true
-    → o.climb ≡ Some climb → odd ≡ climbs climb (y_of p) → IsPlace run p false odd
+pub place_west : (o : Outline) (run : List EdgeEnds) (p : List ℤ) (climb : Climb) (odd : Bool) → Outlines run o → int_lt (x_of p) o.bounds.west ≡ true
+    → o.climb ≡ Some climb → odd ≡ climbs climb (y_of p) → IsLocation run p false odd
 place_west o run p climb odd outlined west is passes =
-    let place : IsPlace run p false (pass_oddly run (y_of p)) = odd_west o.bounds run p outlined.boxed west in
+    let place : IsLocation run p false (pass_oddly run (y_of p)) = odd_west o.bounds run p outlined.boxed west in
     let told : pass_oddly run (y_of p) ≡ climbs climb (y_of p) = (rw is at outlined.climb) (y_of p) in
     record { on_is = place.on_is; odd_is = place.odd_is ∙ told ∙ sym passes }
 
-pub place_join : (xs ys : List Ends) (p : List ℤ) (on odd on' odd' : Bool) → IsPlace xs p on odd → IsPlace ys p on' odd'
-    → IsPlace (xs ++ ys) p (on || on') (not (beq odd odd'))
+pub place_join : (xs ys : List EdgeEnds) (p : List ℤ) (on odd on' odd' : Bool) → IsLocation xs p on odd → IsLocation ys p on' odd'
+    → IsLocation (xs ++ ys) p (on || on') (not (beq odd odd'))
 place_join xs ys p on odd on' odd' f s = record {
   on_is = list_any-append (λ e. EdgeSpecs.on e p) xs ys ∙ (rw (f.on_is, s.on_is) refl);
   odd_is = is_odd-append xs ys p ∙ (rw (f.odd_is, s.odd_is) refl);
 }
 
-pub place_one : (e : Ends) (p : List ℤ) (on odd : Bool) → on ≡ EdgeSpecs.on e p → odd ≡ counts e p → IsPlace (e ∷ []) p on odd
+pub place_one : (e : EdgeEnds) (p : List ℤ) (on odd : Bool) → on ≡ EdgeSpecs.on e p → odd ≡ counts e p → IsLocation (e ∷ []) p on odd
 place_one e p on odd f s = record {
   on_is = either_false (EdgeSpecs.on e p) ∙ sym f;
   odd_is = oddly-cons (λ d. counts d p) e [] ∙ alone (counts e p) ∙ sym s;

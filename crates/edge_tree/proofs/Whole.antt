@@ -5,23 +5,23 @@ use Rattle.std.specs.Prelude.{All}
 use Rattle.std.proofs.lemmas.Bool.{or_left, or_right, or_from}
 use Rattle.std.proofs.lemmas.Int.{ints}
 use Rattle.std.proofs.lemmas.List.{take_all}
-use Rattle.ring_parity.specs.Edges.{Ends, x_of, y_of}
+use Rattle.ring_parity.specs.Edges.{EdgeEnds, x_of, y_of}
 use Rattle.ring_parity.specs.Rings.{AreClosed, is_on_any, is_odd, is_within}
 use Rattle.edge_tree.specs.declared.nodes.Node.{Node}
 use Rattle.edge_tree.specs.declared.outline.Bounds.{Bounds}
-use Rattle.edge_tree.specs.Nodes.{HaveSame, all_held, AreNodes}
-use Rattle.edge_tree.specs.Outlines.{IsBoxed, Holds, IsPlace, is_passed, pass_oddly, is_off_ray}
+use Rattle.edge_tree.specs.Nodes.{HaveSame, all_held_edges, AreNodes}
+use Rattle.edge_tree.specs.Outlines.{IsBoxed, HasPosition, IsLocation, is_passed, pass_oddly, is_off_ray}
 use Rattle.edge_tree.proofs.Passing.{off_ray, odd_west}
 use Rattle.edge_tree.proofs.Same.{same_count, same_on, same_odd}
 use Rattle.edge_tree.proofs.Walk.{below, outlined_at}
 
 -- an even number of closed edges passes each height
-even_passed : (edges : List Ends) (y : ℤ) → AreClosed edges → pass_oddly edges y ≡ false
+even_passed : (edges : List EdgeEnds) (y : ℤ) → AreClosed edges → pass_oddly edges y ≡ false
 unfolding AreClosed
 even_passed edges y closed = ap (λ n. eqb n 1) (closed (λ v. int_lt y (y_of v)))
 
-module _ (b : Bounds) (held edges : List Ends) (p : List ℤ) (boxed : All (IsBoxed b) held) (same : HaveSame held edges) (closed : AreClosed edges) where
-  nowhere : (odd : Bool) → IsPlace held p false odd → odd ≡ false → is_within edges p ≡ false
+module _ (b : Bounds) (held edges : List EdgeEnds) (p : List ℤ) (boxed : All (IsBoxed b) held) (same : HaveSame held edges) (closed : AreClosed edges) where
+  nowhere : (odd : Bool) → IsLocation held p false odd → odd ≡ false → is_within edges p ≡ false
   nowhere odd at even =
       or_from (is_on_any edges p) (is_odd edges p) (sym (same_on held edges p same) ∙ at.on_is) (sym (same_odd held edges p same) ∙ at.odd_is ∙ even)
 
@@ -41,7 +41,7 @@ module _ (b : Bounds) (held edges : List Ends) (p : List ℤ) (boxed : All (IsBo
         | false ↦ λ no. omega (arith, ints)
       ] refl
 
-  pub holds_within : is_within edges p ≡ true → Holds b p
+  pub holds_within : is_within edges p ≡ true → HasPosition b p
   holds_within has =
       let east : Bool = int_lt b.east (x_of p) in
       let north : Bool = int_lt b.north (y_of p) in
@@ -54,10 +54,10 @@ module _ (b : Bounds) (held edges : List Ends) (p : List ℤ) (boxed : All (IsBo
       }
 
 -- the last node outlines all that is held where its subtree begins with the first one
-pub outlines_all : (edges : List Ends) (nodes : List Node) (at : ℕ) (n : Node) → AreNodes edges nodes → 0 < at → at ≡ length nodes
+pub outlines_all : (edges : List EdgeEnds) (nodes : List Node) (at : ℕ) (n : Node) → AreNodes edges nodes → 0 < at → at ≡ length nodes
     → n ≡ get_or nodes (at - 1) n → n.before ≡ 0
-    → All (IsBoxed n.outline.bounds) (all_held edges nodes)
+    → All (IsBoxed n.outline.bounds) (all_held_edges edges nodes)
 outlines_all edges nodes at n all some last is first =
-    let whole : below edges nodes at n ≡ all_held edges nodes =
-    ap (λ k. all_held edges (drop k (take at nodes))) first ∙ ap (all_held edges) (take_all at nodes (omega (arith, last))) in
+    let whole : below edges nodes at n ≡ all_held_edges edges nodes =
+    ap (λ k. all_held_edges edges (drop k (take at nodes))) first ∙ ap (all_held_edges edges) (take_all at nodes (omega (arith, last))) in
     subst (All (IsBoxed n.outline.bounds)) whole (outlined_at edges nodes at n all some (omega (arith, last)) is).boxed

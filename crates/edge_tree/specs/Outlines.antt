@@ -2,23 +2,23 @@
 use Rattle.std.specs.Prelude.{◌≡◌, ◌%◌, ℤ, ◌≤ℤ◌, int_lt, Bool, not, ◌||◌, ◌==◌, List, All, count_by, IfSome}
 use Rattle.std.specs.Bool.{beq}
 use Rattle.point_codec.specs.Points.{Region}
-use Rattle.ring_parity.specs.Edges.{Ends, x_of, y_of}
+use Rattle.ring_parity.specs.Edges.{EdgeEnds, x_of, y_of}
 use Rattle.ring_parity.specs.Rings.{is_on_any, is_odd}
 use Rattle.edge_tree.specs.declared.outline.Bounds.{Bounds}
 use Rattle.edge_tree.specs.declared.outline.Climb.{Climb}
 use Rattle.edge_tree.specs.declared.outline.Outline.{Outline}
 
 -- the box has the position
-pub record Holds (b : Bounds) (v : List ℤ) : Type 0 where
+pub record HasPosition (b : Bounds) (v : List ℤ) : Type 0 where
   pub west : b.west ≤ℤ x_of v
   pub east : x_of v ≤ℤ b.east
   pub south : b.south ≤ℤ y_of v
   pub north : y_of v ≤ℤ b.north
 
 -- the box has both ends of the edge
-pub record IsBoxed (b : Bounds) (e : Ends) : Type 0 where
-  pub start : Holds b e.0
-  pub end : Holds b e.1
+pub record IsBoxed (b : Bounds) (e : EdgeEnds) : Type 0 where
+  pub start : HasPosition b e.0
+  pub end : HasPosition b e.1
 
 -- two ranges have no common number
 abbrev pub are_apart : ℤ → ℤ → ℤ → ℤ → Bool
@@ -41,14 +41,14 @@ abbrev pub climbs : Climb → ℤ → Bool
 climbs c y = is_passed c.from c.to y
 
 -- an odd number of the edges leads past the height y
-abbrev pub pass_oddly : List Ends → ℤ → Bool
+abbrev pub pass_oddly : List EdgeEnds → ℤ → Bool
 pass_oddly run y = count_by (λ e. is_passed (y_of e.0) (y_of e.1) y) run % 2 == 1
 
-pub record Outlines (run : List Ends) (o : Outline) : Type 0 where
+pub record Outlines (run : List EdgeEnds) (o : Outline) : Type 0 where
   pub boxed : All (IsBoxed o.bounds) run
   pub climb : IfSome o.climb (λ c. (y : ℤ) → pass_oddly run y ≡ climbs c y)
 
 -- whether a point is on an edge of the run, and whether an odd number of its edges counts for the point
-pub record IsPlace (run : List Ends) (p : List ℤ) (on odd : Bool) : Type 0 where
+pub record IsLocation (run : List EdgeEnds) (p : List ℤ) (on odd : Bool) : Type 0 where
   pub on_is : is_on_any run p ≡ on
   pub odd_is : is_odd run p ≡ odd

@@ -31,10 +31,10 @@ pub struct Locator {
 impl Model for Locator {
     ghost use Rattle.std.specs.Prelude.{List, IsTrue};
     ghost use Rattle.point_codec.specs.Seen.{region_of};
-    ghost use Rattle.ring_parity.specs.Edges.{Ends};
+    ghost use Rattle.ring_parity.specs.Edges.{EdgeEnds};
     ghost use Rattle.edge_tree.specs.Ways.{IsKnown};
 
-    ghost Value = { List Ends };
+    ghost Value = { List EdgeEnds };
 
     ghost view = { λ l. l.tree };
 

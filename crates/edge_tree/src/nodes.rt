@@ -2,11 +2,11 @@
 
 ghost use Rattle.std.specs.Prelude.{◌≡◌, ◌<◌, ◌≤◌, ◌++◌, ℤ, List, length, map, take, drop, All, IfOk, OnOk};
 ghost use Rattle.point_codec.specs.Seen.{region_of};
-ghost use Rattle.ring_parity.specs.Edges.{Ends};
+ghost use Rattle.ring_parity.specs.Edges.{EdgeEnds};
 ghost use Rattle.ring_parity.specs.Rings.{any_meets};
 ghost use Rattle.ring_parity.specs.Seen.{ends_of};
-ghost use Rattle.edge_tree.specs.Outlines.{Outlines, IsPlace};
-ghost use Rattle.edge_tree.specs.Nodes.{IsRun, all_in, all_held, HoldsRun, AreNodes};
+ghost use Rattle.edge_tree.specs.Outlines.{Outlines, IsLocation};
+ghost use Rattle.edge_tree.specs.Nodes.{IsRun, all_in, all_held_edges, HoldsRun, AreNodes};
 
 use crate::outline::Outline;
 use crate::runs::Run;
@@ -26,21 +26,21 @@ pub struct Node {
 
 /// Where a point lies beside a run of edges.
 #[derive(Clone, Copy, Debug)]
-pub struct Place {
+pub struct Location {
     /// It is on one of them.
     pub on: bool,
     /// It counts for an odd number of them.
     pub odd: bool,
 }
 
-impl Place {
-    /// The place beside two runs together.
-    pub fn join(&self, other: &Place) -> Place
-        ensures { (xs ys : List Ends) (p : List ℤ) → IsPlace xs p self.now.on self.now.odd
-            → IsPlace ys p other.now.on other.now.odd
-            → IsPlace (xs ++ ys) p result.on result.odd }
+impl Location {
+    /// The location beside two runs together.
+    pub fn join(&self, other: &Location) -> Location
+        ensures { (xs ys : List EdgeEnds) (p : List ℤ) → IsLocation xs p self.now.on self.now.odd
+            → IsLocation ys p other.now.on other.now.odd
+            → IsLocation (xs ++ ys) p result.on result.odd }
     {
-        Place {
+        Location {
             on: self.on || other.on,
             odd: self.odd != other.odd,
         }
@@ -48,8 +48,8 @@ impl Place {
 }
 
 /// Where the point lies beside these edges.
-pub fn place_in(edges: &[Edge], p: &Point<2>) -> Place
-    ensures { IsPlace (map ends_of edges.now) p.now.c result.on result.odd }
+pub fn location_in(edges: &[Edge], p: &Point<2>) -> Location
+    ensures { IsLocation (map ends_of edges.now) p.now.c result.on result.odd }
 {
     let mut on = false;
     let mut odd = false;
@@ -57,7 +57,7 @@ pub fn place_in(edges: &[Edge], p: &Point<2>) -> Place
         on = on || on_edge(edge, p);
         odd = odd != counts(edge, p);
     }
-    Place { on, odd }
+    Location { on, odd }
 }
 
 /// Some of these edges does not miss the cell.
@@ -89,7 +89,7 @@ pub fn nodes_over(alloc: Global, edges: &[Edge], runs: &[Run]) -> Result<Vec<Nod
     requires { All (IsRun (map ends_of edges.now)) runs.now }
     ensures each { IfOk result (λ nodes. AreNodes (map ends_of edges.now) nodes.items) }
     ensures whole { IfOk result
-        (λ nodes. all_held (map ends_of edges.now) nodes.items ≡ all_in (map ends_of edges.now) runs.now) }
+        (λ nodes. all_held_edges (map ends_of edges.now) nodes.items ≡ all_in (map ends_of edges.now) runs.now) }
 {
     let mut nodes = Vec::new(alloc);
     if runs.len() > 0 {
@@ -107,7 +107,7 @@ fn push_nodes(nodes: &mut Vec<Node>, edges: &[Edge], runs: &[Run]) -> Result<Out
     ensures outlined { IfOk result (Outlines (all_in (map ends_of edges.now) runs.now)) }
     ensures sound { OnOk result (AreNodes (map ends_of edges.now) nodes.new.items) }
     ensures held { OnOk result
-        (all_held (map ends_of edges.now) (drop (length nodes.old.items) nodes.new.items) ≡ all_in
+        (all_held_edges (map ends_of edges.now) (drop (length nodes.old.items) nodes.new.items) ≡ all_in
         (map ends_of edges.now) runs.now) }
     ensures kept { OnOk result (take (length nodes.old.items) nodes.new.items ≡ nodes.old.items) }
 {

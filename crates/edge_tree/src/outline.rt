@@ -2,9 +2,9 @@
 
 ghost use Rattle.std.specs.Prelude.{◌≡◌, ℤ, true, false, List, [], ◌∷◌, ◌++◌, IsTrue, IfSome, not, int_lt};
 ghost use Rattle.std.specs.Bool.{beq};
-ghost use Rattle.ring_parity.specs.Edges.{Ends, x_of, y_of};
+ghost use Rattle.ring_parity.specs.Edges.{EdgeEnds, x_of, y_of};
 ghost use Rattle.ring_parity.specs.Seen.{ends_of};
-ghost use Rattle.edge_tree.specs.Outlines.{IsBoxed, are_apart, is_apart, is_off_ray, climbs, Outlines, IsPlace};
+ghost use Rattle.edge_tree.specs.Outlines.{IsBoxed, are_apart, is_apart, is_off_ray, climbs, Outlines, IsLocation};
 ghost use Rattle.edge_tree.specs.Ways.{is_off_way};
 
 use point_codec::Point;
@@ -34,8 +34,8 @@ impl Bounds {
 
     /// The least box round two boxes.
     pub fn union(&self, other: &Bounds) -> Bounds
-        ensures first { (e : Ends) → IsBoxed self.now e → IsBoxed result e }
-        ensures second { (e : Ends) → IsBoxed other.now e → IsBoxed result e }
+        ensures first { (e : EdgeEnds) → IsBoxed self.now e → IsBoxed result e }
+        ensures second { (e : EdgeEnds) → IsBoxed other.now e → IsBoxed result e }
     {
         Bounds {
             west: self.west.min(other.west),
@@ -163,7 +163,7 @@ impl Outline {
 
     /// The outline of a run that one more follows.
     pub fn join(&self, next: &Outline) -> Outline
-        ensures { (xs ys : List Ends) → Outlines xs self.now → Outlines ys next.now → Outlines (xs ++ ys) result }
+        ensures { (xs ys : List EdgeEnds) → Outlines xs self.now → Outlines ys next.now → Outlines (xs ++ ys) result }
     {
         let climb = match (&self.climb, &next.climb) {
             (Some(first), Some(second)) => first.then(second),
@@ -177,7 +177,8 @@ impl Outline {
 
     /// Whether an odd number of the edges counts for the point, where the outline tells. The point is on no edge then.
     pub fn parity(&self, p: &Point<2>) -> Option<bool>
-        ensures { IfSome result (λ odd. (run : List Ends) → Outlines run self.now → IsPlace run p.now.c false odd) }
+        ensures { IfSome result
+            (λ odd. (run : List EdgeEnds) → Outlines run self.now → IsLocation run p.now.c false odd) }
     {
         if self.bounds.is_off_ray(p) {
             return Some(false);

@@ -5,7 +5,7 @@ ghost use Rattle.ring_parity.specs.Edges.{x_of, y_of};
 ghost use Rattle.ring_parity.specs.Seen.{ends_of};
 ghost use Rattle.edge_tree.specs.Ways.{is_marked, passes, IsPassed, IsStretch, all_on};
 
-use crate::nodes::Place;
+use crate::nodes::Location;
 use crate::outline::Bounds;
 use point_codec::Point;
 use ring_parity::{Edge, counts, on_edge};
@@ -35,7 +35,7 @@ fn passes(e: &Edge, p: &Point<2>, q: &Point<2>) -> bool
 }
 
 /// Whether `q` is on one of these edges, and whether an odd number of them passes the way from `p` to `q`.
-fn passed(edges: &[Edge], p: &Point<2>, q: &Point<2>) -> Place
+fn passed(edges: &[Edge], p: &Point<2>, q: &Point<2>) -> Location
     ensures { IsPassed (map ends_of edges.now) p.now.c q.now.c result.on result.odd }
 {
     let mut on = false;
@@ -44,19 +44,19 @@ fn passed(edges: &[Edge], p: &Point<2>, q: &Point<2>) -> Place
         on = on || on_edge(edge, q);
         odd = odd != passes(edge, p, q);
     }
-    Place { on, odd }
+    Location { on, odd }
 }
 
 impl Stretch {
     /// The same of the stretch, from a point `p` that is south and west of `q`. A box off the way is not looked into.
-    fn passed(&self, edges: &[Edge], p: &Point<2>, q: &Point<2>) -> Place
+    fn passed(&self, edges: &[Edge], p: &Point<2>, q: &Point<2>) -> Location
         requires stretch { IsStretch (map ends_of edges.now) self.now }
         requires east { x_of p.now.c ≤ℤ x_of q.now.c }
         requires north { y_of p.now.c ≤ℤ y_of q.now.c }
         ensures { IsPassed (all_on (map ends_of edges.now) (self.now ∷ [])) p.now.c q.now.c result.on result.odd }
     {
         if self.bounds.is_off_way(p, q) {
-            return Place {
+            return Location {
                 on: false,
                 odd: false,
             };
@@ -66,7 +66,7 @@ impl Stretch {
 }
 
 /// The same of several stretches.
-pub fn all_passed(edges: &[Edge], stretches: &[Stretch], p: &Point<2>, q: &Point<2>) -> Place
+pub fn all_passed(edges: &[Edge], stretches: &[Stretch], p: &Point<2>, q: &Point<2>) -> Location
     requires each { All (IsStretch (map ends_of edges.now)) stretches.now }
     requires east { x_of p.now.c ≤ℤ x_of q.now.c }
     requires north { y_of p.now.c ≤ℤ y_of q.now.c }
@@ -79,5 +79,5 @@ pub fn all_passed(edges: &[Edge], stretches: &[Stretch], p: &Point<2>, q: &Point
         on = on || beside.on;
         odd = odd != beside.odd;
     }
-    Place { on, odd }
+    Location { on, odd }
 }

@@ -5,10 +5,10 @@ ghost use Rattle.point_codec.specs.Points.{in_box};
 ghost use Rattle.point_codec.specs.Seen.{coordinates_of, region_of};
 ghost use Rattle.ring_parity.specs.Rings.{edges_of, all_edges, is_on_any, is_odd, any_meets, is_within, AreClosed};
 ghost use Rattle.ring_parity.specs.Seen.{ends_of};
-ghost use Rattle.edge_tree.specs.Outlines.{IsPlace, Holds};
+ghost use Rattle.edge_tree.specs.Outlines.{IsLocation, HasPosition};
 ghost use Rattle.edge_tree.specs.Ways.{IsStretch, all_on, AreNear};
 
-use crate::nodes::{Node, Place, meets_run, nodes_over, place_in};
+use crate::nodes::{Node, Location, meets_run, nodes_over, location_in};
 use crate::outline::Bounds;
 use crate::runs::runs_over;
 use crate::stretch::Stretch;
@@ -26,15 +26,15 @@ pub struct EdgeTree {
 
 impl Model for EdgeTree {
     ghost use Rattle.std.specs.Prelude.{List, map};
-    ghost use Rattle.ring_parity.specs.Edges.{Ends};
+    ghost use Rattle.ring_parity.specs.Edges.{EdgeEnds};
     ghost use Rattle.ring_parity.specs.Seen.{ends_of};
-    ghost use Rattle.edge_tree.specs.Trees.{IsTree};
+    ghost use Rattle.edge_tree.specs.Trees.{IsEdgeTree};
 
-    ghost Value = { List Ends };
+    ghost Value = { List EdgeEnds };
 
     ghost view = { λ t. map ends_of t.edges.items };
 
-    ghost invariant = { λ t. IsTree (map ends_of t.edges.items) t.nodes.items };
+    ghost invariant = { λ t. IsEdgeTree (map ends_of t.edges.items) t.nodes.items };
 }
 
 impl EdgeTree {
@@ -68,27 +68,27 @@ impl EdgeTree {
     pub fn on_any(&self, p: &Point<2>) -> bool
         ensures { result ≡ is_on_any self.now p.now.c }
     {
-        self.place(p).on
+        self.locate(p).on
     }
 
     /// An odd number of the edges counts for the point.
     pub fn odd(&self, p: &Point<2>) -> bool
         ensures { result ≡ is_odd self.now p.now.c }
     {
-        self.place(p).odd
+        self.locate(p).odd
     }
 
     /// The point is in the polygon: on an edge, or counted by an odd number of them.
     pub fn contains(&self, p: &Point<2>) -> bool
         ensures { result ≡ is_within self.now p.now.c }
     {
-        let place = self.place(p);
+        let place = self.locate(p);
         place.on || place.odd
     }
 
     /// A box that has all points of the polygon: that of the node over all edges.
     pub fn bounds(&self) -> Option<Bounds>
-        ensures { IfSome result (λ b. (p : List ℤ) → is_within self.now p ≡ true → Holds b p) }
+        ensures { IfSome result (λ b. (p : List ℤ) → is_within self.now p ≡ true → HasPosition b p) }
     {
         let at = self.nodes.len();
         if at == 0 {
@@ -102,10 +102,10 @@ impl EdgeTree {
     }
 
     /// Where the point lies beside all the edges. A node that tells it of its subtree is taken whole.
-    fn place(&self, p: &Point<2>) -> Place
-        ensures { IsPlace self.now p.now.c result.on result.odd }
+    fn locate(&self, p: &Point<2>) -> Location
+        ensures { IsLocation self.now p.now.c result.on result.odd }
     {
-        let mut place = Place {
+        let mut place = Location {
             on: false,
             odd: false,
         };
@@ -114,11 +114,11 @@ impl EdgeTree {
             let node = &self.nodes[at - 1];
             match node.outline.parity(p) {
                 Some(odd) => {
-                    place = Place { on: false, odd }.join(&place);
+                    place = Location { on: false, odd }.join(&place);
                     at = node.before;
                 }
                 None => {
-                    place = place_in(&self.edges[node.first..node.end], p).join(&place);
+                    place = location_in(&self.edges[node.first..node.end], p).join(&place);
                     at -= 1;
                 }
             }

@@ -4,7 +4,7 @@ use Rattle.outer_io.specs.Files.{Files}
 use Rattle.point_codec.specs.Points.{Region, in_box}
 use Rattle.cell_relate.specs.Boxes as boxes
 use Rattle.ring_parity.specs.Rings.{all_edges}
-use Rattle.ring_parity.specs.Edges.{Ends}
+use Rattle.ring_parity.specs.Edges.{EdgeEnds}
 use Rattle.polygon_query.specs.Shape as polygons
 use Rattle.index_model.specs.State.{Index}
 use Rattle.index_model.specs.Step.{in_plane_polygon}
@@ -41,37 +41,37 @@ module _ (D : ℕ) (files : Files) (set : SetData) (s : Scope) (e : IsExplaining
   scoped : (tells : Index → Told → Type 0) → InScope s tells t → tells e.index t
   scoped tells (i, is, told) = subst (λ (j : Index). tells j t) (some_inj i e.index (sym is ∙ e.state)) told
 
-  pub box_to : (asked : boxes.Asked) (lo hi : List ℤ) → asked ≡ record { bounds = record { lo = lo; hi = hi }; tests = 0; compares = 0 }
+  pub box_to : (asked : boxes.CountedBox) (lo hi : List ℤ) → asked ≡ record { bounds = record { lo = lo; hi = hi }; tests = 0; compares = 0 }
       → tells_shape (in_box asked.bounds) (boxes.crosses asked.bounds) s t → Tells s line (asks.InBox None lo hi) t
   box_to asked lo hi is tells = tells_to s e.index line (asks.InBox None lo hi) t e.state
-      (subst (λ (b : Region). TellsShape e.index.dims s.heads e.index.docs (in_box b) (boxes.crosses b) t) (ap (λ (a : boxes.Asked). a.bounds) is)
+      (subst (λ (b : Region). TellsShape e.index.dims s.heads e.index.docs (in_box b) (boxes.crosses b) t) (ap (λ (a : boxes.CountedBox). a.bounds) is)
       (scoped (λ i u. TellsShape i.dims s.heads i.docs (in_box asked.bounds) (boxes.crosses asked.bounds) u) tells))
 
-  pub box_from : (asked : boxes.Asked) (lo hi : List ℤ) → asked ≡ record { bounds = record { lo = lo; hi = hi }; tests = 0; compares = 0 }
+  pub box_from : (asked : boxes.CountedBox) (lo hi : List ℤ) → asked ≡ record { bounds = record { lo = lo; hi = hi }; tests = 0; compares = 0 }
       → Tells s line (asks.InBox None lo hi) t → tells_shape (in_box asked.bounds) (boxes.crosses asked.bounds) s t
   box_from asked lo hi is tells = (
     e.index,
     e.state,
-    subst (λ (b : Region). TellsShape e.index.dims s.heads e.index.docs (in_box b) (boxes.crosses b) t) (sym (ap (λ (a : boxes.Asked). a.bounds) is))
+    subst (λ (b : Region). TellsShape e.index.dims s.heads e.index.docs (in_box b) (boxes.crosses b) t) (sym (ap (λ (a : boxes.CountedBox). a.bounds) is))
         (tells_from s e.index line (asks.InBox None lo hi) t e.state tells),
   )
 
-  pub polygon_to : (edges : List Ends) (rings : List (List (List ℤ))) → edges ≡ all_edges rings
+  pub polygon_to : (edges : List EdgeEnds) (rings : List (List (List ℤ))) → edges ≡ all_edges rings
       → tells_shape (polygons.has D edges) (polygons.crosses D edges) s t → tells_polygon rings s t
   polygon_to edges rings is tells = (
     e.index,
     e.state,
     subst (λ n. TellsShape e.index.dims s.heads e.index.docs (in_plane_polygon n rings) (polygons.crosses n (all_edges rings)) t) (sym e.seen.dims)
-        (subst (λ (es : List Ends). TellsShape e.index.dims s.heads e.index.docs (polygons.has D es) (polygons.crosses D es) t) is
+        (subst (λ (es : List EdgeEnds). TellsShape e.index.dims s.heads e.index.docs (polygons.has D es) (polygons.crosses D es) t) is
         (scoped (λ i u. TellsShape i.dims s.heads i.docs (polygons.has D edges) (polygons.crosses D edges) u) tells)),
   )
 
-  pub polygon_from : (edges : List Ends) (rings : List (List (List ℤ))) → edges ≡ all_edges rings
+  pub polygon_from : (edges : List EdgeEnds) (rings : List (List (List ℤ))) → edges ≡ all_edges rings
       → tells_polygon rings s t → tells_shape (polygons.has D edges) (polygons.crosses D edges) s t
   polygon_from edges rings is tells = (
     e.index,
     e.state,
-    subst (λ (es : List Ends). TellsShape e.index.dims s.heads e.index.docs (polygons.has D es) (polygons.crosses D es) t) (sym is)
+    subst (λ (es : List EdgeEnds). TellsShape e.index.dims s.heads e.index.docs (polygons.has D es) (polygons.crosses D es) t) (sym is)
         (subst (λ n. TellsShape e.index.dims s.heads e.index.docs (in_plane_polygon n rings) (polygons.crosses n (all_edges rings)) t) e.seen.dims
         (scoped (λ i u. TellsShape i.dims s.heads i.docs (in_plane_polygon i.dims rings) (polygons.crosses i.dims (all_edges rings)) u) tells)),
   )

@@ -15,11 +15,11 @@ use Rattle.std.proofs.lemmas.List.{length-map}
 use Rattle.point_codec.specs.declared.entries.Near.{Near}
 use Rattle.segment_file.specs.Heads.{Head}
 use Rattle.segment_view.specs.Costs.{AreTouched}
-use Rattle.segment_view.specs.Parts.{heads_of}
+use Rattle.segment_view.specs.LiveSegments.{heads_of}
 use Rattle.index_model.specs.State.{Index, State}
 use Rattle.std.specs.Option.{option_map}
 use Rattle.script_lang.specs.Reading.{Reading, Says, Fails, read}
-use Rattle.script_lang.specs.Seen.{Agrees}
+use Rattle.script_lang.specs.Seen.{IsReadAs}
 use Rattle.script_lang.specs.declared.faults.LineFault.{LineFault}
 use Rattle.script_lang.specs.declared.faults.LineFault.TheVariants as fault
 use Rattle.script_lang.specs.Requests.{Request}
@@ -30,7 +30,7 @@ use Rattle.segment_set.specs.Kept.{StaysButCache}
 use Rattle.index_opening.specs.Evidence.{IsEvident}
 use Rattle.segment_set.specs.Faithful.{IsFaithful}
 use Rattle.explain_queries.specs.Explained.{Scope, Tells, TellsIn, TellsLine, TellsOn, TellsReading, Told, reach, refusal}
-use Rattle.explain_queries.specs.Explains.{Explains, IsExplaining, IsTold, Place}
+use Rattle.explain_queries.specs.Explains.{Explains, IsExplaining, IsTold, ExplainMoment}
 
 pub some_inj : {X : Type 0} (x y : X) → Some x ≡ Some y → x ≡ y
 some_inj x y e = cc
@@ -47,11 +47,12 @@ memory_cause : {T : Type 0} (before now : ℕ) → before ≤ now → HasPageCau
 memory_cause before now later = record { later = later; fine = tt; failed = λ e. absurd cc }
 
 -- a set that stays is faithful to the files that stay
-faithful_still : (D : ℕ) (old new : Place) → new.set ≡ old.set → new.files ≡ old.files → IsFaithful D old.files old.set → IsFaithful D new.files new.set
+faithful_still : (D : ℕ) (old new : ExplainMoment) → new.set ≡ old.set → new.files ≡ old.files → IsFaithful D old.files old.set → IsFaithful D new.files new.set
 faithful_still D old new set files h = subst (λ (u : SetData). IsFaithful D new.files u) (sym set) (subst (λ (f : Files). IsFaithful D f old.set) (sym files) h)
 
 -- this is told, whatever the index is
-pub explains_text : (D : ℕ) (told : Type 0) (tells : Telling) (old new : Place) (t : Told) (is_refused : Bool) → new.set ≡ old.set → new.files ≡ old.files
+pub explains_text : (D : ℕ) (told : Type 0) (tells : Telling) (old new : ExplainMoment) (t : Told) (is_refused : Bool) → new.set ≡ old.set
+    → new.files ≡ old.files
     → new.reads ≡ old.reads → new.faults ≡ old.faults
     → new.text ≡ old.text ++ t.text → t.refused ≡ cond is_refused 1 0 → ((s : Scope) → IsExplaining D old.files old.set s → tells s t)
     → Explains D told tells old new (Ok is_refused)
@@ -67,7 +68,8 @@ explains_text D told tells old new t is_refused set files reads faults text refu
 }
 
 -- for want of memory nothing is told
-pub explains_no_memory : (D : ℕ) (told : Type 0) (tells : Telling) (old new : Place) (r : Result Bool PageFault) → r ≡ Err page.Memory → new.set ≡ old.set
+pub explains_no_memory : (D : ℕ) (told : Type 0) (tells : Telling) (old new : ExplainMoment) (r : Result Bool PageFault) → r ≡ Err page.Memory
+    → new.set ≡ old.set
     → new.files ≡ old.files → new.reads ≡ old.reads
     → new.faults ≡ old.faults → Explains D told tells old new r
 explains_no_memory D told tells old new r is set files reads faults = subst (Explains D told tells old new) (sym is) (record {
@@ -82,7 +84,7 @@ explains_no_memory D told tells old new r is set files reads faults = subst (Exp
 })
 
 -- what is told is as the line's own definition says
-pub explains_as : (D : ℕ) (told : Type 0) (tells others : Telling) (old new : Place) (r : Result Bool PageFault)
+pub explains_as : (D : ℕ) (told : Type 0) (tells others : Telling) (old new : ExplainMoment) (r : Result Bool PageFault)
     → ((s : Scope) (t : Told) → IsExplaining D old.files old.set s → tells s t → others s t)
     → ((s : Scope) (t : Told) → IsExplaining D old.files old.set s → others s t → tells s t) → Explains D told tells old new r
     → Explains D told others old new r
@@ -105,7 +107,7 @@ explains_as D told tells others old new r to from explains = record {
 -- ---- with one
 
 -- what a call that looks at the set leaves
-pub record Looks {T : Type 0} (D : ℕ) (told : Type 0) (old new : Place) (tells : Telling) (result : Result T PageFault) : Type 0 where
+pub record Looks {T : Type 0} (D : ℕ) (told : Type 0) (old new : ExplainMoment) (tells : Telling) (result : Result T PageFault) : Type 0 where
   pub seen : told → (i : Index) → Sees D old.files old.set i → Sees D new.files new.set i
   pub alone : StaysButCache old.set new.set
   pub files : told → new.files ≡ old.files
@@ -115,7 +117,7 @@ pub record Looks {T : Type 0} (D : ℕ) (told : Type 0) (old new : Place) (tells
   pub faithful : told → IsFaithful D old.files old.set → IsFaithful D new.files new.set
   pub evident : OnDamage result (IsEvident (told × IsFaithful D old.files old.set) new.files)
 
-looks_stays : {T : Type 0} (D : ℕ) (told : Type 0) (old new : Place) (tells : Telling) (r : Result T PageFault) → Looks D told old new tells r → told
+looks_stays : {T : Type 0} (D : ℕ) (told : Type 0) (old new : ExplainMoment) (tells : Telling) (r : Result T PageFault) → Looks D told old new tells r → told
     → (s : Scope) → IsExplaining D old.files old.set s → IsExplaining D new.files new.set s
 looks_stays D told old new tells r looks t s e = record {
   index = e.index;
@@ -125,7 +127,8 @@ looks_stays D told old new tells r looks t s e = record {
 }
 
 -- it failed
-pub explains_fault : {T : Type 0} (D : ℕ) (told : Type 0) (tells : Telling) (old new : Place) (fault : PageFault) (r : Result Bool PageFault) → r ≡ Err fault
+pub explains_fault : {T : Type 0} (D : ℕ) (told : Type 0) (tells : Telling) (old new : ExplainMoment) (fault : PageFault) (r : Result Bool PageFault)
+    → r ≡ Err fault
     → Looks {T = T} D told old new tells (Err fault) → Explains D told tells old new r
 explains_fault {T = T} D told tells old new fault r is looks = subst (Explains D told tells old new) (sym is) (record {
   does = λ t s e. tt;
@@ -148,7 +151,7 @@ explains_fault {T = T} D told tells old new fault r is looks = subst (Explains D
     other (page.Damaged d) whole = whole
 
 -- it is done, and want of memory came after it
-pub explains_unsaid : {T : Type 0} (D : ℕ) (told : Type 0) (tells : Telling) (old new : Place) (x : T) (r : Result Bool PageFault) → r ≡ Err page.Memory
+pub explains_unsaid : {T : Type 0} (D : ℕ) (told : Type 0) (tells : Telling) (old new : ExplainMoment) (x : T) (r : Result Bool PageFault) → r ≡ Err page.Memory
     → Looks D told old new tells (Ok x) → Explains D told tells old new r
 explains_unsaid D told tells old new x r is looks = subst (Explains D told tells old new) (sym is) (record {
   does = λ t s e. tt;
@@ -162,7 +165,7 @@ explains_unsaid D told tells old new x r is looks = subst (Explains D told tells
 })
 
 -- it is done, and told
-pub explains_done : {T : Type 0} (D : ℕ) (told : Type 0) (tells : Telling) (old new : Place) (x : T) → Looks D told old new tells (Ok x)
+pub explains_done : {T : Type 0} (D : ℕ) (told : Type 0) (tells : Telling) (old new : ExplainMoment) (x : T) → Looks D told old new tells (Ok x)
     → (told → (s : Scope) → IsExplaining D old.files old.set s → IsTold (tells s) old.text new.text false) → Explains D told tells old new (Ok false)
 explains_done D told tells old new x looks tells_so = record {
   does = tells_so;
@@ -186,7 +189,7 @@ pub tells_from : (s : Scope) (i : Index) (line : ℕ) (request : Request) (t : T
 tells_from s i line request t is tells = subst (λ (o : State). TellsIn o s.heads line request t) is tells
 
 -- a line that is refused, or not for want of memory
-pub explains_refused : (D : ℕ) (told : Type 0) (tells : Telling) (old new : Place) (text : List ℕ) (r : Result Bool PageFault) → new.set ≡ old.set
+pub explains_refused : (D : ℕ) (told : Type 0) (tells : Telling) (old new : ExplainMoment) (text : List ℕ) (r : Result Bool PageFault) → new.set ≡ old.set
     → new.files ≡ old.files → new.reads ≡ old.reads → new.faults ≡ old.faults
     → IfOk r (λ b. (b ≡ true) × (new.text ≡ old.text ++ text)) → OnErr r (IsErrOf r page.Memory)
     → ((s : Scope) → IsExplaining D old.files old.set s → tells s (refusal text)) → Explains D told tells old new r
@@ -226,7 +229,7 @@ line_unread D files set s line bytes f e fails =
     subst (λ (r : Reading). TellsReading s line r (refusal (line_fault_text line f))) (sym (read_is D files set s bytes (Fails f) e fails)) refl
 
 -- what was read of a line that is refused, but for want of memory
-pub fault_read : {C : Type 0} (request : C → Request) (f : LineFault) (reading : Reading) → f ≢ fault.Memory → Agrees request (Err f) reading
+pub fault_read : {C : Type 0} (request : C → Request) (f : LineFault) (reading : Reading) → f ≢ fault.Memory → IsReadAs request (Err f) reading
     → reading ≡ Fails f
 fault_read request fault.Memory reading other agrees = absurd (other refl)
 fault_read request fault.TooLong reading other agrees = agrees

@@ -6,7 +6,7 @@ use Rattle.documents.specs.Nearest.{found_of, nearest}
 use Rattle.documents.specs.NearestEntries.{IsNearest, nears_of}
 use Rattle.nearest_query.specs.Segments.{AreNearLeaves, bound_of}
 use Rattle.segment_file.specs.Heads.{Head}
-use Rattle.segment_view.specs.Parts.{heads_of}
+use Rattle.segment_view.specs.LiveSegments.{heads_of}
 use Rattle.index_model.specs.State.{Index}
 use Rattle.segment_set.specs.Sets.{SetData}
 use Rattle.segment_set.specs.Seen.{entries_seen}

@@ -5,7 +5,7 @@ use Rattle.point_codec.specs.Points.{Region}
 use Rattle.documents.specs.Documents.{hits}
 use Rattle.segment_file.specs.Heads.{Head}
 use Rattle.segment_view.specs.Costs.{AreTested, AreTouched}
-use Rattle.segment_view.specs.Parts.{heads_of}
+use Rattle.segment_view.specs.LiveSegments.{heads_of}
 use Rattle.index_model.specs.State.{Index}
 use Rattle.segment_set.specs.Sets.{SetData}
 use Rattle.explain_queries.specs.Explained.{Scope, TellsShape, Told, shape_text}

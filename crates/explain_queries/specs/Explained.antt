@@ -16,7 +16,7 @@ use Rattle.commit_list.specs.Commits.{CommitData}
 use Rattle.commit_list.specs.CommitFiles.{IsCommitFile}
 use Rattle.segment_file.specs.Heads.{Head}
 use Rattle.script_lang.specs.Reading.{Reading, Says, Fails, read}
-use Rattle.script_lang.specs.Replies.{ended, line_fault_text, refused_text}
+use Rattle.script_lang.specs.Replies.{text_line, line_fault_text, refused_text}
 use Rattle.script_lang.specs.Requests.{Request}
 use Rattle.script_lang.specs.Requests as asks
 use Rattle.script_lang.specs.declared.faults.Refusal.TheVariants as why
@@ -63,10 +63,11 @@ followed_by a b = record { text = a.text ++ b.text; refused = a.refused + b.refu
 
 unfoldable pub shape_text : (tested touched hits : ℕ) → List ℕ
 shape_text tested touched hits =
-    ended (codes "tested " ++ decimal tested ++ codes " touched " ++ decimal touched ++ codes " hits " ++ decimal hits)
+    text_line (codes "tested " ++ decimal tested ++ codes " touched " ++ decimal touched ++ codes " hits " ++ decimal
+        hits)
 
 unfoldable pub near_text : (touched near : ℕ) → List ℕ
-near_text touched near = ended (codes "touched " ++ decimal touched ++ codes " near " ++ decimal near)
+near_text touched near = text_line (codes "touched " ++ decimal touched ++ codes " near " ++ decimal near)
 
 -- ---- a query
 

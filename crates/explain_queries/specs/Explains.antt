@@ -5,7 +5,7 @@ use Rattle.page_cache.specs.declared.faults.PageFault.{PageFault}
 use Rattle.page_cache.specs.Causes.{HasPageCause}
 use Rattle.page_cache.specs.Evidence.{NotDamaged, OnDamage}
 use Rattle.index_model.specs.State.{Index}
-use Rattle.segment_view.specs.Parts.{heads_of}
+use Rattle.segment_view.specs.LiveSegments.{heads_of}
 use Rattle.segment_set.specs.Sets.{SetData}
 use Rattle.segment_set.specs.Seen.{Sees}
 use Rattle.index_opening.specs.Evidence.{IsEvident}
@@ -31,7 +31,7 @@ pub record IsTold (says : Told → Type 0) (before after : List ℕ) (is_refused
   pub refused : told.refused ≡ cond is_refused 1 0
 
 -- a set between two lines: with the files of its folder, the folder's reads and faults, and the text
-pub record Place : Type 0 where
+pub record ExplainMoment : Type 0 where
   pub set : SetData
   pub files : Files
   pub reads : ℕ
@@ -40,7 +40,7 @@ pub record Place : Type 0 where
 
 -- from the one place to the other it is told what there is to tell, no file changes, and no more is read than leaves
 -- that are touched
-pub record Explains (D : ℕ) (told : Type 0) (tells : Scope → Told → Type 0) (old new : Place)
+pub record Explains (D : ℕ) (told : Type 0) (tells : Scope → Told → Type 0) (old new : ExplainMoment)
     (result : Result Bool PageFault) : Type 0 where
   pub does : told → (s : Scope) → IsExplaining D old.files old.set s → IfOk result (IsTold (tells s) old.text new.text)
   pub stays : told → (s : Scope) → IsExplaining D old.files old.set s → IsExplaining D new.files new.set s

@@ -11,7 +11,7 @@ use Rattle.outer_io.specs.declared.file_name.FileName.TheVariants.{Commit, Commi
 use Rattle.outer_io.specs.Names.{same_name}
 use Rattle.file_names.specs.declared.free.Series.{Series}
 use Rattle.file_names.specs.declared.free.Series.TheVariants.{Segments, Generations}
-use Rattle.file_names.specs.Names.{is_named, IsLeastFree, IsGreatest, IsNextGeneration}
+use Rattle.file_names.specs.Names.{is_named, IsLeastFree, IsGreatestTaken, IsNextGeneration}
 use Rattle.file_names.specs.Series.{name_in, number_in, numbers_in}
 use Rattle.file_names.proofs.Listed.{is_named-none, is_named-first}
 
@@ -82,7 +82,7 @@ reached a (x ∷ xs) =
     (λ (r : list_any (eqb f) xs ≡ true). inr (or_right (eqb f x) (list_any (eqb f) xs) r))
     (reached (max a x) xs)
 
-greatest_of : (x : ℕ) (xs : List ℕ) → IsGreatest (λ q. list_any (eqb q) (x ∷ xs)) (fold max x xs)
+greatest_of : (x : ℕ) (xs : List ℕ) → IsGreatestTaken (λ q. list_any (eqb q) (x ∷ xs)) (fold max x xs)
 greatest_of x xs = record {
   is_taken = ⊎_elim
       (λ e. or_left (eqb (fold max x xs) x) (list_any (eqb (fold max x xs)) xs) (eq-eqb (fold max x xs) x e))
@@ -93,13 +93,14 @@ greatest_of x xs = record {
 
 -- what the greatest of the numbers says of the names
 pub greatest_number : (series : Series) (names : List FileName) (r : Option ℕ) → r ≡ reduce max (numbers_in series names)
-    → MatchOption r ((q : ℕ) → is_named names (name_in series q) ≡ false) (IsGreatest (λ q. is_named names (name_in series q)))
+    → MatchOption r ((q : ℕ) → is_named names (name_in series q) ≡ false) (IsGreatestTaken (λ q. is_named names (name_in series q)))
 greatest_number series names r is =
-    subst (λ (o : Option ℕ). MatchOption o ((q : ℕ) → is_named names (name_in series q) ≡ false) (IsGreatest (λ q. is_named names (name_in series q)))) (sym is)
+    subst (λ (o : Option ℕ). MatchOption o ((q : ℕ) → is_named names (name_in series q) ≡ false) (IsGreatestTaken (λ q. is_named names (name_in series q))))
+        (sym is)
     (go (numbers_in series names) (λ q. named_number series names q))
   where
     go : (xs : List ℕ) → ((q : ℕ) → is_named names (name_in series q) ≡ list_any (eqb q) xs)
-        → MatchOption (reduce max xs) ((q : ℕ) → is_named names (name_in series q) ≡ false) (IsGreatest (λ q. is_named names (name_in series q)))
+        → MatchOption (reduce max xs) ((q : ℕ) → is_named names (name_in series q) ≡ false) (IsGreatestTaken (λ q. is_named names (name_in series q)))
     go [] e = e
     go (x ∷ xs) e =
         let g = greatest_of x xs in
@@ -107,7 +108,7 @@ greatest_number series names r is =
 
 -- ---- the next generation
 
-greatest_once : (taken : ℕ → Bool) (m n : ℕ) → IsGreatest taken m → IsGreatest taken n → m ≡ n
+greatest_once : (taken : ℕ → Bool) (m n : ℕ) → IsGreatestTaken taken m → IsGreatestTaken taken n → m ≡ n
 greatest_once taken m n a b = omega (arith, a.most n b.is_taken, b.most m a.is_taken)
 
 -- the first
@@ -119,18 +120,18 @@ next_first taken none = record {
 }
 
 -- one after the greatest
-pub next_later : (taken : ℕ → Bool) (g : ℕ) → IsGreatest taken g → g + 1 < 2 ^ 64 → IsNextGeneration taken (g + 1)
+pub next_later : (taken : ℕ → Bool) (g : ℕ) → IsGreatestTaken taken g → g + 1 < 2 ^ 64 → IsNextGeneration taken (g + 1)
 next_later taken g is fits = record {
   first = λ none. absurd (both_ways (taken g) (none g) is.is_taken);
   later = λ h also _. ap (λ n. n + 1) (greatest_once taken g h is also);
   at_end = λ h also past. absurd (omega (arith, greatest_once taken g h is also, fits, past));
 }
 
-pub later_free : (taken : ℕ → Bool) (g : ℕ) → IsGreatest taken g → taken (g + 1) ≡ false
+pub later_free : (taken : ℕ → Bool) (g : ℕ) → IsGreatestTaken taken g → taken (g + 1) ≡ false
 later_free taken g is = false_from_ne_true (taken (g + 1)) (λ h. omega (arith, is.most (g + 1) h))
 
 -- the least that is free, at the end
-pub next_at_end : (taken : ℕ → Bool) (g least : ℕ) → IsGreatest taken g → 2 ^ 64 ≤ g + 1 → IsLeastFree taken least → IsNextGeneration taken least
+pub next_at_end : (taken : ℕ → Bool) (g least : ℕ) → IsGreatestTaken taken g → 2 ^ 64 ≤ g + 1 → IsLeastFree taken least → IsNextGeneration taken least
 next_at_end taken g least is past free = record {
   first = λ none. absurd (both_ways (taken g) (none g) is.is_taken);
   later = λ h also fits. absurd (omega (arith, greatest_once taken g h is also, fits, past));

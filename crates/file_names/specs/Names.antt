@@ -32,7 +32,7 @@ pub record IsLeastFree (taken : ℕ → Bool) (number : ℕ) : Type 0 where
   pub least : (n : ℕ) → n < number → taken n ≡ true
 
 -- the greatest number that is taken
-pub record IsGreatest (taken : ℕ → Bool) (number : ℕ) : Type 0 where
+pub record IsGreatestTaken (taken : ℕ → Bool) (number : ℕ) : Type 0 where
   pub is_taken : taken number ≡ true
   pub most : (n : ℕ) → taken n ≡ true → n ≤ number
 
@@ -47,5 +47,5 @@ pub record IsNextId (old : NameList) (id next : ℕ) : Type 0 where
 -- greatest, and where that is past the end of the type it is the least that isn't taken.
 pub record IsNextGeneration (taken : ℕ → Bool) (generation : ℕ) : Type 0 where
   pub first : ((n : ℕ) → taken n ≡ false) → generation ≡ 1
-  pub later : (greatest : ℕ) → IsGreatest taken greatest → greatest + 1 < 2 ^ 64 → generation ≡ greatest + 1
-  pub at_end : (greatest : ℕ) → IsGreatest taken greatest → 2 ^ 64 ≤ greatest + 1 → IsLeastFree taken generation
+  pub later : (greatest : ℕ) → IsGreatestTaken taken greatest → greatest + 1 < 2 ^ 64 → generation ≡ greatest + 1
+  pub at_end : (greatest : ℕ) → IsGreatestTaken taken greatest → 2 ^ 64 ≤ greatest + 1 → IsLeastFree taken generation

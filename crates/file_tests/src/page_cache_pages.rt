@@ -214,10 +214,10 @@ const LIVE: FileName = FileName::Live {
 
 /// Page 0 of segment 7 is taken once, and what is not kept is not.
 fn takes(rt: &impl Abort, cache: &mut PageCache) {
-    let taken = cache.take(&SEGMENT, 0);
+    let taken = cache.remove(&SEGMENT, 0);
     holds(rt, taken.is_some_and(|p| p.b[0] == 0x5a));
-    holds(rt, cache.take(&SEGMENT, 0).is_none());
-    holds(rt, cache.take(&LIVE, 1).is_none());
+    holds(rt, cache.remove(&SEGMENT, 0).is_none());
+    holds(rt, cache.remove(&LIVE, 1).is_none());
 }
 
 /// Whether the first page of segment 8 is there where no call of the folder succeeds, and page 1 of segment 7.

@@ -2,7 +2,7 @@
 //! turn, and so does each read of a page.
 
 ghost use Rattle.std.specs.Prelude.{◌≡◌, ◌≤◌, ◌^◌, vec_len, IfOk};
-ghost use Rattle.bkd_build.specs.Parts.{AreEntries};
+ghost use Rattle.bkd_build.specs.Pieces.{AreEntries};
 
 use crate::asserts::{holds_at, same, same_at};
 use bkd_build::OpenGate;

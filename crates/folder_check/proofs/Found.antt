@@ -13,7 +13,7 @@ use Rattle.live_bits.specs.LiveSet.{LiveSet, is_live}
 use Rattle.documents.specs.Entries.{has_entry}
 use Rattle.segment_file.specs.Heads.{Head}
 use Rattle.segment_file.specs.Segments.{IsSegment}
-use Rattle.segment_view.specs.Parts.{part_of}
+use Rattle.segment_view.specs.LiveSegments.{live_segment}
 use Rattle.document_checks.specs.Crowded.{AreFew, IsLeastCrowded}
 use Rattle.folder_check.specs.declared.findings.Finding.{Finding}
 use Rattle.folder_check.specs.Found.{IsFinding}
@@ -25,7 +25,7 @@ pub found_of : (D : ℕ) (files : Files) (head : Head) (live : LiveSet) (items :
     → f.found ≡ count_by (λ number. has_entry number (items_of entries)) live.live
     → IfNone f.crowded (NoneTwice (items_of entries) × AreFew (items_of entries)) → IfSome f.crowded (λ number. IsLeastCrowded number (items_of entries))
     → f.entries ≡ length entries
-    → IsFinding D files (part_of head live) f
+    → IsFinding D files (live_segment head live) f
 found_of D files head live items entries f held read found none some long = record {
   items = items;
   held = held;

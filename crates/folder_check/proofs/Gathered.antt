@@ -12,7 +12,7 @@ use Rattle.segment_file.specs.Segments.{IsSegment}
 use Rattle.segment_file.specs.LiveFiles.{IsLiveFile}
 use Rattle.stored_index.specs.Segments.{SegmentData, all_live_entries, live_entries, live_sets}
 use Rattle.stored_index.specs.Stored.{HoldsFiles}
-use Rattle.segment_view.specs.Parts.{Part, lives_of, part_of}
+use Rattle.segment_view.specs.LiveSegments.{LiveSegment, lives_of, live_segment}
 use Rattle.index_opening.specs.Opened.{IsOpened}
 use Rattle.folder_check.specs.declared.findings.Finding.{Finding}
 use Rattle.folder_check.specs.Found.{HasAll, IsFinding, IsFoundOf, all_entries}
@@ -29,29 +29,30 @@ pub record HoldsBut (files : Files) (c : CommitData) (s : Listed) (d : SegmentDa
 
 -- this was found of them
 abbrev pub IsFoundIn : SegmentData → Finding → Type 0
-IsFoundIn d f = IsFoundOf (part_of d.head d.live) d.entries f
+IsFoundIn d f = IsFoundOf (live_segment d.head d.live) d.entries f
 
-abbrev pub gathered : (D : ℕ) (files : Files) (parts : List Part) (findings : List Finding) → AllZip (IsFinding D files) parts findings → List SegmentData
+abbrev pub gathered : (D : ℕ) (files : Files) (parts : List LiveSegment) (findings : List Finding) → AllZip (IsFinding D files) parts findings
+    → List SegmentData
 gathered D files [] [] all = []
 gathered D files [] (f ∷ fs) all = []
 gathered D files (p ∷ ps) [] all = []
 gathered D files (p ∷ ps) (f ∷ fs) all = record { head = p.head; entries = all.0.items; live = p.live } ∷ gathered D files ps fs all.1
 
-pub gathered_lives : (D : ℕ) (files : Files) (parts : List Part) (findings : List Finding) (all : AllZip (IsFinding D files) parts findings)
+pub gathered_lives : (D : ℕ) (files : Files) (parts : List LiveSegment) (findings : List Finding) (all : AllZip (IsFinding D files) parts findings)
     → live_sets (gathered D files parts findings all) ≡ lives_of parts
 gathered_lives D files [] [] all = refl
 gathered_lives D files [] (f ∷ fs) all = absurd all
 gathered_lives D files (p ∷ ps) [] all = absurd all
 gathered_lives D files (p ∷ ps) (f ∷ fs) all = ap (λ (ss : List LiveSet). p.live ∷ ss) (gathered_lives D files ps fs all.1)
 
-pub gathered_found : (D : ℕ) (files : Files) (parts : List Part) (findings : List Finding) (all : AllZip (IsFinding D files) parts findings)
+pub gathered_found : (D : ℕ) (files : Files) (parts : List LiveSegment) (findings : List Finding) (all : AllZip (IsFinding D files) parts findings)
     → AllZip IsFoundIn (gathered D files parts findings all) findings
 gathered_found D files [] [] all = tt
 gathered_found D files [] (f ∷ fs) all = absurd all
 gathered_found D files (p ∷ ps) [] all = absurd all
 gathered_found D files (p ∷ ps) (f ∷ fs) all = (all.0.of, gathered_found D files ps fs all.1)
 
-pub gathered_holds : (T : Type 0) (D : ℕ) (files : Files) (c : CommitData) (listed : List Listed) (parts : List Part) (findings : List Finding)
+pub gathered_holds : (T : Type 0) (D : ℕ) (files : Files) (c : CommitData) (listed : List Listed) (parts : List LiveSegment) (findings : List Finding)
     (all : AllZip (IsFinding D files) parts findings) → T → c.dims ≡ D
     → AllZip (IsOpened T files c) listed parts → AllZip (HoldsBut files c) listed (gathered D files parts findings all)
 gathered_holds T D files c [] [] [] all t dims opened = tt

@@ -25,8 +25,8 @@ use Rattle.stored_index.proofs.Damaged.{no_documents, no_entry}
 use Rattle.stored_index.proofs.Pairwise.{partner_of}
 use Rattle.stored_index.proofs.Parts.{EntriesOnce}
 use Rattle.stored_index.proofs.Places.{some_place}
-use Rattle.segment_view.specs.Parts.{Part, lives_of}
-use Rattle.document_checks.specs.Placed.{IsPlaced}
+use Rattle.segment_view.specs.LiveSegments.{LiveSegment, lives_of}
+use Rattle.document_checks.specs.Placed.{IsPlacedOnce}
 use Rattle.document_checks.specs.Crowded.{AreFew, IsLeastCrowded}
 use Rattle.document_checks.proofs.Once.{never_crowded, pairs_from}
 use Rattle.index_opening.specs.Opened.{IsOpened}
@@ -165,9 +165,10 @@ module _ (files : Files) (c : CommitData) (held : List SegmentData) (findings : 
       omega (arith, sum, long, listed, few)
 
 -- it is known where all segments are opened and their leaves are read
-pub gather_all : (T : Type 0) (D : ℕ) (files : Files) (c : CommitData) (parts : List Part) (findings : List Finding) → T → c.dims ≡ D
+pub gather_all : (T : Type 0) (D : ℕ) (files : Files) (c : CommitData) (parts : List LiveSegment) (findings : List Finding) → T → c.dims ≡ D
     → IsCommitFile (bytes_of (files Commit)) c
-    → AllZip (IsOpened T files c) c.listed parts → ((number : ℕ) → IsPlaced c.next (lives_of parts) number) → (all : AllZip (IsFinding D files) parts findings)
+    → AllZip (IsOpened T files c) c.listed parts → ((number : ℕ) → IsPlacedOnce c.next (lives_of parts) number)
+        → (all : AllZip (IsFinding D files) parts findings)
     → AreGathered files c (gathered D files parts findings all) findings
 gather_all T D files c parts findings t dims says opened placed all = record {
   says = says;

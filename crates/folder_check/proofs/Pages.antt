@@ -17,7 +17,7 @@ use Rattle.stored_index.specs.Opening.{segments_pages}
 use Rattle.stored_index.specs.Stored.{HasHead, HaveHeads}
 use Rattle.stored_index.proofs.Parts.{heads_once}
 use Rattle.segment_view.specs.Held.{HasOwnHead}
-use Rattle.segment_view.specs.Parts.{Part, heads_of}
+use Rattle.segment_view.specs.LiveSegments.{LiveSegment, heads_of}
 use Rattle.segment_view.proofs.Stepwise.{heads_more}
 use Rattle.index_opening.specs.Opened.{IsOpened}
 use Rattle.index_opening.proofs.Listed.{opened_heads}
@@ -68,7 +68,7 @@ pub pages_opened : (files : Files) (c : CommitData) (heads : List Head) → Have
     → segments_pages files c.listed heads ≤ sum_by (both_pages files) c.listed
 pages_opened files c heads have = omega (arith, pages_add c.dims files c.listed heads have)
 
-pub pages_whole : (T : Type 0) (files : Files) (c : CommitData) (parts : List Part) (heads : List Head) → T
+pub pages_whole : (T : Type 0) (files : Files) (c : CommitData) (parts : List LiveSegment) (heads : List Head) → T
     → AllZip (IsOpened T files c) c.listed parts → HaveHeads files c heads
     → segments_pages files c.listed heads + sum_by (leaf_pages files) (heads_of parts) ≡ sum_by (both_pages files) c.listed
 pages_whole T files c parts heads t opened have =
@@ -78,28 +78,30 @@ pages_whole T files c parts heads t opened have =
 
 -- ---- one segment more
 
-pub pages_more : (files : Files) (parts : List Part) (i : ℕ) (p : Part) → slice_get parts i ≡ Some p
+pub pages_more : (files : Files) (parts : List LiveSegment) (i : ℕ) (p : LiveSegment) → slice_get parts i ≡ Some p
     → sum_by (leaf_pages files) (heads_of (take (i + 1) parts)) ≡ sum_by (leaf_pages files) (heads_of (take i parts)) + leaf_pages files p.head
 pages_more files parts i p at =
     let front = ap (sum_by (leaf_pages files)) (heads_more parts i p at) ∙ sum_by-append (leaf_pages files) (heads_of (take i parts)) (p.head ∷ []) in
     omega (arith, front)
 
-pub pages_upto : (files : Files) (parts : List Part) (i : ℕ) (p : Part) → slice_get parts i ≡ Some p
+pub pages_upto : (files : Files) (parts : List LiveSegment) (i : ℕ) (p : LiveSegment) → slice_get parts i ≡ Some p
     → sum_by (leaf_pages files) (heads_of (take i parts)) + leaf_pages files p.head ≤ sum_by (leaf_pages files) (heads_of parts)
 pages_upto files parts i p at =
     let front = take (i + 1) parts in
     let back = drop (i + 1) parts in
-    let joined = ap (λ (ps : List Part). sum_by (leaf_pages files) (heads_of ps)) (sym (take-append-drop (i + 1) parts))
-    ∙ ap (sum_by (leaf_pages files)) (map-append (λ (q : Part). q.head) front back) ∙ sum_by-append (leaf_pages files) (heads_of front) (heads_of back) in
+    let joined = ap (λ (ps : List LiveSegment). sum_by (leaf_pages files) (heads_of ps)) (sym (take-append-drop (i + 1) parts))
+    ∙ ap (sum_by (leaf_pages files)) (map-append (λ (q : LiveSegment). q.head) front back)
+        ∙ sum_by-append (leaf_pages files) (heads_of front) (heads_of back) in
     omega (arith, joined, pages_more files parts i p at)
 
 -- what is read of the same files
-pub read_of : (D : ℕ) (files mid : Files) (parts : List Part) (old new : ℕ) → mid ≡ files → All (HasOwnHead D files) parts
+pub read_of : (D : ℕ) (files mid : Files) (parts : List LiveSegment) (old new : ℕ) → mid ≡ files → All (HasOwnHead D files) parts
     → (All (HasOwnHead D mid) parts → new ≤ old + sum_by (leaf_pages mid) (heads_of parts)) → new ≤ old + sum_by (leaf_pages files) (heads_of parts)
 read_of D files mid parts old new same own read =
     subst (λ (f : Files). All (HasOwnHead D f) parts → new ≤ old + sum_by (leaf_pages f) (heads_of parts)) same read own
 
-pub one_read : (D : ℕ) (files mid : Files) (parts : List Part) (p : Part) (old new : ℕ) → mid ≡ files → All (HasOwnHead D files) parts → Contains parts p
+pub one_read : (D : ℕ) (files mid : Files) (parts : List LiveSegment) (p : LiveSegment) (old new : ℕ) → mid ≡ files → All (HasOwnHead D files) parts
+    → Contains parts p
     → (HasOwnHead D mid p → new ≤ old + leaf_pages mid p.head) → new ≤ old + leaf_pages files p.head
 one_read D files mid parts p old new same own there read =
     subst (λ (f : Files). HasOwnHead D f p → new ≤ old + leaf_pages f p.head) same read (All-contains (HasOwnHead D files) parts p own there)

@@ -15,7 +15,7 @@ use Rattle.segment_file.specs.Heads.{Head, HasRanges}
 use Rattle.segment_file.specs.Segments.{IsSegment}
 use Rattle.stored_index.specs.Segments.{SegmentData, live_entries}
 use Rattle.stored_index.proofs.Pairwise.{partner_of}
-use Rattle.segment_view.specs.Parts.{part_of}
+use Rattle.segment_view.specs.LiveSegments.{live_segment}
 use Rattle.document_checks.specs.Crowded.{IsLeastCrowded}
 use Rattle.index_opening.specs.Evidence.{HasNoBody, HoldsEntries, InSegment, IsEvident, IsHeadIn, IsTrueOf, IsTwice, LacksLeaf}
 use Rattle.index_opening.specs.Evidence.{InCommit, InLive, IsFilePair, IsFound, NamesLooked, OfFiles}
@@ -49,7 +49,7 @@ module _ (files : Files) (c : CommitData) (held : List SegmentData) (findings : 
       let s : Listed = part.0 in
       let crowded : IsLeastCrowded number (live_entries e) = subst (λ (o : Option ℕ). IfSome o (λ n. IsLeastCrowded n (live_entries e))) least.is at.2.some in
       subst (IsTrueOf (IsTwice files) files) (sym tells)
-      (InSegment c g.says s part.1 (part_of e.head e.live) part.2.id part.2.live (record {
+      (InSegment c g.says s part.1 (live_segment e.head e.live) part.2.id part.2.live (record {
         items = e.entries;
         held = subst (λ id. IsSegment c.dims (bytes_of (files (Segment id))) e.head e.entries) (sym part.2.id) part.2.segment;
         crowded = crowded.crowded;

@@ -24,12 +24,12 @@ use Rattle.stored_index.specs.Stored.{HaveHeads, HaveLive, HoldsFiles, HoldsInde
 use Rattle.stored_index.proofs.Pairwise.{partner_of}
 use Rattle.stored_index.proofs.Parts.{EntriesOnce}
 use Rattle.stored_index.proofs.Whole.{held_for}
-use Rattle.segment_view.specs.Parts.{Part, lives_of}
+use Rattle.segment_view.specs.LiveSegments.{LiveSegment, lives_of}
 use Rattle.segment_view.specs.Held.{HasOwnHead}
-use Rattle.document_checks.specs.Placed.{IsPlaced}
+use Rattle.document_checks.specs.Placed.{IsPlacedOnce}
 use Rattle.index_opening.specs.Opened.{IsOpened}
 use Rattle.index_opening.specs.Evidence.{IsHeadIn}
-use Rattle.index_opening.specs.Evidence.{IsListed as IsListedFile}
+use Rattle.index_opening.specs.Evidence.{IsOfListed as IsListedFile}
 use Rattle.index_opening.proofs.Evident.{segment_listed}
 use Rattle.index_opening.proofs.Listed.{as_part, opened_heads, opened_lives, parts_held}
 use Rattle.index_opening.proofs.Ordered.{zip_right}
@@ -41,24 +41,24 @@ use Rattle.folder_check.proofs.Judged.{AreGathered, entries_fit, fine_holds, gat
 
 -- ---- what is known of the segments that were opened
 
-pub own_heads : (T : Type 0) (D : ℕ) (files : Files) (c : CommitData) (parts : List Part) → T → c.dims ≡ D → AllZip (IsOpened T files c) c.listed parts
+pub own_heads : (T : Type 0) (D : ℕ) (files : Files) (c : CommitData) (parts : List LiveSegment) → T → c.dims ≡ D → AllZip (IsOpened T files c) c.listed parts
     → All (HasOwnHead D files) parts
 own_heads T D files c parts t dims opened =
     zip_right (IsOpened T files c) (Contains c.listed) (HasOwnHead D files) c.listed parts one (All-contains_itself c.listed) opened
   where
-    one : (s : Listed) (p : Part) → Contains c.listed s → IsOpened T files c s p → HasOwnHead D files p
+    one : (s : Listed) (p : LiveSegment) → Contains c.listed s → IsOpened T files c s p → HasOwnHead D files p
     one s p there o =
         let h = o.head t in
         subst (λ n. IsHeadOf n (bytes_of (files (Segment p.head.id))) p.head) dims
         (subst (λ id. IsHeadOf c.dims (bytes_of (files (Segment id))) p.head) (sym h.id) h.is)
 
-pub file_heads : (T : Type 0) (D : ℕ) (files : Files) (c : CommitData) (parts : List Part) → T → c.dims ≡ D → AllZip (IsOpened T files c) c.listed parts
-    → All (λ (p : Part). ∥ IsHeadIn files D p.head ∥₁) parts
+pub file_heads : (T : Type 0) (D : ℕ) (files : Files) (c : CommitData) (parts : List LiveSegment) → T → c.dims ≡ D → AllZip (IsOpened T files c) c.listed parts
+    → All (λ (p : LiveSegment). ∥ IsHeadIn files D p.head ∥₁) parts
 file_heads T D files c parts t dims opened =
-    All-weaker (HasOwnHead D files) (λ (p : Part). ∥ IsHeadIn files D p.head ∥₁) (λ p h. merely h) parts (own_heads T D files c parts t dims opened)
+    All-weaker (HasOwnHead D files) (λ (p : LiveSegment). ∥ IsHeadIn files D p.head ∥₁) (λ p h. merely h) parts (own_heads T D files c parts t dims opened)
 
 -- where a state is stored each of them has its entries
-pub all_segments : (T : Type 0) (D : ℕ) (files : Files) (c : CommitData) (parts : List Part) → T → c.dims ≡ D → IsCommitFile (bytes_of (files Commit)) c
+pub all_segments : (T : Type 0) (D : ℕ) (files : Files) (c : CommitData) (parts : List LiveSegment) → T → c.dims ≡ D → IsCommitFile (bytes_of (files Commit)) c
     → AllZip (IsOpened T files c) c.listed parts
     → (state : State) → IsStored files state → All (HasSegment D files) parts
 all_segments T D files c parts t dims says opened state stored =
@@ -77,20 +77,20 @@ all_segments T D files c parts t dims says opened state stored =
           (subst (λ id. IsSegment c.dims (bytes_of (files (Segment id))) d.head d.entries) (sym h.id) h.segment),
     )
 
-pub all_listed : (T : Type 0) (files : Files) (c : CommitData) (parts : List Part) → IsCommitFile (bytes_of (files Commit)) c
-    → AllZip (IsOpened T files c) c.listed parts → All (λ (p : Part). IsListedFile files (Segment p.head.id)) parts
+pub all_listed : (T : Type 0) (files : Files) (c : CommitData) (parts : List LiveSegment) → IsCommitFile (bytes_of (files Commit)) c
+    → AllZip (IsOpened T files c) c.listed parts → All (λ (p : LiveSegment). IsListedFile files (Segment p.head.id)) parts
 all_listed T files c parts says =
-    let P = λ (p : Part). IsListedFile files (Segment p.head.id) in
+    let P = λ (p : LiveSegment). IsListedFile files (Segment p.head.id) in
     zip_right (IsOpened T files c) (Contains c.listed) P c.listed parts one (All-contains_itself c.listed)
   where
-    one : (s : Listed) (p : Part) → Contains c.listed s → IsOpened T files c s p → IsListedFile files (Segment p.head.id)
+    one : (s : Listed) (p : LiveSegment) → Contains c.listed s → IsOpened T files c s p → IsListedFile files (Segment p.head.id)
     one s p there o = segment_listed files c s (Segment p.head.id) says there (ap (λ (id : ℕ). Segment id) o.listed.id)
 
 -- ---- what was found, as it is handed on
 
-pub known_of : (T : Type 0) (D : ℕ) (files mid : Files) (c : CommitData) (parts : List Part) (findings : List Finding) → T → mid ≡ files → c.dims ≡ D
+pub known_of : (T : Type 0) (D : ℕ) (files mid : Files) (c : CommitData) (parts : List LiveSegment) (findings : List Finding) → T → mid ≡ files → c.dims ≡ D
     → IsCommitFile (bytes_of (files Commit)) c
-    → AllZip (IsOpened T files c) c.listed parts → ((number : ℕ) → IsPlaced c.next (lives_of parts) number)
+    → AllZip (IsOpened T files c) c.listed parts → ((number : ℕ) → IsPlacedOnce c.next (lives_of parts) number)
     → (All (HasOwnHead D mid) parts → AllZip (IsFinding D mid) parts findings)
     → (held : List SegmentData) × AreGathered files c held findings
 known_of T D files mid c parts findings t same dims says opened placed found =

@@ -12,29 +12,29 @@ use Rattle.page_cache.specs.declared.faults.Damage.{Damage}
 use Rattle.page_cache.specs.declared.faults.Damage.TheVariants.{Unequal, Doubled}
 use Rattle.commit_list.specs.declared.listed.Listed.{Listed}
 use Rattle.segment_file.specs.Segments.{IsSegment}
-use Rattle.segment_view.specs.Parts.{Part}
+use Rattle.segment_view.specs.LiveSegments.{LiveSegment}
 use Rattle.document_checks.specs.Crowded.{AreFew, IsLeastCrowded}
 use Rattle.folder_check.specs.declared.findings.Finding.{Finding}
 
 -- the live ones of these entries
-abbrev pub live_of : Part → List Item → List Item
+abbrev pub live_of : LiveSegment → List Item → List Item
 live_of p items = filter (λ x. is_live p.live x.doc) items
 
 -- this was found of the entries of a segment
-pub record IsFoundOf (p : Part) (items : List Item) (f : Finding) : Type 0 where
+pub record IsFoundOf (p : LiveSegment) (items : List Item) (f : Finding) : Type 0 where
   pub found : f.found ≡ count_by (λ number. has_entry number items) p.live.live
   pub none : IfNone f.crowded (NoneTwice (live_of p items) × AreFew (live_of p items))
   pub some : IfSome f.crowded (λ number. IsLeastCrowded number (live_of p items))
   pub entries : f.entries ≡ length (live_of p items)
 
 -- and these entries are those of its file
-pub record IsFinding (D : ℕ) (files : Files) (p : Part) (f : Finding) : Type 0 where
+pub record IsFinding (D : ℕ) (files : Files) (p : LiveSegment) (f : Finding) : Type 0 where
   pub items : List Item
   pub held : IsSegment D (bytes_of (files (Segment p.head.id))) p.head items
   pub of : IsFoundOf p items f
 
 -- its file is that of a segment
-abbrev pub HasSegment : ℕ → Files → Part → Type 0
+abbrev pub HasSegment : ℕ → Files → LiveSegment → Type 0
 HasSegment D files p = (items : List Item) × IsSegment D (bytes_of (files (Segment p.head.id))) p.head items
 
 -- ---- looked through

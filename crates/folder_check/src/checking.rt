@@ -13,7 +13,7 @@ ghost use Rattle.index_model.specs.State.{State};
 ghost use Rattle.stored_index.specs.Stored.{HaveHeads, HaveLive, HoldsIndex, IsStored, IsUndefined};
 ghost use Rattle.index_opening.specs.Evidence.{IsEvident, IsFound};
 ghost use Rattle.folder_check.specs.Checked.{IsChecked, IsChecking, both_pages};
-ghost use Rattle.folder_check.specs.First.{IsFirst, IsFirstListed};
+ghost use Rattle.folder_check.specs.First.{IsFirst, IsFirstOfCommit};
 
 use crate::findings::judge;
 use crate::reading::read_leaves;
@@ -95,7 +95,7 @@ fn check_commit<F: Folder>(alloc: Global, folder: &mut F, c: &Commit) -> Result<
         → OnDamage result (λ _. IsUndefined (F.files folder.old)) }
     ensures named { IsTrue F.told → IsCommitFile (bytes_of (F.files folder.old CommitName)) c.now
         → OnDamage result (IsFound (F.files folder.old)) }
-    ensures first { IsTrue F.told → OnDamage result (IsFirstListed (IsTrue F.told) (F.files folder.old) c.now) }
+    ensures first { IsTrue F.told → OnDamage result (IsFirstOfCommit (IsTrue F.told) (F.files folder.old) c.now) }
     ensures evident { OnDamage result
         (IsEvident (IsTrue F.told × IsCommitFile (bytes_of (F.files folder.old CommitName)) c.now)
         (F.files folder.old)) }
@@ -132,7 +132,7 @@ pub fn check_index<const D: usize, F: Folder>(
         → OnDamage result (λ _. IsUndefined (F.files folder.old)) }
     ensures named { IsTrue F.told → IsCommitFile (bytes_of (F.files folder.old CommitName)) c.now
         → OnDamage result (IsFound (F.files folder.old)) }
-    ensures first { IsTrue F.told → OnDamage result (IsFirstListed (IsTrue F.told) (F.files folder.old) c.now) }
+    ensures first { IsTrue F.told → OnDamage result (IsFirstOfCommit (IsTrue F.told) (F.files folder.old) c.now) }
     ensures evident { OnDamage result
         (IsEvident (IsTrue F.told × IsCommitFile (bytes_of (F.files folder.old CommitName)) c.now)
         (F.files folder.old)) }

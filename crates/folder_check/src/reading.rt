@@ -7,7 +7,7 @@ ghost use Rattle.page_cache.specs.Cache.{Agrees};
 ghost use Rattle.page_cache.specs.Causes.{HasPageCause};
 ghost use Rattle.page_cache.specs.Evidence.{OnDamage, NotDamaged};
 ghost use Rattle.segment_file.specs.Damages.{IsLeafDamageOf};
-ghost use Rattle.segment_view.specs.Parts.{heads_of, part_of};
+ghost use Rattle.segment_view.specs.LiveSegments.{heads_of, live_segment};
 ghost use Rattle.segment_view.specs.Held.{HasOwnHead};
 ghost use Rattle.segment_view.specs.Damages.{IsPartDamage, IsReadDamage};
 ghost use Rattle.folder_check.specs.Checked.{leaf_pages};
@@ -64,18 +64,18 @@ fn read_segment<const D: usize, F: Pages>(
     live: &LiveBits,
 ) -> Result<Finding, PageFault>
     ensures found { IsTrue F.told → Agrees (F.files folder.old) cache.old
-        → HasOwnHead D (F.files folder.old) (part_of head.now live.now)
-        → IfOk result (IsFinding D (F.files folder.old) (part_of head.now live.now)) }
+        → HasOwnHead D (F.files folder.old) (live_segment head.now live.now)
+        → IfOk result (IsFinding D (F.files folder.old) (live_segment head.now live.now)) }
     ensures files { IsTrue F.told → F.files folder.new ≡ F.files folder.old }
     ensures agrees { IsTrue F.told → Agrees (F.files folder.old) cache.old → Agrees (F.files folder.old) cache.new }
-    ensures reads { IsTrue F.told → HasOwnHead D (F.files folder.old) (part_of head.now live.now)
+    ensures reads { IsTrue F.told → HasOwnHead D (F.files folder.old) (live_segment head.now live.now)
         → F.reads folder.new ≤ F.reads folder.old + leaf_pages (F.files folder.old) head.now }
     ensures cause { HasPageCause (F.faults folder.old) (F.faults folder.new) result }
     ensures shown { OnDamage result (IsReadDamage D head.now) }
     ensures damage { IsTrue F.told → Agrees (F.files folder.old) cache.old
         → OnDamage result (IsLeafDamageOf (F.files folder.old)) }
     ensures whole { IsTrue F.told → Agrees (F.files folder.old) cache.old
-        → HasSegment D (F.files folder.old) (part_of head.now live.now) → NotDamaged result }
+        → HasSegment D (F.files folder.old) (live_segment head.now live.now) → NotDamaged result }
 {
     head.index().is_spelled();
     let entries = read_entries(alloc, folder, cache, head, live)?;

@@ -14,32 +14,33 @@ use Rattle.commit_list.specs.CommitFiles.{IsCommitDamage, IsCommitDamageOf, IsCo
 use Rattle.commit_list.proofs.CommitPages.{file_there}
 use Rattle.documents.proofs.Lists.{nil_none}
 use Rattle.documents.specs.Documents.{Document}
-use Rattle.script_lang.specs.Replies.{ended}
+use Rattle.script_lang.specs.Replies.{text_line}
 use Rattle.index_model.specs.State.{State, new_index}
 use Rattle.index_model.specs.Script.{Answer}
 use Rattle.stored_index.specs.Stored.{IsStored}
 use Rattle.stored_index.proofs.KeptFiles.{stored_still}
-use Rattle.segment_view.specs.Parts.{Part}
+use Rattle.segment_view.specs.LiveSegments.{LiveSegment}
 use Rattle.segment_set.specs.Seen.{Sees}
 use Rattle.index_opening.specs.Evidence.{IsEvident, IsTwice}
 use Rattle.index_opening.proofs.Evident.{on_commit_evident, on_evident_at, on_evident_less}
 use Rattle.index_core.specs.Sessions.{Guards, SessionData}
-use Rattle.index_core.specs.Whole.{DoesWhole, HasNewCanonical, Moment}
+use Rattle.index_core.specs.Whole.{DoesWhole, HasNewCanonical, SessionMoment}
 use Rattle.index_core.proofs.Bringing.{brings_then}
 use Rattle.index_core.proofs.Listed.{new_canonical}
 use Rattle.index_core.proofs.Wholes.{IsCommitted, does_fault}
 use Rattle.drawn_points.specs.Draws.{points}
-use Rattle.drawn_points.specs.Generated.{box_hits, docs_of, documents, generated, kept, made, near_sum, summary}
-use Rattle.generate_index.specs.Generates.{IsMade, Makes, drawn_index, made_docs}
+use Rattle.drawn_points.specs.Generated.{box_hits, docs_of, documents, generate_answer, kept_docs, made_state, near_sum, summary}
+use Rattle.generate_index.specs.Generates.{IsDrawn, Makes, drawn_index, made_docs}
 
 -- a session that was created over a folder without an index
-pub record IsCreated (seed : ℕ) (a : Moment) : Type 0 where
+pub record IsCreated (seed : ℕ) (a : SessionMoment) : Type 0 where
   pub none : a.files Commit ≡ None
   pub guards : Guards 2 a.files a.session
-  pub made : IsMade seed 0 0 a
+  pub made : IsDrawn seed 0 0 a
   pub bare : a.session.set.parts ≡ []
 
-pub created : (seed leaf : ℕ) (files : Files) (s : SessionData) (faults : ℕ) → leaf ≡ 333 → kept 0 (documents seed 0) ≡ documents seed 0 → documents seed 0 ≡ []
+pub created : (seed leaf : ℕ) (files : Files) (s : SessionData) (faults : ℕ) → leaf ≡ 333 → kept_docs 0 (documents seed 0) ≡ documents seed 0
+    → documents seed 0 ≡ []
     → files Commit ≡ None → Sees 2 files s.set (new_index 2 leaf)
     → Guards 2 files s → s.set.parts ≡ [] → IsCreated seed (record { files = files; session = s; faults = faults })
 created seed leaf files s faults is all empty none seen guards bare = record {
@@ -56,21 +57,22 @@ other T page.Memory whole = tt
 other T (page.Damaged d) whole = whole
 
 -- nothing is stored yet
-still_none : {T : Type 0} (told : Type 0) (seed n : ℕ) (a b : Moment) (r : Result T PageFault) → Makes told (IsMade seed 0 0) (IsMade seed n n) a b r → told
+still_none : {T : Type 0} (told : Type 0) (seed n : ℕ) (a b : SessionMoment) (r : Result T PageFault) → Makes told (IsDrawn seed 0 0) (IsDrawn seed n n) a b r
+    → told
     → IsCreated seed a → IsStored b.files None
 still_none told seed n a b r makes t new = stored_still a.files b.files None (makes.kept t new.guards) new.none
 
 -- a fault while it was filled
-pub ends_early : {T : Type 0} (told : Type 0) (seed n : ℕ) (a b : Moment) (answer : Answer) (before after : List ℕ) (fault : PageFault)
+pub ends_early : {T : Type 0} (told : Type 0) (seed n : ℕ) (a b : SessionMoment) (answer : Answer) (before after : List ℕ) (fault : PageFault)
     (r : Result Bool PageFault) → r ≡ Err fault
-    → Makes {T = T} told (IsMade seed 0 0) (IsMade seed n n) a b (Err fault) → told → IsCreated seed a → DoesWhole b.files None answer before after r
+    → Makes {T = T} told (IsDrawn seed 0 0) (IsDrawn seed n n) a b (Err fault) → told → IsCreated seed a → DoesWhole b.files None answer before after r
 ends_early {T = T} told seed n a b answer before after fault r is makes t new = subst (DoesWhole b.files None answer before after) (sym is)
     (does_fault b.files None answer before after fault (other T fault (makes.whole t new.made)) (inl (still_none told seed n a b (Err fault) makes t new)))
 
 -- want of memory after that
-pub ends_unsaid : {T : Type 0} (told : Type 0) (seed n : ℕ) (a b : Moment) (x : T) (answer : Answer) (before after : List ℕ) (r : Result Bool PageFault)
+pub ends_unsaid : {T : Type 0} (told : Type 0) (seed n : ℕ) (a b : SessionMoment) (x : T) (answer : Answer) (before after : List ℕ) (r : Result Bool PageFault)
     → r ≡ Err page.Memory
-    → Makes told (IsMade seed 0 0) (IsMade seed n n) a b (Ok x) → told → IsCreated seed a → DoesWhole b.files None answer before after r
+    → Makes told (IsDrawn seed 0 0) (IsDrawn seed n n) a b (Ok x) → told → IsCreated seed a → DoesWhole b.files None answer before after r
 ends_unsaid told seed n a b x answer before after r is makes t new =
     subst (DoesWhole b.files None answer before after) (sym is)
     (does_fault b.files None answer before after page.Memory tt (inl (still_none told seed n a b (Ok x) makes t new)))
@@ -88,49 +90,50 @@ ends_uncreated files answer before after r is none =
     subst (DoesWhole files None answer before after) (sym is) (does_fault files None answer before after page.Memory tt (inl none))
 
 -- a fault of the commit: nothing is stored, or all
-pub ends_uncommitted : {T U : Type 0} (told : Type 0) (seed n : ℕ) (a b c : Moment) (x : U) (before after : List ℕ) (fault : PageFault)
-    (r : Result Bool PageFault) → r ≡ Err fault → made seed n ≡ Some (drawn_index seed n n)
-    → Makes told (IsMade seed 0 0) (IsMade seed n n) a b (Ok x) → IsCommitted {T = T} 2 told b c (Err fault) → told → IsCreated seed a
-    → DoesWhole c.files None (generated None n seed) before after r
-unfolding generated
+pub ends_uncommitted : {T U : Type 0} (told : Type 0) (seed n : ℕ) (a b c : SessionMoment) (x : U) (before after : List ℕ) (fault : PageFault)
+    (r : Result Bool PageFault) → r ≡ Err fault → made_state seed n ≡ Some (drawn_index seed n n)
+    → Makes told (IsDrawn seed 0 0) (IsDrawn seed n n) a b (Ok x) → IsCommitted {T = T} 2 told b c (Err fault) → told → IsCreated seed a
+    → DoesWhole c.files None (generate_answer None n seed) before after r
+unfolding generate_answer
 ends_uncommitted {T = T} told seed n a b c x before after fault r is law makes commits t new =
     let at = makes.made t new.made in
-    subst (DoesWhole c.files None (generated None n seed) before after) (sym is)
-    (does_fault c.files None (generated None n seed) before after fault (other T fault (commits.whole t (drawn_index seed n n) at))
+    subst (DoesWhole c.files None (generate_answer None n seed) before after) (sym is)
+    (does_fault c.files None (generate_answer None n seed) before after fault (other T fault (commits.whole t (drawn_index seed n n) at))
     (⊎_elim
     (λ same. inl (stored_still b.files c.files None same (still_none told seed n a b (Ok x) makes t new)))
     (λ there. inr (subst (IsStored c.files) (sym law) there))
     (commits.stored t (drawn_index seed n n) at (makes.guards t new.guards))))
 
 -- all is said, and stored
-pub ends_made : {T U : Type 0} (told : Type 0) (seed n : ℕ) (a b c : Moment) (x : U) (y : T) (docs live hits near : ℕ) (before after : List ℕ)
-    → made seed n ≡ Some (drawn_index seed n n)
+pub ends_made : {T U : Type 0} (told : Type 0) (seed n : ℕ) (a b c : SessionMoment) (x : U) (y : T) (docs live hits near : ℕ) (before after : List ℕ)
+    → made_state seed n ≡ Some (drawn_index seed n n)
     → after ≡ before
-    ++ (ended (codes "docs " ++ decimal docs ++ codes " live " ++ decimal live) ++ ended (codes "box hits " ++ decimal hits)
-    ++ ended (codes "nearest sum " ++ decimal near))
+    ++ (text_line (codes "docs " ++ decimal docs ++ codes " live " ++ decimal live) ++ text_line (codes "box hits " ++ decimal hits)
+    ++ text_line (codes "nearest sum " ++ decimal near))
     → (docs ≡ n) × (live ≡ length (made_docs seed n)) × (hits ≡ box_hits (made_docs seed n) (points seed n 64))
     × (near ≡ near_sum (made_docs seed n) (points seed (n + 64) 16))
-    → Makes told (IsMade seed 0 0) (IsMade seed n n) a b (Ok x) → IsCommitted 2 told b c (Ok y) → told → IsCreated seed a
-    → DoesWhole c.files None (generated None n seed) before after (Ok false)
-unfolding generated
+    → Makes told (IsDrawn seed 0 0) (IsDrawn seed n n) a b (Ok x) → IsCommitted 2 told b c (Ok y) → told → IsCreated seed a
+    → DoesWhole c.files None (generate_answer None n seed) before after (Ok false)
+unfolding generate_answer
 ends_made told seed n a b c x y docs live hits near before after law grew (d, l, h, m) makes commits t new = (
   grew
       ∙ (λ j. before
-      ++ (ended (codes "docs " ++ decimal (d j) ++ codes " live " ++ decimal (l j)) ++ ended (codes "box hits " ++ decimal (h j))
-      ++ ended (codes "nearest sum " ++ decimal (m j))))
+      ++ (text_line (codes "docs " ++ decimal (d j) ++ codes " live " ++ decimal (l j)) ++ text_line (codes "box hits " ++ decimal (h j))
+      ++ text_line (codes "nearest sum " ++ decimal (m j))))
       ∙ ap (λ (o : State). before ++ summary seed n (docs_of o)) (sym law),
   refl,
   subst (IsStored c.files) (sym law) (commits.stored t (drawn_index seed n n) (makes.made t new.made) (makes.guards t new.guards)).0,
 )
 
 -- each segment is canonical
-pub made_canon : {T U : Type 0} (told : Type 0) (seed n : ℕ) (a b c : Moment) (x : U) (y : T) → Makes told (IsMade seed 0 0) (IsMade seed n n) a b (Ok x)
+pub made_canon : {T U : Type 0} (told : Type 0) (seed n : ℕ) (a b c : SessionMoment) (x : U) (y : T)
+    → Makes told (IsDrawn seed 0 0) (IsDrawn seed n n) a b (Ok x)
     → IsCommitted 2 told b c (Ok y) → told → IsCreated seed a → HasNewCanonical a.files c.files
 made_canon told seed n a b c x y makes commits t new =
     let at = makes.made t new.made in
     let guards = makes.guards t new.guards in
     new_canonical 2 a.files c.files a.session.set c.session (drawn_index seed n n)
-    (λ p there apart. nil_none p ⊥ (subst (λ (ps : List Part). Contains ps p) new.bare there))
+    (λ p there apart. nil_none p ⊥ (subst (λ (ps : List LiveSegment). Contains ps p) new.bare there))
     (brings_then 2 a.files b.files c.files a.session.set.parts b.session.set.parts c.session.set.parts (makes.canon t) (commits.brings t))
     (commits.seen t (drawn_index seed n n) at) (commits.guards t guards) (commits.says t guards)
     commits.unchanged
@@ -144,8 +147,8 @@ cause_done f0 f1 f2 x y is_refused first second =
 -- ---- an index is there
 
 pub ends_there : (files : Files) (state : State) (n seed : ℕ) (before after : List ℕ) → (files Commit ≡ None → ⊥) → IsStored files state
-    → after ≡ before ++ ended (codes "index exists") → DoesWhole files state (generated state n seed) before after (Ok true)
-unfolding generated
+    → after ≡ before ++ text_line (codes "index exists") → DoesWhole files state (generate_answer state n seed) before after (Ok true)
+unfolding generate_answer
 ends_there files None n seed before after there h grew = absurd (there h)
 ends_there files (Some i) n seed before after there h grew = (grew, refl, h)
 

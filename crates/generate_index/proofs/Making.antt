@@ -1,5 +1,5 @@
 -- A session that makes the index, call after call.
-use Rattle.std.proofs.Common.{◌≡◌, ◌+◌, ℕ, List, [], ◌∷◌, ◌++◌, Result, Ok, Err, OnOk, refl, sym, ap, subst, ◌∙◌, ℤ}
+use Rattle.std.proofs.Common.{◌≡◌, ◌+◌, ℕ, List, [], ◌∷◌, ◌++◌, Result, Ok, Err, refl, sym, ap, subst, ◌∙◌, ℤ}
 use Rattle.std.specs.List.{Contains}
 use Rattle.outer_io.specs.Files.{Files}
 use Rattle.page_cache.specs.declared.faults.PageFault.{PageFault}
@@ -11,34 +11,28 @@ use Rattle.documents.proofs.Lists.{nil_none}
 use Rattle.index_model.specs.State.{Index, new_index}
 use Rattle.stored_index.specs.Kept.{SameKept}
 use Rattle.stored_index.proofs.KeptFiles.{kept_after, kept_itself}
-use Rattle.segment_view.specs.Parts.{Part}
+use Rattle.segment_view.specs.LiveSegments.{LiveSegment}
 use Rattle.segment_set.specs.Seen.{Sees}
 use Rattle.index_opening.specs.Evidence.{IsEvident}
 use Rattle.segment_set.specs.Faithful.{IsFaithful}
 use Rattle.index_opening.proofs.Evident.{on_evident_less}
 use Rattle.index_core.specs.Sessions.{AreTraced, Guards, IsTraced, SessionData, Trusts}
 use Rattle.index_core.specs.Effects.{BringsCanonical}
-use Rattle.index_core.specs.Whole.{Adds, Moment, with_points}
+use Rattle.index_core.specs.Whole.{Adds, SessionMoment, with_points}
 use Rattle.index_core.proofs.Answering.{no_cause}
 use Rattle.index_core.proofs.FaultCauses.{cause_then, fault_to}
 use Rattle.index_core.proofs.Bringing.{brings_same, brings_then}
 use Rattle.drawn_points.specs.Draws.{point}
-use Rattle.drawn_points.specs.Generated.{document, documents, kept}
-use Rattle.generate_index.specs.Generates.{IsMade, Makes, drawn_index}
+use Rattle.drawn_points.specs.Generated.{document, documents, kept_docs}
+use Rattle.generate_index.specs.Generates.{IsDrawn, Makes, drawn_index}
+use Rattle.index_core.proofs.Adding.{on_ok_map}
+use Rattle.index_core.proofs.Committing.{on_ok_any}
 
 abbrev pub At : Type 1
-At = Moment → Type 0
-
-on_ok_map : {T E P Q : Type 0} (r : Result T E) → (P → Q) → OnOk r P → OnOk r Q
-on_ok_map (Ok x) h p = h p
-on_ok_map (Err e) h p = tt
-
-on_ok_any : {T E P : Type 0} (r : Result T E) → P → OnOk r P
-on_ok_any (Ok x) p = p
-on_ok_any (Err e) p = tt
+At = SessionMoment → Type 0
 
 -- nothing was done
-pub makes_none : {T : Type 0} (told : Type 0) (Before : At) (at : Moment) (x : T) → Makes told Before Before at at (Ok x)
+pub makes_none : {T : Type 0} (told : Type 0) (Before : At) (at : SessionMoment) (x : T) → Makes told Before Before at at (Ok x)
 makes_none told Before at x = record {
   made = λ t before. before;
   guards = λ t guards. guards;
@@ -52,7 +46,7 @@ makes_none told Before at x = record {
 }
 
 -- what is trusted before is so after it
-pub makes_trusts : {T : Type 0} (told : Type 0) (Before After : At) (a b : Moment) (r : Result T PageFault) → Makes told Before After a b r → told
+pub makes_trusts : {T : Type 0} (told : Type 0) (Before After : At) (a b : SessionMoment) (r : Result T PageFault) → Makes told Before After a b r → told
     → Trusts 2 a.files a.session → Trusts 2 b.files b.session
 makes_trusts told Before After a b r makes t trusts =
     record { guards = makes.guards t trusts.guards; faithful = makes.faithful t trusts.faithful; traced = makes.traced t trusts }
@@ -62,11 +56,11 @@ pub created_trusts : (files : Files) (s : SessionData) → Guards 2 files s → 
 created_trusts files s guards faithful bare = record {
   guards = guards;
   faithful = faithful;
-  traced = λ p there. nil_none p (IsTraced 2 files p) (subst (λ (ps : List Part). Contains ps p) bare there);
+  traced = λ p there. nil_none p (IsTraced 2 files p) (subst (λ (ps : List LiveSegment). Contains ps p) bare there);
 }
 
 -- some, and then more
-pub makes_then : {T U : Type 0} (told : Type 0) (Before Between After : At) (a b c : Moment) (x : U) (r : Result T PageFault)
+pub makes_then : {T U : Type 0} (told : Type 0) (Before Between After : At) (a b c : SessionMoment) (x : U) (r : Result T PageFault)
     → Makes told Before Between a b (Ok x) → Makes told Between After b c r → Makes told Before After a c r
 makes_then told Before Between After a b c x r first second = record {
   made = λ t before. second.made t (first.made t before);
@@ -82,7 +76,7 @@ makes_then told Before Between After a b c x r first second = record {
 }
 
 -- after a fault it says the same of all that was to come
-pub makes_stopped : {T U : Type 0} (told : Type 0) (Before After Later : At) (a b : Moment) (fault : PageFault) (r : Result U PageFault) → r ≡ Err fault
+pub makes_stopped : {T U : Type 0} (told : Type 0) (Before After Later : At) (a b : SessionMoment) (fault : PageFault) (r : Result U PageFault) → r ≡ Err fault
     → Makes {T = T} told Before After a b (Err fault)
     → Makes told Before Later a b r
 makes_stopped {T = T} {U = U} told Before After Later a b fault r is makes = subst (Makes told Before Later a b) (sym is) (record {
@@ -103,10 +97,10 @@ makes_stopped {T = T} {U = U} told Before After Later a b fault r is makes = sub
     to_other page.Memory whole = tt
 
 -- a drawn document was added
-pub makes_add : {T : Type 0} (told : Type 0) (seed n : ℕ) (p : List ℤ) (a b : Moment) (r : Result T PageFault) → p ≡ point seed n
-    → kept 0 (documents seed n) ≡ documents seed n → kept 0 (documents seed (n + 1)) ≡ documents seed (n + 1)
+pub makes_add : {T : Type 0} (told : Type 0) (seed n : ℕ) (p : List ℤ) (a b : SessionMoment) (r : Result T PageFault) → p ≡ point seed n
+    → kept_docs 0 (documents seed n) ≡ documents seed n → kept_docs 0 (documents seed (n + 1)) ≡ documents seed (n + 1)
     → documents seed (n + 1) ≡ documents seed n ++ document seed n ∷ [] → Adds 2 told (p ∷ []) a b r
-    → Makes told (IsMade seed n 0) (IsMade seed (n + 1) 0) a b r
+    → Makes told (IsDrawn seed n 0) (IsDrawn seed (n + 1) 0) a b r
 makes_add told seed n p a b r drawn all more_all more adds = record {
   made = λ t before. on_ok_map r (subst (Sees 2 b.files b.session.set) one_more) (adds.seen t (drawn_index seed n 0) before);
   guards = adds.guards;
@@ -119,20 +113,20 @@ makes_add told seed n p a b r drawn all more_all more adds = record {
   evident = adds.evident;
 }
   where
-    grown : kept 0 (documents seed n) ++ record { number = n; points = p ∷ [] } ∷ [] ≡ kept 0 (documents seed (n + 1))
+    grown : kept_docs 0 (documents seed n) ++ record { number = n; points = p ∷ [] } ∷ [] ≡ kept_docs 0 (documents seed (n + 1))
     grown = (λ j. all j ++ record { number = n; points = drawn j ∷ [] } ∷ []) ∙ sym more ∙ sym more_all
 
     one_more : with_points (drawn_index seed n 0) (p ∷ []) ≡ drawn_index seed (n + 1) 0
     one_more = ap (λ (docs : List Document). record (new_index 2 333) { next = n + 1; given = n + 1; docs = docs }) grown
 
 -- a call that only reads
-pub makes_reads : {T : Type 0} (told : Type 0) (i : Index) (a b : Moment) (r : Result T PageFault)
+pub makes_reads : {T : Type 0} (told : Type 0) (i : Index) (a b : SessionMoment) (r : Result T PageFault)
     → (told → Sees 2 a.files a.session.set i → Sees 2 b.files b.session.set i)
     → (told → Guards 2 a.files a.session → Guards 2 b.files b.session) → (told → b.files ≡ a.files) → b.session.set.parts ≡ a.session.set.parts
     → HasPageCause a.faults b.faults r
     → (told → Sees 2 a.files a.session.set i → NotDamaged r) → (told → IsFaithful 2 a.files a.session.set → IsFaithful 2 b.files b.session.set)
     → OnDamage r (IsEvident (told × IsFaithful 2 a.files a.session.set) b.files)
-    → Makes told (λ (at : Moment). Sees 2 at.files at.session.set i) (λ (at : Moment). Sees 2 at.files at.session.set i) a b r
+    → Makes told (λ (at : SessionMoment). Sees 2 at.files at.session.set i) (λ (at : SessionMoment). Sees 2 at.files at.session.set i) a b r
 makes_reads told i a b r seen guards files parts cause whole faithful evident = record {
   made = λ t before. on_ok_any r (seen t before);
   guards = guards;
@@ -142,18 +136,19 @@ makes_reads told i a b r seen guards files parts cause whole faithful evident = 
   whole = whole;
   faithful = faithful;
   traced = λ t trusts.
-      subst (λ (ps : List Part). AreTraced 2 b.files ps) (sym parts) (subst (λ (f : Files). AreTraced 2 f a.session.set.parts) (sym (files t)) trusts.traced);
+      subst (λ (ps : List LiveSegment). AreTraced 2 b.files ps) (sym parts)
+          (subst (λ (f : Files). AreTraced 2 f a.session.set.parts) (sym (files t)) trusts.traced);
   evident = on_evident_less (told × IsFaithful 2 a.files a.session.set) (told × Trusts 2 a.files a.session) b.files r (λ h. (h.0, h.1.faithful)) evident;
 }
 
 -- documents were taken out, without a call on the folder
 pub makes_deletes : {T : Type 0} (told : Type 0) (seed n : ℕ) (files : Files) (faults : ℕ) (s t : SessionData) (x : T)
-    → ((files : Files) (faults seed : ℕ) → IsMade seed n 0 (record { files = files; session = s; faults = faults })
-    → IsMade seed n n (record { files = files; session = t; faults = faults }))
+    → ((files : Files) (faults seed : ℕ) → IsDrawn seed n 0 (record { files = files; session = s; faults = faults })
+    → IsDrawn seed n n (record { files = files; session = t; faults = faults }))
     → ((files : Files) → Guards 2 files s → Guards 2 files t) → ((files : Files) → IsFaithful 2 files s.set → IsFaithful 2 files t.set)
     → ((files : Files) → AreTraced 2 files s.set.parts → AreTraced 2 files t.set.parts)
     → ((files : Files) → BringsCanonical 2 files files s.set.parts t.set.parts)
-    → Makes told (IsMade seed n 0) (IsMade seed n n) (record { files = files; session = s; faults = faults })
+    → Makes told (IsDrawn seed n 0) (IsDrawn seed n n) (record { files = files; session = s; faults = faults })
     (record { files = files; session = t; faults = faults }) (Ok x)
 makes_deletes told seed n files faults s t x made guards faithful traced canon = record {
   made = λ h before. made files faults seed before;
@@ -168,7 +163,7 @@ makes_deletes told seed n files faults s t x made guards faithful traced canon =
 }
 
 -- the value that is handed on is another one
-pub makes_ok : {T U : Type 0} (told : Type 0) (Before After : At) (a b : Moment) (x : T) (y : U) → Makes told Before After a b (Ok x)
+pub makes_ok : {T U : Type 0} (told : Type 0) (Before After : At) (a b : SessionMoment) (x : T) (y : U) → Makes told Before After a b (Ok x)
     → Makes told Before After a b (Ok y)
 makes_ok told Before After a b x y makes = record {
   made = makes.made;
@@ -183,11 +178,12 @@ makes_ok told Before After a b x y makes = record {
 }
 
 -- by another name of the number of documents
-pub makes_for : {T : Type 0} (told : Type 0) (Before : At) (seed n m : ℕ) (a b : Moment) (r : Result T PageFault) → n ≡ m
-    → Makes told Before (IsMade seed n 0) a b r → Makes told Before (IsMade seed m 0) a b r
-makes_for told Before seed n m a b r same makes = subst (λ k. Makes told Before (IsMade seed k 0) a b r) same makes
+pub makes_for : {T : Type 0} (told : Type 0) (Before : At) (seed n m : ℕ) (a b : SessionMoment) (r : Result T PageFault) → n ≡ m
+    → Makes told Before (IsDrawn seed n 0) a b r → Makes told Before (IsDrawn seed m 0) a b r
+makes_for told Before seed n m a b r same makes = subst (λ k. Makes told Before (IsDrawn seed k 0) a b r) same makes
 
 -- by another name of the seed
-pub makes_by : {T : Type 0} (told : Type 0) (x seed n : ℕ) (a b : Moment) (r : Result T PageFault) → x ≡ seed → Makes told (IsMade x 0 0) (IsMade x n 0) a b r
-    → Makes told (IsMade seed 0 0) (IsMade seed n 0) a b r
-makes_by told x seed n a b r same makes = subst (λ k. Makes told (IsMade k 0 0) (IsMade k n 0) a b r) same makes
+pub makes_by : {T : Type 0} (told : Type 0) (x seed n : ℕ) (a b : SessionMoment) (r : Result T PageFault) → x ≡ seed
+    → Makes told (IsDrawn x 0 0) (IsDrawn x n 0) a b r
+    → Makes told (IsDrawn seed 0 0) (IsDrawn seed n 0) a b r
+makes_by told x seed n a b r same makes = subst (λ k. Makes told (IsDrawn k 0 0) (IsDrawn k n 0) a b r) same makes

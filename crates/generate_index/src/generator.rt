@@ -18,8 +18,8 @@ ghost use Rattle.index_core.specs.Light.{KeepsLevels};
 ghost use Rattle.index_core.specs.Steps.{KeepsUndone};
 ghost use Rattle.index_core.specs.Whole.{DoesWhole, HasNewCanonical};
 ghost use Rattle.drawn_points.specs.Draws.{draw, points};
-ghost use Rattle.drawn_points.specs.Generated.{box_hits, generated, near_sum};
-ghost use Rattle.generate_index.specs.Generates.{IsMade, Makes, made_docs};
+ghost use Rattle.drawn_points.specs.Generated.{box_hits, generate_answer, near_sum};
+ghost use Rattle.generate_index.specs.Generates.{IsDrawn, Makes, made_docs};
 
 use crate::texts::{put_exists, put_summary};
 use bkd_build::Gate;
@@ -66,7 +66,7 @@ pub fn generate<R: Threads + Sync, F: Folder, G: Gate>(
 ) -> Result<bool, PageFault>
     requires { docs ≤ 1000000 }
     ensures generates { IsTrue F.told → (state : State) → IsStored (F.files folder.old) state
-        → DoesWhole (F.files folder.new) state (generated state docs seed) text.old.items text.new.items result }
+        → DoesWhole (F.files folder.new) state (generate_answer state docs seed) text.old.items text.new.items result }
     ensures unchanged { IsTrue F.told
         → IfOk result (λ refused. refused ≡ true → F.files folder.new ≡ F.files folder.old) }
     ensures canon { IsTrue F.told → (state : State) → IsStored (F.files folder.old) state
@@ -99,7 +99,7 @@ fn generate_first<R: Threads + Sync, F: Folder, G: Gate>(
 ) -> Result<bool, PageFault>
     requires { docs ≤ 1000000 }
     ensures generates { IsTrue F.told → F.files folder.old CommitName ≡ None
-        → DoesWhole (F.files folder.new) None (generated None docs seed) text.old.items text.new.items result }
+        → DoesWhole (F.files folder.new) None (generate_answer None docs seed) text.old.items text.new.items result }
     ensures done { IfOk result (λ refused. refused ≡ true → ⊥) }
     ensures canon { IsTrue F.told → F.files folder.old CommitName ≡ None
         → OnOk result (HasNewCanonical (F.files folder.old) (F.files folder.new)) }
@@ -133,11 +133,11 @@ fn fill<R: Threads + Sync, F: Folder, G: Gate>(
 ) -> Result<Summary, PageFault>
     requires few { docs ≤ 1000000 }
     requires none { session.old.set.given ≡ 0 }
-    ensures makes { Makes (IsTrue F.told) (IsMade seed 0 0) (IsMade seed docs docs)
+    ensures makes { Makes (IsTrue F.told) (IsDrawn seed 0 0) (IsDrawn seed docs docs)
         (record { files = F.files folder.old; session = session.old; faults = F.faults folder.old })
         (record { files = F.files folder.new; session = session.new; faults = F.faults folder.new }) result }
     ensures summary { IsTrue F.told
-        → IsMade seed 0 0
+        → IsDrawn seed 0 0
         (record { files = F.files folder.old; session = session.old; faults = F.faults folder.old })
         → IfOk result
         (λ s. (s.docs ≡ docs) × (s.live ≡ length (made_docs seed docs))
@@ -167,7 +167,7 @@ fn add_drawn<R: Threads + Sync, F: Folder, G: Gate>(
 ) -> Result<(), PageFault>
     requires few { docs ≤ 1000000 }
     requires none { session.old.set.given ≡ 0 }
-    ensures makes { Makes (IsTrue F.told) (IsMade draws.old 0 0) (IsMade draws.old docs 0)
+    ensures makes { Makes (IsTrue F.told) (IsDrawn draws.old 0 0) (IsDrawn draws.old docs 0)
         (record { files = F.files folder.old; session = session.old; faults = F.faults folder.old })
         (record { files = F.files folder.new; session = session.new; faults = F.faults folder.new }) result }
     ensures drawn { OnOk result (draws.new ≡ draw draws.old (2 * docs)) }
@@ -187,10 +187,10 @@ fn add_drawn<R: Threads + Sync, F: Folder, G: Gate>(
 fn delete_tenths(session: &mut Session<2>, docs: u32) -> u32
     requires { docs ≤ 1000000 }
     ensures made { (files : Files) (faults seed : ℕ)
-        → IsMade seed docs 0 (record { files = files; session = session.old; faults = faults })
-        → IsMade seed docs docs (record { files = files; session = session.new; faults = faults }) }
+        → IsDrawn seed docs 0 (record { files = files; session = session.old; faults = faults })
+        → IsDrawn seed docs docs (record { files = files; session = session.new; faults = faults }) }
     ensures live { (files : Files) (faults seed : ℕ)
-        → IsMade seed docs 0 (record { files = files; session = session.old; faults = faults })
+        → IsDrawn seed docs 0 (record { files = files; session = session.old; faults = faults })
         → result ≡ length (made_docs seed docs) }
     ensures guards { (files : Files) → Guards 2 files session.old → Guards 2 files session.new }
     ensures faithful { (files : Files) → IsFaithful 2 files session.old.set → IsFaithful 2 files session.new.set }
@@ -202,7 +202,7 @@ fn delete_tenths(session: &mut Session<2>, docs: u32) -> u32
     let mut live = docs;
     let mut number = 0;
     'deletes: while number < docs {
-        let goes = session.take_out(number);
+        let goes = session.delete_document(number);
         live = left(live, goes);
         number += 10;
     }
@@ -223,11 +223,11 @@ fn ask_boxes<R: Threads + Sync, F: Folder, G: Gate>(
     folder: &mut F,
     draws: &mut Draws,
 ) -> Result<u64, PageFault>
-    ensures makes { (seed n : ℕ) → Makes (IsTrue F.told) (IsMade seed n n) (IsMade seed n n)
+    ensures makes { (seed n : ℕ) → Makes (IsTrue F.told) (IsDrawn seed n n) (IsDrawn seed n n)
         (record { files = F.files folder.old; session = session.old; faults = F.faults folder.old })
         (record { files = F.files folder.new; session = session.new; faults = F.faults folder.new }) result }
     ensures hits { IsTrue F.told → (seed n : ℕ)
-        → IsMade seed n n (record { files = F.files folder.old; session = session.old; faults = F.faults folder.old })
+        → IsDrawn seed n n (record { files = F.files folder.old; session = session.old; faults = F.faults folder.old })
         → draws.old ≡ draw seed (2 * n)
         → IfOk result (λ hits. hits ≡ box_hits (made_docs seed n) (points seed n 64)) }
     ensures drawn { (seed n : ℕ) → draws.old ≡ draw seed (2 * n) → OnOk result (draws.new ≡ draw seed (2 * (n + 64))) }
@@ -254,11 +254,11 @@ fn ask_nearest<R: Threads + Sync, F: Folder, G: Gate>(
     folder: &mut F,
     draws: &mut Draws,
 ) -> Result<u128, PageFault>
-    ensures makes { (seed n : ℕ) → Makes (IsTrue F.told) (IsMade seed n n) (IsMade seed n n)
+    ensures makes { (seed n : ℕ) → Makes (IsTrue F.told) (IsDrawn seed n n) (IsDrawn seed n n)
         (record { files = F.files folder.old; session = session.old; faults = F.faults folder.old })
         (record { files = F.files folder.new; session = session.new; faults = F.faults folder.new }) result }
     ensures near { IsTrue F.told → (seed n : ℕ)
-        → IsMade seed n n (record { files = F.files folder.old; session = session.old; faults = F.faults folder.old })
+        → IsDrawn seed n n (record { files = F.files folder.old; session = session.old; faults = F.faults folder.old })
         → draws.old ≡ draw seed (2 * (n + 64))
         → IfOk result (λ near. near ≡ near_sum (made_docs seed n) (points seed (n + 64) 16)) }
 {

@@ -1,7 +1,7 @@
 //! What is said of a generated index. For want of memory a part of it may be appended.
 
 ghost use Rattle.std.specs.Prelude.{◌≡◌, ◌++◌, OnOk, codes, decimal};
-ghost use Rattle.script_lang.specs.Replies.{ended};
+ghost use Rattle.script_lang.specs.Replies.{text_line};
 
 use crate::generator::Summary;
 use itoa::Buffer;
@@ -11,8 +11,9 @@ use std::alloc::AllocError;
 pub fn put_summary(text: &mut Vec<u8>, s: &Summary) -> Result<(), AllocError>
     ensures { OnOk result
         (text.new.items ≡ text.old.items ++
-        (ended (codes "docs " ++ decimal s.now.docs ++ codes " live " ++ decimal s.now.live)
-        ++ ended (codes "box hits " ++ decimal s.now.hits) ++ ended (codes "nearest sum " ++ decimal s.now.near))) }
+        (text_line (codes "docs " ++ decimal s.now.docs ++ codes " live " ++ decimal s.now.live)
+        ++ text_line (codes "box hits " ++ decimal s.now.hits) ++ text_line
+            (codes "nearest sum " ++ decimal s.now.near))) }
 {
     let mut digits = Buffer::new();
     text.extend_from_slice(b"docs ")?;
@@ -29,7 +30,7 @@ pub fn put_summary(text: &mut Vec<u8>, s: &Summary) -> Result<(), AllocError>
 
 /// Appends that an index is there.
 pub fn put_exists(text: &mut Vec<u8>) -> Result<(), AllocError>
-    ensures { OnOk result (text.new.items ≡ text.old.items ++ ended (codes "index exists")) }
+    ensures { OnOk result (text.new.items ≡ text.old.items ++ text_line (codes "index exists")) }
 {
     text.extend_from_slice(b"index exists\n")
 }

@@ -19,7 +19,7 @@ use Rattle.page_cache.specs.declared.faults.PageFault.TheVariants as page
 use Rattle.page_cache.specs.Causes.{HasPageCause}
 use Rattle.page_cache.specs.Evidence.{NotDamaged, OnDamage}
 use Rattle.point_codec.specs.Order.{in_order}
-use Rattle.point_codec.specs.Points.{ordered}
+use Rattle.point_codec.specs.Points.{ordered_points}
 use Rattle.point_codec.specs.Seen.{coordinates_of}
 use Rattle.point_codec.specs.declared.coordinates.Point.{Point}
 use Rattle.file_names.specs.Names.{NameList, is_named}
@@ -27,7 +27,7 @@ use Rattle.file_names.proofs.Listed.{is_named-none}
 use Rattle.outer_io.specs.declared.file_name.FileName.TheVariants.{Segment}
 use Rattle.index_model.specs.State.{Index}
 use Rattle.stored_index.proofs.KeptFiles.{kept_after, kept_itself}
-use Rattle.segment_view.specs.Parts.{Part}
+use Rattle.segment_view.specs.LiveSegments.{LiveSegment}
 use Rattle.segment_set.specs.Sets.{IsNamed, SetData}
 use Rattle.segment_set.specs.Seen.{Sees}
 use Rattle.segment_set.specs.Kept.{AreCanonical, Follows, KeepsNamed, StaysButCache}
@@ -39,7 +39,7 @@ use Rattle.segment_set.specs.Faults.{HasCauseOf, OnAddDamage}
 use Rattle.segment_set.specs.declared.faults.AddFault.{AddFault}
 use Rattle.segment_set.specs.declared.faults.AddFault.TheVariants as add
 use Rattle.index_core.specs.Sessions.{Guards, SessionData, Trusts}
-use Rattle.index_core.specs.Whole.{Adds, Moment, added, with_point, with_points}
+use Rattle.index_core.specs.Whole.{Adds, SessionMoment, add_result, with_point, with_points}
 use Rattle.index_core.proofs.Answering.{no_cause}
 use Rattle.index_core.proofs.FaultCauses.{cause_then, fault_to, memory_cause}
 use Rattle.index_core.proofs.Bringing.{brings_same, brings_then, brings_written}
@@ -47,7 +47,7 @@ use Rattle.index_core.proofs.Guarding.{guards_after, kept_after_calls}
 use Rattle.index_core.proofs.Tracing.{traced_by, traced_shows}
 
 -- nothing was added
-pub adds_none : {T : Type 0} (D : ℕ) (told : Type 0) (at : Moment) (x : T) → Adds D told [] at at (Ok x)
+pub adds_none : {T : Type 0} (D : ℕ) (told : Type 0) (at : SessionMoment) (x : T) → Adds D told [] at at (Ok x)
 adds_none D told at x = record {
   seen = λ t i seen. seen;
   given = omega arith;
@@ -62,7 +62,7 @@ adds_none D told at x = record {
 }
 
 -- for want of memory nothing is
-pub adds_no_memory : {T : Type 0} (D : ℕ) (told : Type 0) (points : List (List ℤ)) (at : Moment) → Adds {T = T} D told points at at (Err page.Memory)
+pub adds_no_memory : {T : Type 0} (D : ℕ) (told : Type 0) (points : List (List ℤ)) (at : SessionMoment) → Adds {T = T} D told points at at (Err page.Memory)
 adds_no_memory D told points at = record {
   seen = λ t i seen. tt;
   given = tt;
@@ -76,12 +76,12 @@ adds_no_memory D told points at = record {
   evident = tt;
 }
 
-on_ok_map : {T E P Q : Type 0} (r : Result T E) → (P → Q) → OnOk r P → OnOk r Q
+pub on_ok_map : {T E P Q : Type 0} (r : Result T E) → (P → Q) → OnOk r P → OnOk r Q
 on_ok_map (Ok x) h p = h p
 on_ok_map (Err e) h p = tt
 
 -- some, and then more
-pub adds_then : {T U : Type 0} (D : ℕ) (told : Type 0) (xs ys : List (List ℤ)) (a b c : Moment) (x : U) (r : Result T PageFault)
+pub adds_then : {T U : Type 0} (D : ℕ) (told : Type 0) (xs ys : List (List ℤ)) (a b c : SessionMoment) (x : U) (r : Result T PageFault)
     → Adds D told xs a b (Ok x) → Adds D told ys b c r → Adds D told (xs ++ ys) a c r
 adds_then D told xs ys a b c x r first second = record {
   seen = λ t i seen.
@@ -102,7 +102,8 @@ adds_then D told xs ys a b c x r first second = record {
     trusts_then t trusts = record { guards = first.guards t trusts.guards; faithful = first.faithful t trusts.faithful; traced = first.traced t trusts }
 
 -- after a fault it says the same of all that were to come
-pub adds_stopped : {T U : Type 0} (D : ℕ) (told : Type 0) (xs ys : List (List ℤ)) (a b : Moment) (fault : PageFault) (r : Result U PageFault) → r ≡ Err fault
+pub adds_stopped : {T U : Type 0} (D : ℕ) (told : Type 0) (xs ys : List (List ℤ)) (a b : SessionMoment) (fault : PageFault) (r : Result U PageFault)
+    → r ≡ Err fault
     → Adds {T = T} D told xs a b (Err fault) → Adds D told ys a b r
 adds_stopped {T = T} {U = U} D told xs ys a b fault r is adds = subst (Adds D told ys a b) (sym is) (record {
   seen = λ t i seen. tt;
@@ -125,7 +126,7 @@ adds_stopped {T = T} {U = U} D told xs ys a b fault r is adds = subst (Adds D to
 -- ---- one document
 
 -- what the set's call says, in a session whose other parts stay
-pub record IsPut (D : ℕ) (told : Type 0) (point : List ℤ) (old new : Moment) (r : Result ℕ AddFault) : Type 0 where
+pub record IsPut (D : ℕ) (told : Type 0) (point : List ℤ) (old new : SessionMoment) (r : Result ℕ AddFault) : Type 0 where
   pub commit : new.session.commit ≡ old.session.commit
   pub refused : new.session.refused ≡ old.session.refused
   pub leaf : new.session.set.leaf ≡ old.session.set.leaf
@@ -140,29 +141,29 @@ pub record IsPut (D : ℕ) (told : Type 0) (point : List ℤ) (old new : Moment)
   pub faithful : told → IsFaithful D old.files old.session.set → IsFaithful D new.files new.session.set
   pub evident : OnAddDamage r (IsEvidentIn D old.session.set.parts (told × IsFaithful D old.files old.session.set) new.files)
 
-put_cause : (before now : ℕ) (r : Result ℕ AddFault) → HasCauseOf add.Failed before now r → HasPageCause before now (added r)
+put_cause : (before now : ℕ) (r : Result ℕ AddFault) → HasCauseOf add.Failed before now r → HasPageCause before now (add_result r)
 put_cause before now (Ok n) cause = record { later = cause.later; fine = cause.fine; failed = λ e. absurd cc }
 put_cause before now (Err add.Full) cause = memory_cause before now cause.later
 put_cause before now (Err add.Failed) cause = record { later = cause.later; fine = tt; failed = λ e. cause.failed refl }
 put_cause before now (Err (add.Damaged d)) cause = record { later = cause.later; fine = tt; failed = λ e. absurd cc }
 put_cause before now (Err add.Memory) cause = memory_cause before now cause.later
 
-put_shows : (P : Damage → Type 0) (r : Result ℕ AddFault) → OnAddDamage r P → OnDamage (added r) P
+put_shows : (P : Damage → Type 0) (r : Result ℕ AddFault) → OnAddDamage r P → OnDamage (add_result r) P
 put_shows P (Ok n) p = tt
 put_shows P (Err add.Full) p = tt
 put_shows P (Err add.Failed) p = tt
 put_shows P (Err (add.Damaged d)) p = p
 put_shows P (Err add.Memory) p = tt
 
-put_ok : (P : Type 0) (r : Result ℕ AddFault) → OnOk r P → OnOk (added r) P
+put_ok : (P : Type 0) (r : Result ℕ AddFault) → OnOk r P → OnOk (add_result r) P
 put_ok P (Ok n) p = p
 put_ok P (Err add.Full) p = tt
 put_ok P (Err add.Failed) p = tt
 put_ok P (Err (add.Damaged d)) p = tt
 put_ok P (Err add.Memory) p = tt
 
-pub adds_one : (D : ℕ) (told : Type 0) (point : List ℤ) (old new : Moment) (r : Result ℕ AddFault) → IsPut D told point old new r
-    → Adds D told (point ∷ []) old new (added r)
+pub adds_one : (D : ℕ) (told : Type 0) (point : List ℤ) (old new : SessionMoment) (r : Result ℕ AddFault) → IsPut D told point old new r
+    → Adds D told (point ∷ []) old new (add_result r)
 adds_one D told point old new r put = record {
   seen = λ t i seen. put_ok (Sees D new.files new.session.set (with_point i point)) r (put.seen t i seen);
   given = put_ok (new.session.set.given ≡ old.session.set.given + 1) r put.given;
@@ -174,7 +175,7 @@ adds_one D told point old new r put = record {
   whole = λ t i seen. put_shows (λ _. ⊥) r (put.whole t i seen);
   faithful = put.faithful;
   traced = λ t trusts. traced_by D told old.files new.files old.session new.session.set t put.keeps put.follows (put.second t) trusts;
-  evident = traced_shows D told old.files new.files old.session new.session.set.names (added r) put.keeps put.named
+  evident = traced_shows D told old.files new.files old.session new.session.set.names (add_result r) put.keeps put.named
       (put_shows (IsEvidentIn D old.session.set.parts (told × IsFaithful D old.files old.session.set) new.files) r put.evident);
 }
 
@@ -189,7 +190,7 @@ one_in_order {K = K} R o x =
     (entries-insert o empty x tt
     ∙ ap (put R x tt) (no_pairs (entries (empty {X = Unit {0}} {R = R})) (sym (len-entries (empty {X = Unit {0}} {R = R})) ∙ len-empty R (Unit {0}))))
 
-pub one_ordered : (point : List ℤ) → ordered (point ∷ []) ≡ point ∷ []
+pub one_ordered : (point : List ℤ) → ordered_points (point ∷ []) ≡ point ∷ []
 one_ordered point = one_in_order (slice_cmp int_cmp) (lists_total int_cmp_total) point
 
 -- what the set's call says of the points that it got, where these are the one
@@ -209,25 +210,26 @@ put_given P point points before now r is given =
 
 -- ---- of the session that the code opened
 
-pub adds_seen : {T : Type 0} (D : ℕ) (told : Type 0) (points : List (List ℤ)) (files : Files) (s u : SessionData) (faults : ℕ) (new : Moment)
+pub adds_seen : {T : Type 0} (D : ℕ) (told : Type 0) (points : List (List ℤ)) (files : Files) (s u : SessionData) (faults : ℕ) (new : SessionMoment)
     (r : Result T PageFault) → u ≡ s
     → Adds D told points (record { files = files; session = u; faults = faults }) new r
     → Adds D told points (record { files = files; session = s; faults = faults }) new r
 adds_seen D told points files s u faults new r same adds =
     subst (λ (v : SessionData). Adds D told points (record { files = files; session = v; faults = faults }) new r) same adds
 
-pub adds_memory_as : {T : Type 0} (D : ℕ) (told : Type 0) (points : List (List ℤ)) (at : Moment) (r : Result T PageFault) → r ≡ Err page.Memory
+pub adds_memory_as : {T : Type 0} (D : ℕ) (told : Type 0) (points : List (List ℤ)) (at : SessionMoment) (r : Result T PageFault) → r ≡ Err page.Memory
     → Adds D told points at at r
 adds_memory_as D told points at r is = subst (Adds D told points at at) (sym is) (adds_no_memory D told points at)
 
-pub adds_as : {T : Type 0} (D : ℕ) (told : Type 0) (points : List (List ℤ)) (old new : Moment) (r q : Result T PageFault) → q ≡ r → Adds D told points old new r
+pub adds_as : {T : Type 0} (D : ℕ) (told : Type 0) (points : List (List ℤ)) (old new : SessionMoment) (r q : Result T PageFault) → q ≡ r
+    → Adds D told points old new r
     → Adds D told points old new q
 adds_as D told points old new r q is adds = subst (Adds D told points old new) (sym is) adds
 
 -- ---- one point after the other
 
 -- one point more of the list
-pub adds_more : {T U : Type 0} (D : ℕ) (told : Type 0) (points : List (Point D)) (k : ℕ) (p : Point D) (a b c : Moment) (x : U) (r : Result T PageFault)
+pub adds_more : {T U : Type 0} (D : ℕ) (told : Type 0) (points : List (Point D)) (k : ℕ) (p : Point D) (a b c : SessionMoment) (x : U) (r : Result T PageFault)
     → k < length points → p ≡ get_or points k p
     → Adds D told (coordinates_of (take k points)) a b (Ok x) → Adds D told (p.c ∷ []) b c r → Adds D told (coordinates_of (take (k + 1) points)) a c r
 adds_more D told points k p a b c x r inside is first second =
@@ -237,7 +239,7 @@ adds_more D told points k p a b c x r inside is first second =
     (adds_then D told (coordinates_of (take k points)) (p.c ∷ []) a b c x r first second)
 
 -- all of them
-pub adds_all : {T : Type 0} (D : ℕ) (told : Type 0) (points : List (Point D)) (k : ℕ) (a b : Moment) (r : Result T PageFault) → length points ≤ k
+pub adds_all : {T : Type 0} (D : ℕ) (told : Type 0) (points : List (Point D)) (k : ℕ) (a b : SessionMoment) (r : Result T PageFault) → length points ≤ k
     → Adds D told (coordinates_of (take k points)) a b r
     → Adds D told (coordinates_of points) a b r
 adds_all D told points k a b r long adds = subst (λ (qs : List (Point D)). Adds D told (coordinates_of qs) a b r) (take_all k points long) adds
@@ -281,7 +283,7 @@ guards_same D files s u t is names leaf follows guards =
 -- ---- a new set
 
 -- segments whose files are all in an empty list of names are none
-pub bare_parts : (names : NameList) (parts : List Part) → names ≡ record { names = []; next_segment = 0 } → All (IsNamed names) parts → parts ≡ []
+pub bare_parts : (names : NameList) (parts : List LiveSegment) → names ≡ record { names = []; next_segment = 0 } → All (IsNamed names) parts → parts ≡ []
 bare_parts names [] is all = refl
 bare_parts names (p ∷ ps) is all =
     absurd (both_ways (is_named [] (Segment p.head.id)) (is_named-none (Segment p.head.id))

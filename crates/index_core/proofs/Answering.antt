@@ -21,7 +21,7 @@ use Rattle.segment_set.specs.Faithful.{IsFaithful}
 use Rattle.index_opening.proofs.Evident.{none_evident, on_evident_less}
 use Rattle.index_core.specs.Sessions.{SessionData, Trusts}
 use Rattle.index_core.specs.Effects.{BringsCanonical}
-use Rattle.index_core.specs.Steps.{Applies, DoesOver, Place}
+use Rattle.index_core.specs.Steps.{Applies, DoesOver, StepMoment}
 use Rattle.index_core.proofs.Bringing.{brings_same}
 use Rattle.index_core.proofs.Guarding.{guards_after, kept_after_calls}
 use Rattle.index_core.proofs.Tracing.{calm_shows, traced_after, traced_shows}
@@ -63,7 +63,7 @@ does_as D files o p i s before after r same does = subst (λ (q : Outcome). Does
 -- ---- a command that doesn't commit
 
 -- what a call on the set leaves of the session and of what guards its files, which segments it brings, and that what the set keeps of the files stays theirs
-pub record IsCalm (D : ℕ) (told : Type 0) (old new : Place) : Type 0 where
+pub record IsCalm (D : ℕ) (told : Type 0) (old new : StepMoment) : Type 0 where
   pub commit : new.session.commit ≡ old.session.commit
   pub refused : new.session.refused ≡ old.session.refused
   pub leaf : new.session.set.leaf ≡ old.session.set.leaf
@@ -72,7 +72,7 @@ pub record IsCalm (D : ℕ) (told : Type 0) (old new : Place) : Type 0 where
   pub brings : told → BringsCanonical D old.files new.files old.session.set.parts new.session.set.parts
   pub faithful : told → IsFaithful D old.files old.session.set → IsFaithful D new.files new.session.set
 
-applies_with : (D : ℕ) (told : Type 0) (outcome : Index → Outcome) (old new : Place) (r : Result Applied PageFault) → IsCalm D told old new
+applies_with : (D : ℕ) (told : Type 0) (outcome : Index → Outcome) (old new : StepMoment) (r : Result Applied PageFault) → IsCalm D told old new
     → (told → (i : Index) → Sees D old.files old.session.set i → DoesOver D new.files (outcome i) i new.session.set old.text new.text r)
     → Begins old.text new.text → HasPageCause old.faults new.faults r → (told → (i : Index) → Sees D old.files old.session.set i → NotDamaged r)
     → OnDamage r (IsEvident (told × Trusts D old.files old.session) new.files) → Applies D told outcome false old new r
@@ -98,7 +98,7 @@ applies_with D told outcome old new r calm does begins cause whole evident = rec
   canon = λ is_told i seen guards. calm.brings is_told;
 }
 
-pub applies : (D : ℕ) (told : Type 0) (outcome : Index → Outcome) (old new : Place) (r : Result Applied PageFault) → IsCalm D told old new
+pub applies : (D : ℕ) (told : Type 0) (outcome : Index → Outcome) (old new : StepMoment) (r : Result Applied PageFault) → IsCalm D told old new
     → (told → (i : Index) → Sees D old.files old.session.set i → DoesOver D new.files (outcome i) i new.session.set old.text new.text r)
     → Begins old.text new.text → HasPageCause old.faults new.faults r → (told → (i : Index) → Sees D old.files old.session.set i → NotDamaged r)
     → OnDamage r (IsEvident (told × IsFaithful D old.files old.session.set) new.files) → Applies D told outcome false old new r
@@ -107,7 +107,7 @@ applies D told outcome old new r calm does begins cause whole evident = applies_
     (λ (is_told, trusts). (is_told, trusts.faithful)) evident)
 
 -- a call that may merge, whose set has all its segments named
-pub applies_merging : (D : ℕ) (told : Type 0) (outcome : Index → Outcome) (old new : Place) (r : Result Applied PageFault) → IsCalm D told old new
+pub applies_merging : (D : ℕ) (told : Type 0) (outcome : Index → Outcome) (old new : StepMoment) (r : Result Applied PageFault) → IsCalm D told old new
     → All (IsNamed old.session.set.names) old.session.set.parts
     → (told → (i : Index) → Sees D old.files old.session.set i → DoesOver D new.files (outcome i) i new.session.set old.text new.text r)
     → Begins old.text new.text → HasPageCause old.faults new.faults r → (told → (i : Index) → Sees D old.files old.session.set i → NotDamaged r)
@@ -116,7 +116,7 @@ applies_merging D told outcome old new r calm named does begins cause whole evid
     (traced_shows D told old.files new.files old.session new.session.set.names r calm.keeps named evident)
 
 -- and that changes no file
-pub applies_merging_calm : (D : ℕ) (told : Type 0) (outcome : Index → Outcome) (old new : Place) (r : Result Applied PageFault) → IsCalm D told old new
+pub applies_merging_calm : (D : ℕ) (told : Type 0) (outcome : Index → Outcome) (old new : StepMoment) (r : Result Applied PageFault) → IsCalm D told old new
     → (told → new.files ≡ old.files)
     → (told → (i : Index) → Sees D old.files old.session.set i → DoesOver D new.files (outcome i) i new.session.set old.text new.text r)
     → Begins old.text new.text → HasPageCause old.faults new.faults r → (told → (i : Index) → Sees D old.files old.session.set i → NotDamaged r)
@@ -163,7 +163,7 @@ applies_memory D told outcome files session before after faults r is same =
     (memory_cause faults faults (omega arith)) tt)
 
 -- the set handed a fault on, and is seen as before
-pub applies_fault : {T : Type 0} (D : ℕ) (told : Type 0) (outcome : Index → Outcome) (old new : Place) (r : Result Applied PageFault) (fault : PageFault)
+pub applies_fault : {T : Type 0} (D : ℕ) (told : Type 0) (outcome : Index → Outcome) (old new : StepMoment) (r : Result Applied PageFault) (fault : PageFault)
     → IsCalm D told old new → r ≡ Err fault
     → (told → (i : Index) → Sees D old.files old.session.set i → Sees D new.files new.session.set i) → Begins old.text new.text
     → HasPageCause {T = T} old.faults new.faults (Err fault) → (told → (i : Index) → Sees D old.files old.session.set i → NotDamaged {T = T} (Err fault))
@@ -177,7 +177,7 @@ applies_fault D told outcome old new r fault calm same seen begins cause whole e
     (subst (λ q. OnDamage q (IsEvident (told × IsFaithful D old.files old.session.set) new.files)) (sym same) evident)
 
 -- one that may merge did
-pub applies_merging_fault : {T : Type 0} (D : ℕ) (told : Type 0) (outcome : Index → Outcome) (old new : Place) (r : Result Applied PageFault)
+pub applies_merging_fault : {T : Type 0} (D : ℕ) (told : Type 0) (outcome : Index → Outcome) (old new : StepMoment) (r : Result Applied PageFault)
     (fault : PageFault) → IsCalm D told old new
     → All (IsNamed old.session.set.names) old.session.set.parts → r ≡ Err fault
     → (told → (i : Index) → Sees D old.files old.session.set i → Sees D new.files new.session.set i) → Begins old.text new.text
@@ -192,7 +192,7 @@ applies_merging_fault D told outcome old new r fault calm named same seen begins
     (subst (λ q. OnDamage q (IsEvidentIn D old.session.set.parts (told × IsFaithful D old.files old.session.set) new.files)) (sym same) evident)
 
 -- it was done, but there is no memory for the reply: the set is seen as before
-pub applies_unsaid : {T : Type 0} (D : ℕ) (told : Type 0) (outcome : Index → Outcome) (old new : Place) (r : Result Applied PageFault) (x : T)
+pub applies_unsaid : {T : Type 0} (D : ℕ) (told : Type 0) (outcome : Index → Outcome) (old new : StepMoment) (r : Result Applied PageFault) (x : T)
     → IsCalm D told old new → r ≡ Err page.Memory
     → (told → (i : Index) → Sees D old.files old.session.set i → Sees D new.files new.session.set i) → new.text ≡ old.text
     → HasPageCause old.faults new.faults (Ok x) → Applies D told outcome false old new r
@@ -200,7 +200,7 @@ applies_unsaid {T = T} D told outcome old new r x calm same seen text cause = ap
     ([], text ∙ sym (append-nil old.text)) (memory_cause old.faults new.faults cause.later) (λ is_told i sees. tt) tt
 
 -- a command whose call on the set is done, and whose reply was written
-pub applies_done : {T : Type 0} (D : ℕ) (told : Type 0) (outcome : Index → Outcome) (old new : Place) (x : T) (text : List ℕ) → IsCalm D told old new
+pub applies_done : {T : Type 0} (D : ℕ) (told : Type 0) (outcome : Index → Outcome) (old new : StepMoment) (x : T) (text : List ℕ) → IsCalm D told old new
     → (told → (i : Index) → Sees D old.files old.session.set i → DoesOver D new.files (outcome i) i new.session.set old.text new.text (Ok applied.Done))
     → new.text ≡ old.text ++ text → HasPageCause old.faults new.faults (Ok x) → Applies D told outcome false old new (Ok applied.Done)
 applies_done D told outcome old new x text calm does grew cause =
@@ -219,14 +219,14 @@ applies_refused D told outcome files session text faults cause does =
 
 -- the session that the code opened is the one that contracts see
 pub applies_seen : (D : ℕ) (told : Type 0) (outcome : Index → Outcome) (committing : Bool) (files : Files) (s t : SessionData) (text : List ℕ) (faults : ℕ)
-    (new : Place) (r : Result Applied PageFault) → s ≡ t
+    (new : StepMoment) (r : Result Applied PageFault) → s ≡ t
     → Applies D told outcome committing (record { files = files; session = s; text = text; faults = faults }) new r
     → Applies D told outcome committing (record { files = files; session = t; text = text; faults = faults }) new r
 applies_seen D told outcome committing files s t text faults new r same is =
     subst (λ (u : SessionData). Applies D told outcome committing (record { files = files; session = u; text = text; faults = faults }) new r) same is
 
 -- what holds over all files holds over told ones
-pub applies_told : (D : ℕ) (told : Type 0) (outcome : Index → Outcome) (committing : Bool) (old new : Place) (r : Result Applied PageFault)
+pub applies_told : (D : ℕ) (told : Type 0) (outcome : Index → Outcome) (committing : Bool) (old new : StepMoment) (r : Result Applied PageFault)
     → Applies D (Unit {0}) outcome committing old new r → Applies D told outcome committing old new r
 applies_told D told outcome committing old new r is = record {
   does = λ is_told. is.does tt;
@@ -249,12 +249,12 @@ applies_told D told outcome committing old new r is = record {
 }
 
 -- another result, which is the same
-pub applies_is : (D : ℕ) (told : Type 0) (outcome : Index → Outcome) (committing : Bool) (old new : Place) (r q : Result Applied PageFault) → r ≡ q
+pub applies_is : (D : ℕ) (told : Type 0) (outcome : Index → Outcome) (committing : Bool) (old new : StepMoment) (r q : Result Applied PageFault) → r ≡ q
     → Applies D told outcome committing old new q → Applies D told outcome committing old new r
 applies_is D told outcome committing old new r q same is = subst (Applies D told outcome committing old new) (sym same) is
 
 -- another way to say the outcome, for those that the set is seen as
-pub applies_as : (D : ℕ) (told : Type 0) (o p : Index → Outcome) (committing : Bool) (old new : Place) (r : Result Applied PageFault)
+pub applies_as : (D : ℕ) (told : Type 0) (o p : Index → Outcome) (committing : Bool) (old new : StepMoment) (r : Result Applied PageFault)
     → ((i : Index) → Sees D old.files old.session.set i → o i ≡ p i)
     → Applies D told p committing old new r → Applies D told o committing old new r
 applies_as D told o p committing old new r same is = record {

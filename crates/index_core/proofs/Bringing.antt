@@ -6,12 +6,12 @@ use Rattle.std.proofs.lemmas.List.Elements.{All-contains}
 use Rattle.outer_io.specs.declared.file_name.FileName.TheVariants.{Commit, CommitNew, Segment}
 use Rattle.outer_io.specs.Files.{Files, SameButTwo, bytes_of}
 use Rattle.documents.proofs.Lists.{in_map, of_map}
-use Rattle.live_bits.specs.LiveSet.{without}
+use Rattle.live_bits.specs.LiveSet.{live_set_without}
 use Rattle.index_model.specs.State.{Index}
 use Rattle.segment_file.specs.Heads.{Head}
 use Rattle.segment_file.specs.Segments.{IsHeadOf}
 use Rattle.segment_file.proofs.Unique.{head_of_segment, one_head}
-use Rattle.segment_view.specs.Parts.{IsRead, Part, cleared, ids_of}
+use Rattle.segment_view.specs.LiveSegments.{IsRead, LiveSegment, cleared_parts, ids_of}
 use Rattle.file_names.specs.Names.{NameList, is_named}
 use Rattle.segment_set.specs.Sets.{IsNamed, SetData}
 use Rattle.segment_set.specs.Seen.{Sees}
@@ -20,27 +20,27 @@ use Rattle.segment_set.proofs.Carried.{canon_file, canon_named, keeps_calm}
 use Rattle.index_core.specs.Effects.{BringsCanonical, IsOfBefore}
 
 -- the same segments, each with its file as it was
-pub brings_still : (D : ℕ) (f g : Files) (s t : List Part) → ((p : Part) → Contains s p → g (Segment p.head.id) ≡ f (Segment p.head.id)) → t ≡ s
+pub brings_still : (D : ℕ) (f g : Files) (s t : List LiveSegment) → ((p : LiveSegment) → Contains s p → g (Segment p.head.id) ≡ f (Segment p.head.id)) → t ≡ s
     → BringsCanonical D f g s t
 brings_still D f g s t files same p there =
-    let was = subst (λ (ps : List Part). Contains ps p) same there in
+    let was = subst (λ (ps : List LiveSegment). Contains ps p) same there in
     inl (record { part = p; was = was; head = refl; file = files p was })
 
-pub brings_same : (D : ℕ) (f g : Files) (s t : List Part) → g ≡ f → t ≡ s → BringsCanonical D f g s t
+pub brings_same : (D : ℕ) (f g : Files) (s t : List LiveSegment) → g ≡ f → t ≡ s → BringsCanonical D f g s t
 brings_same D f g s t files same = brings_still D f g s t (λ p there. ap (λ (h : Files). h (Segment p.head.id)) files) same
 
 -- where all files but the two of commits are as they were
-pub brings_two : (D : ℕ) (f g : Files) (s t : List Part) → SameButTwo CommitNew Commit f g → t ≡ s → BringsCanonical D f g s t
+pub brings_two : (D : ℕ) (f g : Files) (s t : List LiveSegment) → SameButTwo CommitNew Commit f g → t ≡ s → BringsCanonical D f g s t
 brings_two D f g s t others same = brings_still D f g s t (λ p there. others (Segment p.head.id) (λ e. cc) (λ e. cc)) same
 
 -- the same segments without a number
-pub brings_cleared : (D : ℕ) (files : Files) (number : ℕ) (s t : List Part) → t ≡ cleared number s → BringsCanonical D files files s t
+pub brings_cleared : (D : ℕ) (files : Files) (number : ℕ) (s t : List LiveSegment) → t ≡ cleared_parts number s → BringsCanonical D files files s t
 brings_cleared D files number s t is p there =
-    let r = of_map (λ (q : Part). record q { live = without number q.live }) s p (subst (λ (ps : List Part). Contains ps p) is there) in
-    inl (record { part = r.0; was = r.1; head = ap (λ (q : Part). q.head) r.2; file = refl })
+    let r = of_map (λ (q : LiveSegment). record q { live = live_set_without number q.live }) s p (subst (λ (ps : List LiveSegment). Contains ps p) is there) in
+    inl (record { part = r.0; was = r.1; head = ap (λ (q : LiveSegment). q.head) r.2; file = refl })
 
 -- a call on the set that writes segments under new names alone
-pub brings_written : (D : ℕ) (told : Type 0) (f g : Files) (m n : NameList) (s t : List Part) → told → KeepsNamed told m n f g → Follows m s t
+pub brings_written : (D : ℕ) (told : Type 0) (f g : Files) (m n : NameList) (s t : List LiveSegment) → told → KeepsNamed told m n f g → Follows m s t
     → AreCanonical D g m t → BringsCanonical D f g s t
 brings_written D told f g m n s t is_told keeps follows canon p there = by (is_named m.names (Segment p.head.id)) refl
   where
@@ -52,14 +52,15 @@ brings_written D told f g m n s t is_told keeps follows canon p there = by (is_n
         (follows.each p there)
 
 -- one that gives no name
-pub brings_named : (D : ℕ) (told : Type 0) (f g : Files) (m n : NameList) (s t : List Part) → told → (told → g ≡ f) → n ≡ m → Follows m s t → All (IsNamed n) t
+pub brings_named : (D : ℕ) (told : Type 0) (f g : Files) (m n : NameList) (s t : List LiveSegment) → told → (told → g ≡ f) → n ≡ m → Follows m s t
+    → All (IsNamed n) t
     → BringsCanonical D f g s t
 brings_named D told f g m n s t is_told files names follows named =
     brings_written D told f g m n s t is_told (keeps_calm told m n f g names files) follows
     (canon_named D g m t (subst (λ (l : NameList). All (IsNamed l) t) names named))
 
 -- one call after another
-pub brings_then : (D : ℕ) (f g h : Files) (s t u : List Part) → BringsCanonical D f g s t → BringsCanonical D g h t u → BringsCanonical D f h s u
+pub brings_then : (D : ℕ) (f g h : Files) (s t u : List LiveSegment) → BringsCanonical D f g s t → BringsCanonical D g h t u → BringsCanonical D f h s u
 brings_then D f g h s t u first second p there = ⊎_elim (λ r. through r) inr (second p there)
   where
     through : IsOfBefore g h t p → IsOfBefore f h s p ⊎ HasCanonical D h p.head
@@ -86,6 +87,6 @@ brings_anew D files s t i j old new ids p there = inl (record {
   file = refl;
 })
   where
-    r : (q : Part) × Contains s.parts q × (q.head.id ≡ p.head.id)
-    r = of_map (λ (q : Part). q.head.id) s.parts p.head.id
-        (subst (λ (ns : List ℕ). Contains ns p.head.id) ids (in_map (λ (q : Part). q.head.id) t.parts p there))
+    r : (q : LiveSegment) × Contains s.parts q × (q.head.id ≡ p.head.id)
+    r = of_map (λ (q : LiveSegment). q.head.id) s.parts p.head.id
+        (subst (λ (ns : List ℕ). Contains ns p.head.id) ids (in_map (λ (q : LiveSegment). q.head.id) t.parts p there))

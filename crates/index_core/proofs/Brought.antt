@@ -12,7 +12,7 @@ use Rattle.segment_file.specs.Heads.{Head}
 use Rattle.segment_file.specs.LiveFiles.{IsLiveFile}
 use Rattle.stored_index.specs.Kept.{SameKept}
 use Rattle.stored_index.proofs.KeptFiles.{kept_after, kept_itself, still_says}
-use Rattle.segment_view.specs.Parts.{Part}
+use Rattle.segment_view.specs.LiveSegments.{LiveSegment}
 use Rattle.segment_set.specs.Sets.{SetData}
 use Rattle.segment_set.specs.Kept.{HasCanonical, IsCommitOf}
 use Rattle.segment_set.proofs.Carried.{canon_file}
@@ -34,7 +34,8 @@ partner_for {A} {B} R (y ∷ ys) (x ∷ xs) p k h = elim (cons_cases y ys k h) [
 ]
 
 -- a segment of the set that was saved, of which it is known where it comes from
-whole_of : (D : ℕ) (f g : Files) (parts : List Part) → SameButTwo CommitNew Commit f g → AreTraced D f parts → (l : Listed) (p : Part) → Contains parts p
+whole_of : (D : ℕ) (f g : Files) (parts : List LiveSegment) → SameButTwo CommitNew Commit f g → AreTraced D f parts → (l : Listed) (p : LiveSegment)
+    → Contains parts p
     → IsListedAs g l p → IsWhole D f g l
 whole_of D f g parts others traced l p there is = record {
   segment = ⊎_elim
@@ -61,7 +62,7 @@ whole_of D f g parts others traced l p there is = record {
 
 -- the Commit file says the one that the set saved
 pub brings_commit : (D : ℕ) (f g : Files) (s : SetData) (c : CommitData) → IsCommitOf D s c
-    → AllZip (λ (l : Listed) (p : Part). IsLiveFile l.segment l.generation (bytes_of (f (Live l.segment l.generation))) p.live) c.listed s.parts
+    → AllZip (λ (l : Listed) (p : LiveSegment). IsLiveFile l.segment l.generation (bytes_of (f (Live l.segment l.generation))) p.live) c.listed s.parts
     → SameButTwo CommitNew Commit f g → IsCommitFile (bytes_of (g Commit)) c → GuardsSet D f s → AreTraced D f s.parts → BringsCommit f g
 brings_commit D f g s c of lives others says guards traced = record {
   commit = c;
@@ -78,8 +79,8 @@ brings_commit D f g s c of lives others says guards traced = record {
 }
   where
     all : AllZip (IsListedAs g) c.listed s.parts
-    all = zip_both (λ (l : Listed) (p : Part). (l.segment ≡ p.head.id) × (l.entries ≡ p.head.entries) × (l.live ≡ length p.live.live))
-        (λ (l : Listed) (p : Part). IsLiveFile l.segment l.generation (bytes_of (f (Live l.segment l.generation))) p.live)
+    all = zip_both (λ (l : Listed) (p : LiveSegment). (l.segment ≡ p.head.id) × (l.entries ≡ p.head.entries) × (l.live ≡ length p.live.live))
+        (λ (l : Listed) (p : LiveSegment). IsLiveFile l.segment l.generation (bytes_of (f (Live l.segment l.generation))) p.live)
         (IsListedAs g) c.listed s.parts
         (λ l p same file. record {
           segment = same.0;
@@ -92,7 +93,7 @@ brings_commit D f g s c of lives others says guards traced = record {
 
 -- it says that one, or all is kept
 pub keeps_flight : (D : ℕ) (f g : Files) (s : SetData) (c : CommitData) (saved : Option CommitData) → saved ≡ Some c → IsCommitOf D s c
-    → AllZip (λ (l : Listed) (p : Part). IsLiveFile l.segment l.generation (bytes_of (f (Live l.segment l.generation))) p.live) c.listed s.parts
+    → AllZip (λ (l : Listed) (p : LiveSegment). IsLiveFile l.segment l.generation (bytes_of (f (Live l.segment l.generation))) p.live) c.listed s.parts
     → SameButTwo CommitNew Commit f g → GuardsSet D f s → AreTraced D f s.parts → SameKept f g ⊎ SaysCommit g saved → KeepsCommit f g
 keeps_flight D f g s c saved is of lives others guards traced which = ⊎_elim inl
     (λ (d, same, says). inr (brings_commit D f g s c of lives others

@@ -7,7 +7,7 @@ use Rattle.std.specs.Str.{bytes_eq}
 use Rattle.std.proofs.lemmas.Bool.{both_ways, lt-ltb}
 use Rattle.outer_io.specs.Files.{Files}
 use Rattle.point_codec.specs.Points.{in_box}
-use Rattle.documents.specs.Documents.{Document, deleted, hits, is_live, passes, without}
+use Rattle.documents.specs.Documents.{Document, docs_without, hits, is_live, passes, docs_failing}
 use Rattle.documents.specs.Entries.{is_among}
 use Rattle.documents.proofs.Kept.{among_hits}
 use Rattle.documents.proofs.Lists.{filter_alike}
@@ -15,9 +15,9 @@ use Rattle.script_lang.specs.Requests as asks
 use Rattle.script_lang.specs.Replies.{deleted_text, doc_text, ok_text}
 use Rattle.script_lang.specs.declared.faults.Refusal.TheVariants as why
 use Rattle.index_model.specs.State.{Index, Snapshot, snapshot_of, viewed_docs}
-use Rattle.index_model.specs.Step.{Done, Refused, answered, step_on}
+use Rattle.index_model.specs.Step.{Done, Refused, query_outcome, step_on}
 use Rattle.index_model.specs.declared.session.Applied.TheVariants as applied
-use Rattle.segment_view.specs.Parts.{Contents}
+use Rattle.segment_view.specs.LiveSegments.{Contents}
 use Rattle.segment_set.specs.declared.faults.AddFault.{AddFault}
 use Rattle.segment_set.specs.declared.faults.AddFault.TheVariants as add
 use Rattle.segment_set.specs.declared.faults.BeginFault.{BeginFault}
@@ -70,26 +70,26 @@ does_full D files s i points text seen full =
 
 -- ---- documents are deleted
 
-deleted_none : (number : ℕ) (docs : List Document) → is_live number docs ≡ false → deleted number docs ≡ docs
+deleted_none : (number : ℕ) (docs : List Document) → is_live number docs ≡ false → docs_without number docs ≡ docs
 deleted_none number [] none = refl
 deleted_none number (d ∷ ds) none = by (nat_eq d.number number) (deleted_none number ds) none
   where
-    by : (b : Bool) → (is_live number ds ≡ false → deleted number ds ≡ ds) → (b || is_live number ds) ≡ false
-        → cond (not b) (d ∷ deleted number ds) (deleted number ds) ≡ d ∷ ds
+    by : (b : Bool) → (is_live number ds ≡ false → docs_without number ds ≡ ds) → (b || is_live number ds) ≡ false
+        → cond (not b) (d ∷ docs_without number ds) (docs_without number ds) ≡ d ∷ ds
     by true rest e = absurd cc
     by false rest e = ap (λ (xs : List Document). d ∷ xs) (rest e)
 
 pub does_delete : (D : ℕ) (files : Files) (t : SetData) (i : Index) (number : ℕ) (live : Bool) (before after : List ℕ) → live ≡ is_live number i.docs
-    → Sees D files t (record i { docs = deleted number i.docs })
+    → Sees D files t (record i { docs = docs_without number i.docs })
     → after ≡ before ++ deleted_text (cond live 1 0) → DoesOver D files (step_on i (asks.Delete number)) i t before after (Ok applied.Done)
 unfolding step_on
 does_delete D files t i number live before after same seen grew =
-    does_done D files i (record i { docs = deleted number i.docs }) t (deleted_text (cond (is_live number i.docs) 1 0)) before after seen
+    does_done D files i (record i { docs = docs_without number i.docs }) t (deleted_text (cond (is_live number i.docs) 1 0)) before after seen
     (grew ∙ ap (λ b. before ++ deleted_text (cond b 1 0)) same)
 
 -- where none has the number the set is seen as before
 pub seen_deleted : (D : ℕ) (files : Files) (t : SetData) (i : Index) (number : ℕ) → is_live number i.docs ≡ false
-    → Sees D files t (record i { docs = deleted number i.docs }) → Sees D files t i
+    → Sees D files t (record i { docs = docs_without number i.docs }) → Sees D files t i
 seen_deleted D files t i number none seen = subst (λ (ds : List Document). Sees D files t (record i { docs = ds })) (deleted_none number i.docs none) seen
 
 pub does_delete_box : (D : ℕ) (old new : Files) (s t : SetData) (i : Index) (lo hi : List ℤ) (found : List ℕ) (before after : List ℕ) → Sees D old s i
@@ -98,14 +98,14 @@ pub does_delete_box : (D : ℕ) (old new : Files) (s t : SetData) (i : Index) (l
     → after ≡ before ++ deleted_text (length found) → DoesOver D new (step_on i (asks.DeleteBox lo hi)) i t before after (Ok applied.Done)
 unfolding step_on
 does_delete_box D old new s t i lo hi found before after seen is left grew =
-    does_done D new i (record i { docs = without test i.docs }) t (deleted_text (length (hits test i.docs))) before after
+    does_done D new i (record i { docs = docs_failing test i.docs }) t (deleted_text (length (hits test i.docs))) before after
     (subst (λ (ds : List Document). Sees D new t (record i { docs = ds })) same left)
     (grew ∙ ap (λ (ns : List ℕ). before ++ deleted_text (length ns)) is)
   where
     test : List ℤ → Bool
     test = in_box (record { lo = lo; hi = hi })
 
-    same : filter (λ (d : Document). not (is_among found d.number)) i.docs ≡ without test i.docs
+    same : filter (λ (d : Document). not (is_among found d.number)) i.docs ≡ docs_failing test i.docs
     same = ap (λ (ns : List ℕ). filter (λ (d : Document). not (is_among ns d.number)) i.docs) is
         ∙ filter_alike (λ (d : Document). not (is_among (hits test i.docs) d.number)) (λ d. not (passes test d)) i.docs
         (λ d h. ap not (among_hits test i.docs seen.docs.ascend d h))
@@ -157,18 +157,18 @@ no_docs D files s i (Some name) seen none = by (snapshot_of name i.snapshots) (�
 
 pub does_answered : (D : ℕ) (files : Files) (t : SetData) (i : Index) (view : Option (List ℕ)) (docs : List Document) (text : List Document → List ℕ)
     (before after : List ℕ) → viewed_docs view i ≡ Some docs
-    → Sees D files t i → after ≡ before ++ text docs → DoesOver D files (answered i (viewed_docs view i) text) i t before after (Ok applied.Done)
+    → Sees D files t i → after ≡ before ++ text docs → DoesOver D files (query_outcome i (viewed_docs view i) text) i t before after (Ok applied.Done)
 does_answered D files t i view docs text before after is seen grew =
-    does_as D files (answered i (viewed_docs view i) text) (Done (Some i) (text docs)) i t before after (Ok applied.Done)
-    (ap (λ (o : Option (List Document)). answered i o text) is)
+    does_as D files (query_outcome i (viewed_docs view i) text) (Done (Some i) (text docs)) i t before after (Ok applied.Done)
+    (ap (λ (o : Option (List Document)). query_outcome i o text) is)
     (does_done D files i i t (text docs) before after seen grew)
 
 pub does_unknown : (D : ℕ) (files : Files) (s : SetData) (i : Index) (view : Option (List ℕ)) (out : List Document → List ℕ) (text : List ℕ) → Sees D files s i
     → (HasView view s → ⊥)
-    → DoesOver D files (answered i (viewed_docs view i) out) i s text text (Ok (applied.Refused why.UnknownSnapshot))
+    → DoesOver D files (query_outcome i (viewed_docs view i) out) i s text text (Ok (applied.Refused why.UnknownSnapshot))
 does_unknown D files s i view out text seen none =
-    does_as D files (answered i (viewed_docs view i) out) (Refused why.UnknownSnapshot) i s text text (Ok (applied.Refused why.UnknownSnapshot))
-    (ap (λ (o : Option (List Document)). answered i o out) (no_docs D files s i view seen none)) (refl, seen, refl)
+    does_as D files (query_outcome i (viewed_docs view i) out) (Refused why.UnknownSnapshot) i s text text (Ok (applied.Refused why.UnknownSnapshot))
+    (ap (λ (o : Option (List Document)). query_outcome i o out) (no_docs D files s i view seen none)) (refl, seen, refl)
 
 -- ---- merges
 

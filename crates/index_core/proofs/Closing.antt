@@ -12,14 +12,14 @@ use Rattle.commit_list.specs.declared.listed.Listed.{Listed}
 use Rattle.commit_list.specs.Commits.{CommitData}
 use Rattle.stored_index.specs.Kept.{ListsFile, SameKept}
 use Rattle.stored_index.proofs.KeptFiles.{kept_after}
-use Rattle.segment_view.specs.Parts.{Part, ids_of}
+use Rattle.segment_view.specs.LiveSegments.{LiveSegment, ids_of}
 use Rattle.file_names.specs.Names.{NameList, is_named}
 use Rattle.segment_set.specs.Sets.{IsNamed, NamedView, SetData}
 use Rattle.segment_set.specs.Kept.{IsAsCommitted, IsNeeded, KeepsNamed, StaysButFiles, ViewNeeds}
 use Rattle.segment_set.proofs.Carried.{follows_same, keeps_calm}
 use Rattle.segment_set.proofs.Standing.{ids_named}
 use Rattle.index_core.specs.Sessions.{Guards, IsLast, IsStill, IsUnchanged, ListsOnlyNamed, SessionData}
-use Rattle.index_core.specs.Closed.{IsListed, IsTracked, NamesOnlyListed}
+use Rattle.index_core.specs.Closed.{IsInCommit, IsTracked, NamesOnlyListed}
 use Rattle.index_core.specs.Light.{KeepsLevels}
 use Rattle.index_core.specs.Steps.{KeepsOver, SaysCommit}
 use Rattle.index_core.proofs.Guarding.{guards_after, moved_says, names_listed}
@@ -108,7 +108,7 @@ idle_sweep f g s c is needed others listed = λ j m. each m j
     each : (m : FileName) → g m ≡ f m
     each m = by (is_named s.set.names.names m) refl
       where
-        lists : IsListed s m → ListsFile c m
+        lists : IsInCommit s m → ListsFile c m
         lists (d, here, inside) = subst (λ (e : CommitData). ListsFile e m) (let same : d ≡ c = cc in same) inside
 
         by : (b : Bool) → is_named s.set.names.names m ≡ b → g m ≡ f m
@@ -171,7 +171,7 @@ as_same s t c next given parts buffer same = record {
   next = next ∙ same.next;
   given = given ∙ same.given;
   ids = ap ids_of parts ∙ same.ids;
-  counts = ap (map (λ (p : Part). length p.live.live)) parts ∙ same.counts;
+  counts = ap (map (λ (p : LiveSegment). length p.live.live)) parts ∙ same.counts;
   empty = buffer ∙ same.empty;
 }
 
@@ -193,9 +193,9 @@ module _ (s : SessionData) (t : SetData) (new : SessionData) (eased : t ≡ at_e
   -- a segment of now is one that the commit lists
   part_listed : (m : FileName) (c : CommitData) → c ≡ unchanged.commit → ViewNeeds t.parts m → ListsFile c m
   part_listed m c same (p, there, is) =
-      let inside = subst (λ (ps : List Part). Contains ps p) (ap (λ (u : SetData). u.parts) eased) there in
+      let inside = subst (λ (ps : List LiveSegment). Contains ps p) (ap (λ (u : SetData). u.parts) eased) there in
       let (l, here, at) = of_map (λ (k : Listed). k.segment) unchanged.commit.listed p.head.id
-      (subst (λ (ids : List ℕ). Contains ids p.head.id) unchanged.same.ids (in_map (λ (q : Part). q.head.id) s.set.parts p inside)) in
+      (subst (λ (ids : List ℕ). Contains ids p.head.id) unchanged.same.ids (in_map (λ (q : LiveSegment). q.head.id) s.set.parts p inside)) in
       subst (ListsFile c) (sym is) (l, subst (λ (d : CommitData). Contains d.listed l) (sym same) here, at)
 
   pub only_listed : ((m : FileName) → is_named new.set.names.names m ≡ true → (c : CommitData) × (s.commit ≡ Some c) × IsNeeded t c m) → NamesOnlyListed new

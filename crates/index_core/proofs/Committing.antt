@@ -1,14 +1,14 @@
 -- What is stored: by a commit since which nothing changed, and by one that was written.
 use Rattle.std.proofs.Common.{◌≡◌, ◌≤◌, ◌↔◌, ℕ, Bool, true, false, List, [], ◌∷◌, ◌++◌, length, map, Option, None, Some}
 use Rattle.std.proofs.Common.{Result, Ok, Err, IfOk, OnOk, refl, sym, ap, subst, ◌∙◌, ◌⊎◌, inl, inr, ⊎_elim, arith}
-use Rattle.std.specs.List.{All, AllZip, Contains, filter}
+use Rattle.std.specs.List.{All, AllZip, Contains}
 use Rattle.std.proofs.lemmas.Bool.{both_ways}
 use Rattle.std.proofs.lemmas.List.{append-nil}
 use Rattle.std.proofs.lemmas.List.Elements.{All-head, All-tail}
 use Rattle.outer_io.specs.declared.file_name.FileName.TheVariants.{Commit, CommitNew, Segment, Live}
 use Rattle.outer_io.specs.Files.{Files, bytes_of, SameButTwo}
 use Rattle.point_codec.specs.Points.{Item}
-use Rattle.live_bits.specs.LiveSet.{IsLiveSet, LiveSet, is_live}
+use Rattle.live_bits.specs.LiveSet.{IsLiveSet, LiveSet}
 use Rattle.documents.specs.Entries.{AreDocs}
 use Rattle.documents.proofs.Lists.{cons_head, cons_tail}
 use Rattle.page_cache.specs.declared.faults.PageFault.{PageFault}
@@ -26,7 +26,7 @@ use Rattle.stored_index.specs.Kept.{SameKept}
 use Rattle.stored_index.proofs.KeptFiles.{kept_after, kept_but_commits}
 use Rattle.stored_index.proofs.Whole.{stored_from}
 use Rattle.index_model.specs.State.{Index, at_rest}
-use Rattle.segment_view.specs.Parts.{AreRead, Contents, IsRead, Part, ids_of, live_in_parts, lives_of}
+use Rattle.segment_view.specs.LiveSegments.{AreRead, Contents, IsRead, LiveSegment, ids_of, live_in_parts}
 use Rattle.segment_set.specs.Sets.{SetData}
 use Rattle.segment_set.specs.Seen.{Sees}
 use Rattle.segment_set.specs.Kept.{IsAsCommitted, IsCommitOf, StaysButFiles}
@@ -34,6 +34,7 @@ use Rattle.index_core.specs.Sessions.{CoversPart, Guards, HasDims, IsLast, IsLas
 use Rattle.index_core.specs.Steps.{KeepsOver, SaysCommit, Stores}
 use Rattle.index_core.proofs.Guarding.{cons_first, cons_rest, says_some}
 use Rattle.index_core.proofs.Numbers.{same_live}
+use Rattle.segment_set.proofs.SavedCommit.{data_of, sets_of, entries_of}
 
 -- ---- whether something changed
 
@@ -56,8 +57,8 @@ changed_by s c differs is done same = (
 )
 
 -- a session that is as the commit says that its set saved, after a sweep
-saved_ids : (listed : List Listed) (parts : List Part)
-    → AllZip (λ (l : Listed) (p : Part). (l.segment ≡ p.head.id) × (l.entries ≡ p.head.entries) × (l.live ≡ length p.live.live)) listed parts
+saved_ids : (listed : List Listed) (parts : List LiveSegment)
+    → AllZip (λ (l : Listed) (p : LiveSegment). (l.segment ≡ p.head.id) × (l.entries ≡ p.head.entries) × (l.live ≡ length p.live.live)) listed parts
     → (ids_of parts ≡ map (λ l. l.segment) listed) × (map (λ p. length p.live.live) parts ≡ map (λ l. l.live) listed)
 saved_ids [] [] all = (refl, refl)
 saved_ids [] (p ∷ ps) all = absurd all
@@ -65,7 +66,7 @@ saved_ids (l ∷ ls) [] all = absurd all
 saved_ids (l ∷ ls) (p ∷ ps) all =
     let rest = saved_ids ls ps all.1 in (
       ap (λ n. n ∷ ids_of ps) (sym all.0.0) ∙ ap (λ (ns : List ℕ). l.segment ∷ ns) rest.0,
-      ap (λ n. n ∷ map (λ (q : Part). length q.live.live) ps) (sym all.0.2) ∙ ap (λ (ns : List ℕ). l.live ∷ ns) rest.1,
+      ap (λ n. n ∷ map (λ (q : LiveSegment). length q.live.live) ps) (sym all.0.2) ∙ ap (λ (ns : List ℕ). l.live ∷ ns) rest.1,
     )
 
 pub as_committed : (D : ℕ) (s m t : SetData) (c : CommitData) → IsCommitOf D s c → s.buffer ≡ [] → m ≡ s → StaysButFiles m t → IsAsCommitted t c
@@ -74,7 +75,8 @@ as_committed D s m t c of empty same stays = record {
   given = ap (λ (u : SetData). u.given) stays.is ∙ ap (λ (u : SetData). u.given) same ∙ sym of.given;
   ids = ap (λ (u : SetData). ids_of u.parts) stays.is ∙ ap (λ (u : SetData). ids_of u.parts) same ∙ (saved_ids c.listed s.parts of.lists).0;
   counts =
-      ap (λ (u : SetData). map (λ (p : Part). length p.live.live) u.parts) stays.is ∙ ap (λ (u : SetData). map (λ (p : Part). length p.live.live) u.parts) same
+      ap (λ (u : SetData). map (λ (p : LiveSegment). length p.live.live) u.parts) stays.is
+          ∙ ap (λ (u : SetData). map (λ (p : LiveSegment). length p.live.live) u.parts) same
       ∙ (saved_ids c.listed s.parts of.lists).1;
   empty = ap (λ (u : SetData). u.buffer) stays.is ∙ ap (λ (u : SetData). u.buffer) same ∙ empty;
 }
@@ -85,20 +87,8 @@ live_file_set : (segment generation : ℕ) (bytes : List ℕ) (live : LiveSet) �
 unfolding IsLiveFile
 live_file_set segment generation bytes live file = set_is segment generation live file.body file.set
 
--- a segment of the set, as the files hold it
-abbrev data_of : Contents → Part → SegmentData
-data_of c p = record { head = p.head; entries = c p.head.id; live = p.live }
-
-sets_of : (c : Contents) (parts : List Part) → live_sets (map (data_of c) parts) ≡ lives_of parts
-sets_of c [] = refl
-sets_of c (p ∷ ps) = ap (λ (ss : List LiveSet). p.live ∷ ss) (sets_of c ps)
-
-entries_of : (c : Contents) (parts : List Part) → all_live_entries (map (data_of c) parts) ≡ live_in_parts c parts
-entries_of c [] = refl
-entries_of c (p ∷ ps) = ap (λ (xs : List Item). filter (λ (x : Item). is_live p.live x.doc) (c p.head.id) ++ xs) (entries_of c ps)
-
 -- the files of a listed segment hold the part that they cover, where as many numbers are live in it as it is listed with
-holds_part : (D : ℕ) (files : Files) (contents : Contents) (c : CommitData) (l : Listed) (p : Part) → c.dims ≡ D → p.head.leaf ≡ c.leaf
+holds_part : (D : ℕ) (files : Files) (contents : Contents) (c : CommitData) (l : Listed) (p : LiveSegment) → c.dims ≡ D → p.head.leaf ≡ c.leaf
     → IsRead D files contents p → IsLiveSet p.live
     → l.segment ≡ p.head.id → length p.live.live ≡ l.live → CoversPart files l p → HoldsFiles files c l (data_of contents p)
 holds_part D files contents c l p dims leaf read set id count covers = record {
@@ -115,20 +105,20 @@ holds_part D files contents c l p dims leaf read set id count covers = record {
     same : p.live ≡ covers.live
     same = same_live p.live covers.live set (live_file_set l.segment l.generation _ covers.live covers.file) covers.covers (count ∙ sym covers.count)
 
-hold_parts : (D : ℕ) (files : Files) (contents : Contents) (c : CommitData) (listed : List Listed) (parts : List Part) → c.dims ≡ D
+hold_parts : (D : ℕ) (files : Files) (contents : Contents) (c : CommitData) (listed : List Listed) (parts : List LiveSegment) → c.dims ≡ D
     → All (λ p. p.head.leaf ≡ c.leaf) parts → AreRead D files contents parts
     → All (λ p. IsLiveSet p.live) parts → ids_of parts ≡ map (λ l. l.segment) listed → map (λ p. length p.live.live) parts ≡ map (λ l. l.live) listed
-    → ((l : Listed) (p : Part) → Contains listed l → Contains parts p → l.segment ≡ p.head.id → CoversPart files l p)
+    → ((l : Listed) (p : LiveSegment) → Contains listed l → Contains parts p → l.segment ≡ p.head.id → CoversPart files l p)
     → AllZip (HoldsFiles files c) listed (map (data_of contents) parts)
 hold_parts D files contents c [] [] dims leaf read sets ids counts covers = tt
 hold_parts D files contents c [] (p ∷ ps) dims leaf read sets ids counts covers = absurd cc
 hold_parts D files contents c (l ∷ ls) [] dims leaf read sets ids counts covers = absurd cc
 hold_parts D files contents c (l ∷ ls) (p ∷ ps) dims leaf read sets ids counts covers = (
-  holds_part D files contents c l p dims (All-head (λ (q : Part). q.head.leaf ≡ c.leaf) p ps leaf) (All-head (IsRead D files contents) p ps read)
-      (All-head (λ (q : Part). IsLiveSet q.live) p ps sets)
+  holds_part D files contents c l p dims (All-head (λ (q : LiveSegment). q.head.leaf ≡ c.leaf) p ps leaf) (All-head (IsRead D files contents) p ps read)
+      (All-head (λ (q : LiveSegment). IsLiveSet q.live) p ps sets)
       (sym (cons_first ids)) (cons_first counts) (covers l p (cons_head l ls) (cons_head p ps) (sym (cons_first ids))),
-  hold_parts D files contents c ls ps dims (All-tail (λ (q : Part). q.head.leaf ≡ c.leaf) p ps leaf) (All-tail (IsRead D files contents) p ps read)
-      (All-tail (λ (q : Part). IsLiveSet q.live) p ps sets)
+  hold_parts D files contents c ls ps dims (All-tail (λ (q : LiveSegment). q.head.leaf ≡ c.leaf) p ps leaf) (All-tail (IsRead D files contents) p ps read)
+      (All-tail (λ (q : LiveSegment). IsLiveSet q.live) p ps sets)
       (cons_rest ids) (cons_rest counts) (λ m q inside there same. covers m q (cons_tail l ls m inside) (cons_tail p ps q there) same),
 )
 

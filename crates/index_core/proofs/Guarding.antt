@@ -16,10 +16,10 @@ use Rattle.segment_file.specs.LiveFiles.{IsLiveFile}
 use Rattle.stored_index.specs.Kept.{ListsFile, SameKept}
 use Rattle.stored_index.proofs.KeptFiles.{kept_named, kept_none, never_commits}
 use Rattle.stored_index.proofs.Pairwise.{partner_of}
-use Rattle.segment_view.specs.Parts.{Part}
+use Rattle.segment_view.specs.LiveSegments.{LiveSegment}
 use Rattle.file_names.specs.Names.{NameList, is_named}
 use Rattle.segment_set.specs.Sets.{SetData}
-use Rattle.segment_set.specs.Kept.{Follows, IsCommitOf, IsNeeded, IsWithin, KeepsNamed}
+use Rattle.segment_set.specs.Kept.{Follows, IsCommitOf, IsNeeded, IsSubset, KeepsNamed}
 use Rattle.segment_set.proofs.Carried.{within_itself, within_then}
 use Rattle.index_core.specs.Sessions.{CoversPart, Guards, GuardsSet, IsLast, IsLastCommit, ListsOnlyNamed, SessionData}
 
@@ -62,8 +62,8 @@ set_after D told f g s t is_told keeps leaf guards = ⊎_elim
     }))
     guards
 
-pub part_after : (f g : Files) (l : Listed) (p q : Part) → g (Live l.segment l.generation) ≡ f (Live l.segment l.generation) → p.head ≡ q.head
-    → IsWithin p.live q.live → CoversPart f l q → CoversPart g l p
+pub part_after : (f g : Files) (l : Listed) (p q : LiveSegment) → g (Live l.segment l.generation) ≡ f (Live l.segment l.generation) → p.head ≡ q.head
+    → IsSubset p.live q.live → CoversPart f l q → CoversPart g l p
 part_after f g l p q same head within covers = record {
   entries = covers.entries ∙ ap (λ (h : Head). h.entries) (sym head);
   live = covers.live;
@@ -126,23 +126,25 @@ one_listed (x ∷ xs) l m up h k same = ⊎_elim
     first y there = pairs_head (λ (a b : ℕ). a < b) x.segment (ids_of xs) up y.segment (in_map (λ (s : Listed). s.segment) xs y there)
 
 -- each listed segment stands beside the segment of its id
-beside : (R : Listed → Part → Type 0) (c : CommitData) (parts : List Part) → IsCommit c → ((l : Listed) (p : Part) → R l p → l.segment ≡ p.head.id)
+beside : (R : Listed → LiveSegment → Type 0) (c : CommitData) (parts : List LiveSegment) → IsCommit c
+    → ((l : Listed) (p : LiveSegment) → R l p → l.segment ≡ p.head.id)
     → AllZip R c.listed parts
-    → (l : Listed) (p : Part) → Contains c.listed l → Contains parts p → l.segment ≡ p.head.id → R l p
+    → (l : Listed) (p : LiveSegment) → Contains c.listed l → Contains parts p → l.segment ≡ p.head.id → R l p
 beside R c parts rules ids all l p inside there same =
     let m = partner_of R c.listed parts all p there in
     subst (λ (k : Listed). R k p)
     (one_listed c.listed m.0 l (AllPairs-from_increasing (ids_of c.listed) rules.segments.rising) m.1 inside (ids m.0 p m.2 ∙ sym same)) m.2
 
 -- it is listed with the part's entries and live numbers, and its file of live bits holds just these
-pub record IsListedAs (files : Files) (l : Listed) (p : Part) : Type 0 where
+pub record IsListedAs (files : Files) (l : Listed) (p : LiveSegment) : Type 0 where
   pub segment : l.segment ≡ p.head.id
   pub entries : l.entries ≡ p.head.entries
   pub count : l.live ≡ length p.live.live
   pub file : IsLiveFile l.segment l.generation (bytes_of (files (Live l.segment l.generation))) p.live
 
-pub covers_all : (files : Files) (c : CommitData) (parts : List Part) → IsCommitFile (bytes_of (files Commit)) c → AllZip (IsListedAs files) c.listed parts
-    → (l : Listed) (p : Part) → Contains c.listed l → Contains parts p → l.segment ≡ p.head.id → CoversPart files l p
+pub covers_all : (files : Files) (c : CommitData) (parts : List LiveSegment) → IsCommitFile (bytes_of (files Commit)) c
+    → AllZip (IsListedAs files) c.listed parts
+    → (l : Listed) (p : LiveSegment) → Contains c.listed l → Contains parts p → l.segment ≡ p.head.id → CoversPart files l p
 covers_all files c parts says all l p inside there same =
     let is = beside (IsListedAs files) c parts (says.spells.commit) (λ m q h. h.segment) all l p inside there same in
     record { entries = is.entries; live = p.live; file = is.file; count = sym is.count; covers = within_itself p.live }
@@ -166,15 +168,15 @@ pub listed_still : (f g : Files) (c : CommitData) (m : FileName) → SameButTwo 
 listed_still f g c m others lists = let apart = never_commits c m lists in others m apart.1 apart.0
 
 pub guards_written : (D : ℕ) (f g : Files) (s : SetData) (c : CommitData) → IsCommitOf D s c
-    → AllZip (λ (l : Listed) (p : Part). IsLiveFile l.segment l.generation (bytes_of (f (Live l.segment l.generation))) p.live) c.listed s.parts
+    → AllZip (λ (l : Listed) (p : LiveSegment). IsLiveFile l.segment l.generation (bytes_of (f (Live l.segment l.generation))) p.live) c.listed s.parts
     → SameButTwo CommitNew Commit f g → IsCommitFile (bytes_of (g Commit)) c → Guards D g (record { set = s; commit = Some c; refused = false })
 guards_written D f g s c of lives others says = record {
   set = set_written D g s c of says;
   last = λ done. record {
     says = says;
     covers = covers_all g c s.parts says
-        (zip_both (λ (l : Listed) (p : Part). (l.segment ≡ p.head.id) × (l.entries ≡ p.head.entries) × (l.live ≡ length p.live.live))
-        (λ (l : Listed) (p : Part). IsLiveFile l.segment l.generation (bytes_of (f (Live l.segment l.generation))) p.live)
+        (zip_both (λ (l : Listed) (p : LiveSegment). (l.segment ≡ p.head.id) × (l.entries ≡ p.head.entries) × (l.live ≡ length p.live.live))
+        (λ (l : Listed) (p : LiveSegment). IsLiveFile l.segment l.generation (bytes_of (f (Live l.segment l.generation))) p.live)
         (IsListedAs g) c.listed s.parts
         (λ l p same file. record {
           segment = same.0;
@@ -203,7 +205,7 @@ guards_refused D f g s c refused of guards which = record {
 
 -- of the session that the code opened
 pub guards_done : (D : ℕ) (f g : Files) (s u : SessionData) (c : CommitData) → u ≡ s → IsCommitOf D s.set c
-    → AllZip (λ (l : Listed) (p : Part). IsLiveFile l.segment l.generation (bytes_of (f (Live l.segment l.generation))) p.live) c.listed s.set.parts
+    → AllZip (λ (l : Listed) (p : LiveSegment). IsLiveFile l.segment l.generation (bytes_of (f (Live l.segment l.generation))) p.live) c.listed s.set.parts
     → SameButTwo CommitNew Commit f g → IsCommitFile (bytes_of (g Commit)) c → Guards D g (record { set = u.set; commit = Some c; refused = false })
 guards_done D f g s u c same of lives others says =
     subst (λ (v : SessionData). Guards D g (record { set = v.set; commit = Some c; refused = false })) (sym same)
@@ -239,7 +241,7 @@ guards_swept D f g s t c swept guards = record {
   last = λ done. record {
     says = moved_says f g c swept.commit last.says;
     covers = λ l p inside there id.
-        let covers = last.covers l p inside (subst (λ (ps : List Part). Contains ps p) swept.parts there) id in
+        let covers = last.covers l p inside (subst (λ (ps : List LiveSegment). Contains ps p) swept.parts there) id in
         part_after f g l p p (swept.files (Live l.segment l.generation) (inl (l, inside, refl, refl))) refl (within_itself p.live) covers;
   };
 }

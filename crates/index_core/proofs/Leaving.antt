@@ -9,7 +9,7 @@ use Rattle.documents.specs.Entries.{is_among}
 use Rattle.documents.proofs.Kept.{among_to}
 use Rattle.documents.proofs.Lists.{of_filter}
 use Rattle.outer_io.specs.Files.{Files}
-use Rattle.segment_view.specs.Parts.{Part, ids_of, parts_but}
+use Rattle.segment_view.specs.LiveSegments.{LiveSegment, ids_of, parts_but}
 use Rattle.segment_build.specs.NewSegments.{NewSegmentData}
 use Rattle.file_names.specs.Names.{NameList, is_named}
 use Rattle.segment_set.specs.declared.faults.BeginFault.{BeginFault}
@@ -17,7 +17,7 @@ use Rattle.segment_set.specs.declared.faults.BeginFault.TheVariants as begin
 use Rattle.segment_set.specs.declared.faults.EndFault.{EndFault}
 use Rattle.segment_set.specs.declared.faults.EndFault.TheVariants as end
 use Rattle.segment_set.specs.Sets.{BegunMerge, IsNamed, IsWell, SetData, inputs_of}
-use Rattle.segment_set.specs.Merges.{IsPut, Replaces, living}
+use Rattle.segment_set.specs.Merges.{Swaps, Replaces, living}
 use Rattle.segment_set.proofs.Carried.{placed_cases}
 use Rattle.segment_set.proofs.Grown.{named_apart}
 use Rattle.segment_set.proofs.Standing.{ids_named}
@@ -44,21 +44,21 @@ not_again : (names : NameList) (ids : List ℕ) (id : ℕ) → ((n : ℕ) → Co
 not_again names ids id named fresh =
     false_from_ne_true (is_among ids id) (λ there. both_ways (is_named names.names (Segment id)) fresh (named id (among_to ids id there)))
 
-not_but : (ids : List ℕ) (parts : List Part) (p : Part) → Contains (parts_but ids parts) p → is_among ids p.head.id ≡ false
-not_but ids parts p there = not-true (is_among ids p.head.id) (of_filter (λ (q : Part). not (is_among ids q.head.id)) parts p there).1
+not_but : (ids : List ℕ) (parts : List LiveSegment) (p : LiveSegment) → Contains (parts_but ids parts) p → is_among ids p.head.id ≡ false
+not_but ids parts p there = not-true (is_among ids p.head.id) (of_filter (λ (q : LiveSegment). not (is_among ids q.head.id)) parts p there).1
 
-put_gone : (D : ℕ) (told : Type 0) (before after : NameList) (files : Files) (ids : List ℕ) (n : NewSegmentData) (old new : List Part)
+put_gone : (D : ℕ) (told : Type 0) (before after : NameList) (files : Files) (ids : List ℕ) (n : NewSegmentData) (old new : List LiveSegment)
     → ((id : ℕ) → Contains ids id → is_named before.names (Segment id) ≡ true)
-    → IsPut D told before after files ids n old new → (p : Part) → Contains new p → is_among ids p.head.id ≡ false
+    → Swaps D told before after files ids n old new → (p : LiveSegment) → Contains new p → is_among ids p.head.id ≡ false
 put_gone D told before after files ids n old new named put p there =
     placed_cases _ (parts_but ids old) new put.placed p there
-    (λ e. subst (λ (q : Part). is_among ids q.head.id ≡ false) e (not_again before ids put.id named put.fresh))
+    (λ e. subst (λ (q : LiveSegment). is_among ids q.head.id ≡ false) e (not_again before ids put.id named put.fresh))
     (λ h. not_but ids old p h)
 
-pub gone_by : (D : ℕ) (told : Type 0) (before after : NameList) (files : Files) (ids : List ℕ) (built : Option NewSegmentData) (old new : List Part)
+pub gone_by : (D : ℕ) (told : Type 0) (before after : NameList) (files : Files) (ids : List ℕ) (built : Option NewSegmentData) (old new : List LiveSegment)
     → ((id : ℕ) → Contains ids id → is_named before.names (Segment id) ≡ true)
-    → Replaces D told before after files ids built old new → (p : Part) → Contains new p → is_among ids p.head.id ≡ false
-gone_by D told before after files ids None old new named is p there = not_but ids old p (subst (λ (ps : List Part). Contains ps p) is there)
+    → Replaces D told before after files ids built old new → (p : LiveSegment) → Contains new p → is_among ids p.head.id ≡ false
+gone_by D told before after files ids None old new named is p there = not_but ids old p (subst (λ (ps : List LiveSegment). Contains ps p) is there)
 gone_by D told before after files ids (Some n) old new named put p there = put_gone D told before after files ids n old new named put p there
 
 -- the inputs of a begun merge are named

@@ -15,7 +15,7 @@ use Rattle.commit_list.specs.Commits.{CommitData}
 use Rattle.segment_file.specs.Heads.{Head}
 use Rattle.index_model.specs.declared.session.Applied.{Applied}
 use Rattle.index_model.specs.declared.session.Applied.TheVariants as applied
-use Rattle.segment_view.specs.Parts.{Part, cleared, heads_of}
+use Rattle.segment_view.specs.LiveSegments.{LiveSegment, cleared_parts, heads_of}
 use Rattle.segment_set.specs.declared.faults.SnapFault.{SnapFault}
 use Rattle.segment_set.specs.Sets.{BegunMerge, NamedView, SetData, pins_of, set_but, sizes_of}
 use Rattle.segment_set.specs.Kept.{IsCommitOf}
@@ -63,7 +63,7 @@ light_added told points old new s u t same files snapshots parts =
 
 -- ---- a document goes
 
-heads_cleared : (number : ℕ) (parts : List Part) → heads_of (cleared number parts) ≡ heads_of parts
+heads_cleared : (number : ℕ) (parts : List LiveSegment) → heads_of (cleared_parts number parts) ≡ heads_of parts
 heads_cleared number [] = refl
 heads_cleared number (p ∷ ps) = ap (λ (hs : List Head). p.head ∷ hs) (heads_cleared number ps)
 
@@ -138,8 +138,8 @@ and_free : (b : Bool) → one_if (b && true) ≡ one_if b
 and_free true = refl
 and_free false = refl
 
-free_listed : (level : ℕ) (listed : List Listed) (parts : List Part)
-    → AllZip (λ (l : Listed) (p : Part). (l.segment ≡ p.head.id) × (l.entries ≡ p.head.entries) × (l.live ≡ length p.live.live)) listed parts
+free_listed : (level : ℕ) (listed : List Listed) (parts : List LiveSegment)
+    → AllZip (λ (l : Listed) (p : LiveSegment). (l.segment ≡ p.head.id) × (l.entries ≡ p.head.entries) × (l.live ≡ length p.live.live)) listed parts
     → free_count level (sizes_of parts) (pins_of None parts) ≡ count_by (λ (l : Listed). is_of_level level l.entries) listed
 unfolding free_count
 free_listed level [] [] all = refl

@@ -12,7 +12,7 @@ use Rattle.commit_list.proofs.CommitPages.{one_file}
 use Rattle.segment_file.specs.Heads.{Head}
 use Rattle.segment_file.specs.Segments.{IsHeadOf}
 use Rattle.segment_file.proofs.Unique.{head_of_segment, one_head}
-use Rattle.segment_view.specs.Parts.{IsRead, Part}
+use Rattle.segment_view.specs.LiveSegments.{IsRead, LiveSegment}
 use Rattle.index_model.specs.State.{Index}
 use Rattle.segment_set.specs.Kept.{HasCanonical}
 use Rattle.segment_set.specs.Sets.{SetData}
@@ -32,7 +32,8 @@ the_commit files s e says_e (c, is, says) u = one_file (bytes_of (files Commit))
     some_inj x y same = cc
 
 -- from a session that has no segment but those that the commit of before lists
-pub new_canonical : (D : ℕ) (old new : Files) (a : SetData) (s : SessionData) (i : Index) → ((p : Part) → Contains a.parts p → IsNewSegment old p.head.id → ⊥)
+pub new_canonical : (D : ℕ) (old new : Files) (a : SetData) (s : SessionData) (i : Index)
+    → ((p : LiveSegment) → Contains a.parts p → IsNewSegment old p.head.id → ⊥)
     → BringsCanonical D old new a.parts s.set.parts → Sees D new s.set i → Guards D new s → SaysCommit new s.commit → IsUnchanged s → HasNewCanonical old new
 new_canonical D old new a s i listed brings seen guards (c, is, says) unchanged e says_e l inside apart head has =
     ⊎_elim
@@ -48,12 +49,12 @@ new_canonical D old new a s i listed brings seen guards (c, is, says) unchanged 
     dims = ⊎_elim (λ none. absurd (says_some new c none says))
         (λ (h : ListsOnlyNamed D new s.set). ap (λ (d : CommitData). d.dims) (one_file (bytes_of (new Commit)) e h.commit says_e h.says) ∙ h.dims) guards.set
 
-    found : (p : Part) × Contains s.set.parts p × (p.head.id ≡ l.segment)
-    found = of_map (λ (p : Part). p.head.id) s.set.parts l.segment
+    found : (p : LiveSegment) × Contains s.set.parts p × (p.head.id ≡ l.segment)
+    found = of_map (λ (p : LiveSegment). p.head.id) s.set.parts l.segment
         (subst (λ (ids : List ℕ). Contains ids l.segment) (sym unchanged.same.ids)
         (in_map (λ (m : Listed). m.segment) unchanged.commit.listed l (subst (λ (d : CommitData). Contains d.listed l) one inside)))
 
-    p : Part
+    p : LiveSegment
     p = found.0
 
     there : Contains s.set.parts p
@@ -74,10 +75,10 @@ new_canonical D old new a s i listed brings seen guards (c, is, says) unchanged 
         (subst (λ n. IsHeadOf n (bytes_of (new (Segment l.segment))) head) dims has.is)
 
 -- a session that was attached has no segment but those that the commit lists
-pub attached_listed : (D : ℕ) (files : Files) (s : SessionData) → Guards D files s → IsUnchanged s → (p : Part) → Contains s.set.parts p
+pub attached_listed : (D : ℕ) (files : Files) (s : SessionData) → Guards D files s → IsUnchanged s → (p : LiveSegment) → Contains s.set.parts p
     → IsNewSegment files p.head.id → ⊥
 attached_listed D files s guards unchanged p there apart =
     let last = subst (IsLast files s.set) unchanged.is (guards.last unchanged.done) in
     let found = of_map (λ (l : Listed). l.segment) unchanged.commit.listed p.head.id
-    (subst (λ (ids : List ℕ). Contains ids p.head.id) unchanged.same.ids (in_map (λ (q : Part). q.head.id) s.set.parts p there)) in
+    (subst (λ (ids : List ℕ). Contains ids p.head.id) unchanged.same.ids (in_map (λ (q : LiveSegment). q.head.id) s.set.parts p there)) in
     apart unchanged.commit last.says (found.0, found.1, found.2)

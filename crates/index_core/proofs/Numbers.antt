@@ -5,7 +5,7 @@ use Rattle.std.proofs.lemmas.List.Kept.{AllPairs-from_increasing}
 use Rattle.live_bits.specs.LiveSet.{IsLiveSet, LiveSet, is_live}
 use Rattle.documents.proofs.Kept.{among_from, among_to}
 use Rattle.documents.proofs.Lists.{cons_cases, cons_head, cons_tail, nil_none, pairs_head, pairs_tail}
-use Rattle.segment_set.specs.Kept.{IsWithin}
+use Rattle.segment_set.specs.Kept.{IsSubset}
 
 abbrev Rise : List ℕ → Type 0
 Rise ns = AllPairs (λ (a b : ℕ). a < b) ns
@@ -56,7 +56,7 @@ same_numbers (y ∷ ys) (x ∷ xs) up rise among long = ⊎_elim
     (λ later. absurd (omega (arith, long, fewer ys (x ∷ xs) up (pairs_tail (λ (a b : ℕ). a < b) y ys rise) (all_among x y xs ys up rise later among))))
     (cons_cases y ys x (among x (cons_head x xs)))
 
-pub same_live : (s t : LiveSet) → IsLiveSet s → IsLiveSet t → IsWithin s t → length s.live ≡ length t.live → s ≡ t
+pub same_live : (s t : LiveSet) → IsLiveSet s → IsLiveSet t → IsSubset s t → length s.live ≡ length t.live → s ≡ t
 unfolding is_live
 same_live s t set other within long = λ j. record { base = within.base j; span = within.span j; live = numbers j }
   where

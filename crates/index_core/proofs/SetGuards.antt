@@ -9,7 +9,7 @@ use Rattle.commit_list.specs.Commits.{CommitData}
 use Rattle.commit_list.specs.CommitFiles.{IsCommitFile}
 use Rattle.stored_index.specs.Kept.{ListsFile}
 use Rattle.stored_index.specs.Stored.{HasLive, HaveLive}
-use Rattle.segment_view.specs.Parts.{Part, lives_of}
+use Rattle.segment_view.specs.LiveSegments.{LiveSegment, lives_of}
 use Rattle.file_names.specs.Names.{is_named}
 use Rattle.segment_set.specs.Sets.{SetData}
 use Rattle.segment_set.specs.Kept.{IsAtRest}
@@ -31,9 +31,10 @@ guards_attached D files s c is dims says rest names lives = record {
   });
 }
   where
-    listed_as : (files : Files) (listed : List Listed) (parts : List Part) → map (λ (p : Part). p.head.id) parts ≡ map (λ (l : Listed). l.segment) listed
-        → map (λ (p : Part). p.head.entries) parts ≡ map (λ (l : Listed). l.entries) listed
-        → map (λ (p : Part). length p.live.live) parts ≡ map (λ (l : Listed). l.live) listed
+    listed_as : (files : Files) (listed : List Listed) (parts : List LiveSegment)
+        → map (λ (p : LiveSegment). p.head.id) parts ≡ map (λ (l : Listed). l.segment) listed
+        → map (λ (p : LiveSegment). p.head.entries) parts ≡ map (λ (l : Listed). l.entries) listed
+        → map (λ (p : LiveSegment). length p.live.live) parts ≡ map (λ (l : Listed). l.live) listed
         → AllZip (HasLive files) listed (lives_of parts) → AllZip (IsListedAs files) listed parts
     listed_as files [] [] ids entries counts lives = tt
     listed_as files [] (p ∷ ps) ids entries counts lives = absurd lives

@@ -6,7 +6,7 @@ use Rattle.page_cache.specs.declared.faults.PageFault.{PageFault}
 use Rattle.page_cache.specs.declared.faults.PageFault.TheVariants as page
 use Rattle.page_cache.specs.Evidence.{FaultShows, NotDamaged, OnDamage}
 use Rattle.commit_list.specs.Commits.{CommitData}
-use Rattle.segment_view.specs.Parts.{Part}
+use Rattle.segment_view.specs.LiveSegments.{LiveSegment}
 use Rattle.segment_set.specs.declared.faults.AddFault.{AddFault}
 use Rattle.segment_set.specs.declared.faults.AddFault.TheVariants as add
 use Rattle.segment_set.specs.declared.faults.BeginFault.{BeginFault}
@@ -48,11 +48,11 @@ begin_shows P (Err begin.Memory) p = tt
 
 -- ---- searches
 
-pub leaf_none : {T : Type 0} (D : ℕ) (told : Type 0) (files : Files) (s : SetData) (parts : List Part) (r : Result T PageFault) → NotDamaged r
+pub leaf_none : {T : Type 0} (D : ℕ) (told : Type 0) (files : Files) (s : SetData) (parts : List LiveSegment) (r : Result T PageFault) → NotDamaged r
     → ShowsLeaf D told files s parts r
 leaf_none D told files s parts r none = record { shown = damage_none _ r none; damage = λ is_told agrees. damage_none _ r none }
 
-pub leaf_to : {T U : Type 0} (D : ℕ) (told : Type 0) (files : Files) (s : SetData) (parts : List Part) (r : Result U PageFault) (fault : PageFault)
+pub leaf_to : {T U : Type 0} (D : ℕ) (told : Type 0) (files : Files) (s : SetData) (parts : List LiveSegment) (r : Result U PageFault) (fault : PageFault)
     → r ≡ Err fault
     → ShowsLeaf {T = T} D told files s parts (Err fault) → ShowsLeaf D told files s parts r
 leaf_to D told files s parts r fault is shows = record {

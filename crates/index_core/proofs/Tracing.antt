@@ -7,7 +7,7 @@ use Rattle.std.proofs.lemmas.List.Elements.{All-contains}
 use Rattle.outer_io.specs.declared.file_name.FileName.{FileName}
 use Rattle.outer_io.specs.declared.file_name.FileName.TheVariants.{Commit, CommitNew, Segment, Live}
 use Rattle.outer_io.specs.Files.{Files, bytes_of, SameButTwo}
-use Rattle.live_bits.specs.LiveSet.{without}
+use Rattle.live_bits.specs.LiveSet.{live_set_without}
 use Rattle.documents.proofs.Lists.{in_map, of_map}
 use Rattle.page_cache.specs.declared.faults.PageFault.{PageFault}
 use Rattle.page_cache.specs.Evidence.{OnDamage}
@@ -20,10 +20,10 @@ use Rattle.segment_file.specs.LiveFiles.{IsLiveFile}
 use Rattle.stored_index.specs.Kept.{ListsFile}
 use Rattle.stored_index.specs.Stored.{HaveLive}
 use Rattle.stored_index.proofs.Pairwise.{partner_of}
-use Rattle.segment_view.specs.Parts.{Part, cleared, lives_of, part_of}
+use Rattle.segment_view.specs.LiveSegments.{LiveSegment, cleared_parts, lives_of, live_segment}
 use Rattle.file_names.specs.Names.{NameList, is_named}
 use Rattle.segment_set.specs.Sets.{IsNamed, SetData}
-use Rattle.segment_set.specs.Kept.{AreCanonical, Follows, IsAtRest, IsCommitOf, IsWithin, KeepsNamed}
+use Rattle.segment_set.specs.Kept.{AreCanonical, Follows, IsAtRest, IsCommitOf, IsSubset, KeepsNamed}
 use Rattle.index_opening.specs.Evidence.{CrowdsPart, InSegment, IsCrowdedIn, IsEvident, IsEvidentIn, IsTwice}
 use Rattle.segment_set.specs.Faithful.{IsFaithful}
 use Rattle.segment_set.proofs.Carried.{canon_file, within_cleared, within_itself}
@@ -38,13 +38,13 @@ use Rattle.index_core.proofs.SetGuards.{guards_attached}
 -- ---- a crowd
 
 -- by a segment that the commit lists, with at least what is live in it now
-listed_twice : (D : ℕ) (files : Files) (p : Part) (doc : ℕ) → IsListedWith D files p → CrowdsPart D files p doc → IsTwice files doc
-listed_twice D files p doc l crowd = InSegment l.commit l.says l.listed l.there (part_of p.head l.covers.live) (sym l.is) l.covers.file
-    (subst (λ n. CrowdsPart n files (part_of p.head l.covers.live) doc) (sym l.dims)
-    (crowd_before D files p (part_of p.head l.covers.live) doc refl l.covers.covers crowd))
+listed_twice : (D : ℕ) (files : Files) (p : LiveSegment) (doc : ℕ) → IsListedWith D files p → CrowdsPart D files p doc → IsTwice files doc
+listed_twice D files p doc l crowd = InSegment l.commit l.says l.listed l.there (live_segment p.head l.covers.live) (sym l.is) l.covers.file
+    (subst (λ n. CrowdsPart n files (live_segment p.head l.covers.live) doc) (sym l.dims)
+    (crowd_before D files p (live_segment p.head l.covers.live) doc refl l.covers.covers crowd))
 
 -- no other segment has one
-pub crowded_listed : (D : ℕ) (files : Files) (parts : List Part) (doc : ℕ) → AreTraced D files parts → IsCrowdedIn D files parts doc → IsTwice files doc
+pub crowded_listed : (D : ℕ) (files : Files) (parts : List LiveSegment) (doc : ℕ) → AreTraced D files parts → IsCrowdedIn D files parts doc → IsTwice files doc
 crowded_listed D files parts doc traced (p, there, crowd) =
     ⊎_elim (λ l. listed_twice D files p doc l crowd) (λ canonical. absurd (none_crowded D files p doc canonical crowd)) (traced p there)
 
@@ -59,7 +59,7 @@ crowd_shows D told f g s r traced = on_evident_twice (IsCrowdedIn D g s.set.part
 -- ---- through calls on the set
 
 -- the commit, its file of live bits and the head stay, and no more is live
-listed_after : (D : ℕ) (f g : Files) (p q : Part) → g Commit ≡ f Commit → p.head ≡ q.head → IsWithin p.live q.live → (h : IsListedWith D f q)
+listed_after : (D : ℕ) (f g : Files) (p q : LiveSegment) → g Commit ≡ f Commit → p.head ≡ q.head → IsSubset p.live q.live → (h : IsListedWith D f q)
     → g (Live h.listed.segment h.listed.generation) ≡ f (Live h.listed.segment h.listed.generation) → IsListedWith D g p
 listed_after D f g p q same head within h live = record {
   commit = h.commit;
@@ -72,11 +72,12 @@ listed_after D f g p q same head within h live = record {
 }
 
 -- a segment that the commit lists is named, and so is its file of live bits
-segment_named : (D : ℕ) (f : Files) (s : SetData) (p : Part) → GuardsSet D f s → IsListedWith D f p → is_named s.names.names (Segment p.head.id) ≡ true
+segment_named : (D : ℕ) (f : Files) (s : SetData) (p : LiveSegment) → GuardsSet D f s → IsListedWith D f p → is_named s.names.names (Segment p.head.id) ≡ true
 segment_named D f s p guards h =
     subst (λ n. is_named s.names.names (Segment n) ≡ true) h.is (names_listed D f s h.commit guards h.says (Segment h.listed.segment) (h.listed, h.there, refl))
 
-live_stays : (D : ℕ) (told : Type 0) (f g : Files) (s : SetData) (names : NameList) (p : Part) → told → KeepsNamed told s.names names f g → GuardsSet D f s
+live_stays : (D : ℕ) (told : Type 0) (f g : Files) (s : SetData) (names : NameList) (p : LiveSegment) → told → KeepsNamed told s.names names f g
+    → GuardsSet D f s
     → (h : IsListedWith D f p)
     → g (Live h.listed.segment h.listed.generation) ≡ f (Live h.listed.segment h.listed.generation)
 live_stays D told f g s names p is_told keeps guards h =
@@ -134,11 +135,11 @@ calm_shows D told f g s r same =
     crowd_shows D told f g s r (λ is_told trusts. subst (λ (h : Files). AreTraced D h s.set.parts) (sym (same is_told)) trusts.traced)
 
 -- the same segments without a number
-pub traced_cleared : (D : ℕ) (files : Files) (number : ℕ) (s t : List Part) → t ≡ cleared number s → AreTraced D files s → AreTraced D files t
+pub traced_cleared : (D : ℕ) (files : Files) (number : ℕ) (s t : List LiveSegment) → t ≡ cleared_parts number s → AreTraced D files s → AreTraced D files t
 traced_cleared D files number s t is traced p there =
-    let r = of_map (λ (q : Part). record q { live = without number q.live }) s p (subst (λ (ps : List Part). Contains ps p) is there) in
+    let r = of_map (λ (q : LiveSegment). record q { live = live_set_without number q.live }) s p (subst (λ (ps : List LiveSegment). Contains ps p) is there) in
     subst (IsTraced D files) r.2 (⊎_elim
-    (λ h. inl (listed_after D files files (record r.0 { live = without number r.0.live }) r.0 refl refl (within_cleared number r.0.live) h refl))
+    (λ h. inl (listed_after D files files (record r.0 { live = live_set_without number r.0.live }) r.0 refl refl (within_cleared number r.0.live) h refl))
     inr
     (traced r.0 r.1))
 
@@ -146,7 +147,7 @@ traced_cleared D files number s t is traced p there =
 
 -- each segment is one that the last commit lists
 traced_last : (D : ℕ) (files : Files) (s : SetData) (c : CommitData) → c.dims ≡ D → IsLastCommit files s c
-    → ((p : Part) → Contains s.parts p → (l : Listed) × Contains c.listed l × (l.segment ≡ p.head.id))
+    → ((p : LiveSegment) → Contains s.parts p → (l : Listed) × Contains c.listed l × (l.segment ≡ p.head.id))
     → AreTraced D files s.parts
 traced_last D files s c dims last lists p there =
     let (l, inside, is) = lists p there in
@@ -154,15 +155,17 @@ traced_last D files s c dims last lists p there =
 
 -- the Commit file says the one that the set saved
 traced_written : (D : ℕ) (f g : Files) (s : SetData) (c : CommitData) → IsCommitOf D s c
-    → AllZip (λ (l : Listed) (p : Part). IsLiveFile l.segment l.generation (bytes_of (f (Live l.segment l.generation))) p.live) c.listed s.parts
+    → AllZip (λ (l : Listed) (p : LiveSegment). IsLiveFile l.segment l.generation (bytes_of (f (Live l.segment l.generation))) p.live) c.listed s.parts
     → SameButTwo CommitNew Commit f g → IsCommitFile (bytes_of (g Commit)) c → AreTraced D g s.parts
 traced_written D f g s c of lives others says = traced_last D g s c of.dims ((guards_written D f g s c of lives others says).last refl)
     (λ p there.
-    let m = partner_of (λ (l : Listed) (q : Part). (l.segment ≡ q.head.id) × (l.entries ≡ q.head.entries) × (l.live ≡ length q.live.live)) c.listed s.parts
+    let m =
+        partner_of (λ (l : Listed) (q : LiveSegment). (l.segment ≡ q.head.id) × (l.entries ≡ q.head.entries) × (l.live ≡ length q.live.live)) c.listed s.parts
     of.lists p there in (m.0, m.1, m.2.0))
 
 -- it says the one of before
-traced_still : (D : ℕ) (f g : Files) (parts : List Part) → SameButTwo CommitNew Commit f g → g Commit ≡ f Commit → AreTraced D f parts → AreTraced D g parts
+traced_still : (D : ℕ) (f g : Files) (parts : List LiveSegment) → SameButTwo CommitNew Commit f g → g Commit ≡ f Commit → AreTraced D f parts
+    → AreTraced D g parts
 traced_still D f g parts others same traced p there = ⊎_elim
     (λ h. inl (listed_after D f g p p same refl (within_itself p.live) h (others (Live h.listed.segment h.listed.generation) (λ e. cc) (λ e. cc))))
     (λ canonical. inr (canon_file D f g p.head p.head refl (others (Segment p.head.id) (λ e. cc) (λ e. cc)) canonical))
@@ -170,7 +173,7 @@ traced_still D f g parts others same traced p there = ⊎_elim
 
 -- whichever of the two is there, of the session that the code opened
 pub traced_done : (D : ℕ) (f g : Files) (s u : SessionData) (c : CommitData) → u ≡ s → IsCommitOf D s.set c
-    → AllZip (λ (l : Listed) (p : Part). IsLiveFile l.segment l.generation (bytes_of (f (Live l.segment l.generation))) p.live) c.listed s.set.parts
+    → AllZip (λ (l : Listed) (p : LiveSegment). IsLiveFile l.segment l.generation (bytes_of (f (Live l.segment l.generation))) p.live) c.listed s.set.parts
     → SameButTwo CommitNew Commit f g → (g Commit ≡ f Commit) ⊎ IsCommitFile (bytes_of (g Commit)) c → AreTraced D f s.set.parts → AreTraced D g u.set.parts
 traced_done D f g s u c same of lives others which traced = subst (λ (v : SessionData). AreTraced D g v.set.parts) (sym same)
     (⊎_elim (λ stays. traced_still D f g s.set.parts others stays traced) (λ says. traced_written D f g s.set c of lives others says) which)
@@ -183,7 +186,7 @@ traced_swept D f g s t c swept last traced = subst (AreTraced D g) (sym swept.pa
     (λ canonical. inr (canon_file D f g p.head p.head refl (swept.files (Segment p.head.id) (inr (inl (p, there, refl)))) canonical))
     (traced p there))
   where
-    listed : {p : Part} → (h : IsListedWith D f p) → ListsFile c (Live h.listed.segment h.listed.generation)
+    listed : {p : LiveSegment} → (h : IsListedWith D f p) → ListsFile c (Live h.listed.segment h.listed.generation)
     listed h = (
       h.listed,
       subst (λ (d : CommitData). Contains d.listed h.listed) (sym (one_file (bytes_of (f Commit)) c h.commit last.says h.says)) h.there,
@@ -203,7 +206,7 @@ pub traced_attached : (D : ℕ) (files : Files) (t : SetData) (c : CommitData) �
 traced_attached D files t c dims says rest names lives =
     traced_last D files t c dims ((guards_attached D files (record { set = t; commit = Some c; refused = false }) c refl dims says rest names lives).last refl)
     (λ p there. of_map (λ (l : Listed). l.segment) c.listed p.head.id
-    (subst (λ (ns : List ℕ). Contains ns p.head.id) rest.as_committed.ids (in_map (λ (q : Part). q.head.id) t.parts p there)))
+    (subst (λ (ns : List ℕ). Contains ns p.head.id) rest.as_committed.ids (in_map (λ (q : LiveSegment). q.head.id) t.parts p there)))
 
 pub traced_anew : {E : Type 0} (D : ℕ) (files : Files) (c : CommitData) (r : Result SetData E) → c.dims ≡ D → IsCommitFile (bytes_of (files Commit)) c
     → IfOk r (λ t. IsAtRest t c) → IfOk r (λ t. (m : FileName) → (is_named t.names.names m ≡ true) ↔ ListsFile c m)

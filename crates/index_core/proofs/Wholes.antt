@@ -16,7 +16,7 @@ use Rattle.index_core.specs.Effects.{BringsCanonical}
 use Rattle.index_core.specs.Sessions.{Guards, IsUnchanged}
 use Rattle.index_core.specs.Light.{KeepsLevels}
 use Rattle.index_core.specs.Steps.{KeepsUndone, SaysCommit, Stores}
-use Rattle.index_core.specs.Whole.{DoesWhole, Moment}
+use Rattle.index_core.specs.Whole.{DoesWhole, SessionMoment}
 
 -- after a fault that is no damage
 pub does_fault : (files : Files) (stored : State) (answer : Answer) (before after : List ℕ) (fault : PageFault) → NotDamaged {T = Bool} (Err fault)
@@ -26,7 +26,7 @@ does_fault files stored answer before after page.Memory whole h = h
 does_fault files stored answer before after (page.Damaged d) whole h = absurd whole
 
 -- what a commit says
-pub record IsCommitted {T : Type 0} (D : ℕ) (told : Type 0) (b c : Moment) (result : Result T PageFault) : Type 0 where
+pub record IsCommitted {T : Type 0} (D : ℕ) (told : Type 0) (b c : SessionMoment) (result : Result T PageFault) : Type 0 where
   pub seen : told → (i : Index) → Sees D b.files b.session.set i → Sees D c.files c.session.set i
   pub guards : told → Guards D b.files b.session → Guards D c.files c.session
   pub says : told → Guards D b.files b.session → OnOk result (SaysCommit c.files c.session.commit)

@@ -13,7 +13,7 @@ use Rattle.stored_index.specs.Stored.{IsStored}
 use Rattle.stored_index.specs.Kept.{ListsFile, SameKept}
 use Rattle.stored_index.proofs.KeptFiles.{kept_but_commits}
 use Rattle.index_model.specs.State.{Index, at_rest}
-use Rattle.segment_view.specs.Parts.{Part}
+use Rattle.segment_view.specs.LiveSegments.{LiveSegment}
 use Rattle.segment_set.specs.Sets.{IsWell, NamedView, SetData}
 use Rattle.segment_set.specs.Seen.{Sees}
 use Rattle.segment_set.specs.Faithful.{HasFileHead, IsFaithful}
@@ -50,7 +50,7 @@ written_is_seen D f g s i well others seen = record {
 }
 
 -- nor does what the set keeps of the files change, since it keeps pages and heads of segments' files alone
-heads_written : (D : ℕ) (f g : Files) (parts : List Part) → SameButTwo CommitNew Commit f g → All (HasFileHead D f) parts → All (HasFileHead D g) parts
+heads_written : (D : ℕ) (f g : Files) (parts : List LiveSegment) → SameButTwo CommitNew Commit f g → All (HasFileHead D f) parts → All (HasFileHead D g) parts
 heads_written D f g parts others heads = All-weaker (HasFileHead D f) (HasFileHead D g)
     (λ p has. subst (λ (b : Option (List ℕ)). ∥ IsHeadOf D (bytes_of b) p.head ∥₁) (sym (others (Segment p.head.id) (λ e. cc) (λ e. cc))) has) parts heads
 

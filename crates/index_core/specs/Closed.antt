@@ -12,12 +12,12 @@ use Rattle.index_core.specs.Sessions.{Guards, IsUnchanged, SessionData}
 use Rattle.index_core.specs.Steps.{SaysCommit}
 
 -- the session's commit lists the file
-abbrev pub IsListed : SessionData → FileName → Type 0
-IsListed s m = (c : CommitData) × (s.commit ≡ Some c) × ListsFile c m
+abbrev pub IsInCommit : SessionData → FileName → Type 0
+IsInCommit s m = (c : CommitData) × (s.commit ≡ Some c) × ListsFile c m
 
 -- and so it lists each file of the session's list of names
 abbrev pub NamesOnlyListed : SessionData → Type 0
-NamesOnlyListed s = (m : FileName) → is_named s.set.names.names m ≡ true → IsListed s m
+NamesOnlyListed s = (m : FileName) → is_named s.set.names.names m ≡ true → IsInCommit s m
 
 -- nothing changed since the last commit, and no file is there to be swept away
 pub record IsIdle (s : SessionData) : Type 0 where
@@ -32,7 +32,7 @@ IsTracked old new before now m =
 
 -- All is committed, snapshots and begun merge are gone, and each file of the list of names is one that the commit
 -- lists: the others that were in it, or came to it, are gone.
-pub record IsClosed (D : ℕ) (told : Type 0) (old new : Files) (s t : SessionData) : Type 0 where
+pub record IsSessionClosed (D : ℕ) (told : Type 0) (old new : Files) (s t : SessionData) : Type 0 where
   pub seen : told → (i : Index) → Sees D old s.set i → Sees D new t.set (at_rest i)
   pub guards : told → Guards D old s → Guards D new t
   pub says : told → Guards D old s → SaysCommit new t.commit

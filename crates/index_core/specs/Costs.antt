@@ -10,14 +10,15 @@ use Rattle.documents.specs.NearestEntries.{IsNearest, nears_of}
 use Rattle.nearest_query.specs.Segments.{AreNearLeaves, bound_of}
 use Rattle.script_lang.specs.Requests.{Request, Viewed}
 use Rattle.script_lang.specs.Requests as asks
-use Rattle.segment_view.specs.Parts.{Contents, Part, heads_of}
+use Rattle.segment_view.specs.LiveSegments.{Contents, LiveSegment, heads_of}
 use Rattle.segment_view.specs.Costs.{AreTouched}
 use Rattle.segment_set.specs.Sets.{IsSettled, SetData, viewed_buffer, viewed_parts}
 use Rattle.segment_set.specs.Seen.{StandsOver, entries_seen}
 use Rattle.index_core.specs.Sessions.{IsUnchanged, SessionData}
 
 -- a search for a shape: no more reads than the segments have leaves whose own cell is not outside, summed
-abbrev pub ReadsTouched : (D : ℕ) → (has : List ℤ → Bool) → (crosses : Region → Bool) → List Part → (before now : ℕ)
+abbrev pub ReadsTouched : (D : ℕ) → (has : List ℤ → Bool) → (crosses : Region → Bool) → List LiveSegment
+    → (before now : ℕ)
     → Type 0
 ReadsTouched D has crosses parts before now = (n : ℕ) → AreTouched D has crosses (heads_of parts) n → now ≤ before + n
 

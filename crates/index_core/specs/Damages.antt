@@ -9,7 +9,7 @@ use Rattle.commit_list.specs.Commits.{CommitData}
 use Rattle.segment_file.specs.Damages.{IsLeafDamageOf}
 use Rattle.script_lang.specs.Requests.{Request}
 use Rattle.script_lang.specs.Requests as asks
-use Rattle.segment_view.specs.Parts.{AreRead, Contents, Part, live_in_parts}
+use Rattle.segment_view.specs.LiveSegments.{AreRead, Contents, LiveSegment, live_in_parts}
 use Rattle.segment_view.specs.Damages.{IsPartDamage}
 use Rattle.segment_set.specs.Sets.{SetData, viewed_parts}
 use Rattle.index_opening.specs.Damages.{IsAttachDamage, IsAttachDamageOf}
@@ -17,7 +17,7 @@ use Rattle.segment_set.specs.Damages.{IsDoubt, IsMergeDamage, IsMergeDamageOf}
 use Rattle.index_core.specs.Sessions.{SessionData}
 
 -- of a search: a leaf of one of the segments
-pub record ShowsLeaf {T : Type 0} (D : ℕ) (told : Type 0) (files : Files) (s : SetData) (parts : List Part)
+pub record ShowsLeaf {T : Type 0} (D : ℕ) (told : Type 0) (files : Files) (s : SetData) (parts : List LiveSegment)
     (result : Result T PageFault) : Type 0 where
   pub shown : OnDamage result (IsPartDamage D parts)
   pub damage : told → Agrees files s.cache → OnDamage result (IsLeafDamageOf files)

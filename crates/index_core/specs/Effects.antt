@@ -14,7 +14,7 @@ use Rattle.script_lang.specs.Requests as asks
 use Rattle.index_model.specs.State.{Index}
 use Rattle.index_model.specs.declared.session.Applied.{Applied}
 use Rattle.index_model.specs.declared.session.Applied.TheVariants as applied
-use Rattle.segment_view.specs.Parts.{Contents, Part, ids_of}
+use Rattle.segment_view.specs.LiveSegments.{Contents, LiveSegment, ids_of}
 use Rattle.file_names.specs.Names.{is_named}
 use Rattle.segment_set.specs.Sets.{BegunMerge, SetData, pins_of, sizes_of}
 use Rattle.segment_set.specs.Seen.{Sees, StandsOver}
@@ -80,23 +80,23 @@ pub record HasBegun (positions : List ℕ) (s t : SetData) : Type 0 where
 pub record HasEnded (D : ℕ) (told : Type 0) (files : Files) (s t : SetData) : Type 0 where
   pub ended : t.begun ≡ None
   pub parts : (b : BegunMerge) → s.begun ≡ Some b → IsEnded b s.parts t.parts
-  pub gone : (b : BegunMerge) → s.begun ≡ Some b → (p : Part) → Contains t.parts p
+  pub gone : (b : BegunMerge) → s.begun ≡ Some b → (p : LiveSegment) → Contains t.parts p
       → is_among b.inputs p.head.id ≡ false
   pub named : (m : FileName) → is_named s.names.names m ≡ true → is_named t.names.names m ≡ true
   pub buffer : t.buffer ≡ s.buffer
   pub canon : told → AreCanonical D files s.names t.parts
 
 -- a segment of now is one of before, with its file as it was
-pub record IsOfBefore (old new : Files) (parts : List Part) (p : Part) : Type 0 where
-  pub part : Part
+pub record IsOfBefore (old new : Files) (parts : List LiveSegment) (p : LiveSegment) : Type 0 where
+  pub part : LiveSegment
   pub was : Contains parts part
   pub head : part.head ≡ p.head
   pub file : new (Segment p.head.id) ≡ old (Segment p.head.id)
 
 -- Each segment of now that isn't one of before is the canonical tree of entries that its file holds. What this says of
 -- one call after another it says of all.
-abbrev pub BringsCanonical : (D : ℕ) → (old new : Files) → (before now : List Part) → Type 0
-BringsCanonical D old new before now = (p : Part) → Contains now p → IsOfBefore old new before p
+abbrev pub BringsCanonical : (D : ℕ) → (old new : Files) → (before now : List LiveSegment) → Type 0
+BringsCanonical D old new before now = (p : LiveSegment) → Contains now p → IsOfBefore old new before p
     ⊎ HasCanonical D new p.head
 
 -- what the request leaves of the set, once it is done

@@ -9,7 +9,7 @@ use Rattle.commit_list.specs.CommitFiles.{IsCommitFile}
 use Rattle.segment_file.specs.Heads.{Head}
 use Rattle.script_lang.specs.Requests.{Request}
 use Rattle.script_lang.specs.Requests as asks
-use Rattle.segment_view.specs.Parts.{heads_of}
+use Rattle.segment_view.specs.LiveSegments.{heads_of}
 use Rattle.segment_set.specs.Sets.{SetData}
 use Rattle.index_core.specs.Sessions.{SessionData}
 

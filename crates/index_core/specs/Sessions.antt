@@ -9,10 +9,10 @@ use Rattle.commit_list.specs.declared.listed.Listed.{Listed}
 use Rattle.commit_list.specs.Commits.{CommitData}
 use Rattle.commit_list.specs.CommitFiles.{IsCommitFile}
 use Rattle.stored_index.specs.Kept.{ListsFile}
-use Rattle.segment_view.specs.Parts.{Part}
+use Rattle.segment_view.specs.LiveSegments.{LiveSegment}
 use Rattle.file_names.specs.Names.{NameList, is_named}
 use Rattle.segment_set.specs.Sets.{SetData, IsWell}
-use Rattle.segment_set.specs.Kept.{HasCanonical, IsAsCommitted, IsWithin, StaysButCache}
+use Rattle.segment_set.specs.Kept.{HasCanonical, IsAsCommitted, IsSubset, StaysButCache}
 use Rattle.segment_set.specs.Faithful.{IsFaithful}
 
 -- the dimensions of a commit, where there is one
@@ -44,17 +44,17 @@ abbrev pub GuardsSet : ℕ → Files → SetData → Type 0
 GuardsSet D files s = (files Commit ≡ None) ⊎ ListsOnlyNamed D files s
 
 -- the listed live file of the segment has at least what is live in it now
-pub record CoversPart (files : Files) (l : Listed) (p : Part) : Type 0 where
+pub record CoversPart (files : Files) (l : Listed) (p : LiveSegment) : Type 0 where
   pub entries : l.entries ≡ p.head.entries
   pub live : LiveSet
   pub file : IsLiveFile l.segment l.generation (bytes_of (files (Live l.segment l.generation))) live
   pub count : length live.live ≡ l.live
-  pub covers : IsWithin p.live live
+  pub covers : IsSubset p.live live
 
 -- the Commit file says this commit, whose live files cover the segments of now that it lists
 pub record IsLastCommit (files : Files) (s : SetData) (c : CommitData) : Type 0 where
   pub says : IsCommitFile (bytes_of (files Commit)) c
-  pub covers : (l : Listed) (p : Part) → Contains c.listed l → Contains s.parts p → l.segment ≡ p.head.id
+  pub covers : (l : Listed) (p : LiveSegment) → Contains c.listed l → Contains s.parts p → l.segment ≡ p.head.id
       → CoversPart files l p
 
 -- the last commit is the one that is there; where there was none, there is no Commit file
@@ -69,7 +69,7 @@ pub record Guards (D : ℕ) (files : Files) (s : SessionData) : Type 0 where
   pub last : s.refused ≡ false → IsLast files s.set s.commit
 
 -- the commit lists the segment, and by its file of live bits has at least what is live in it
-pub record IsListedWith (D : ℕ) (files : Files) (p : Part) : Type 0 where
+pub record IsListedWith (D : ℕ) (files : Files) (p : LiveSegment) : Type 0 where
   pub commit : CommitData
   pub says : IsCommitFile (bytes_of (files Commit)) commit
   pub dims : commit.dims ≡ D
@@ -80,11 +80,11 @@ pub record IsListedWith (D : ℕ) (files : Files) (p : Part) : Type 0 where
 
 -- it is known where the segment comes from: the commit lists it, or its file is the canonical tree of entries such as
 -- documents have
-abbrev pub IsTraced : ℕ → Files → Part → Type 0
+abbrev pub IsTraced : ℕ → Files → LiveSegment → Type 0
 IsTraced D files p = IsListedWith D files p ⊎ HasCanonical D files p.head
 
-abbrev pub AreTraced : ℕ → Files → List Part → Type 0
-AreTraced D files parts = (p : Part) → Contains parts p → IsTraced D files p
+abbrev pub AreTraced : ℕ → Files → List LiveSegment → Type 0
+AreTraced D files parts = (p : LiveSegment) → Contains parts p → IsTraced D files p
 
 -- the session guards the files, what its set keeps of them is theirs, and it is known where each segment of now comes
 -- from

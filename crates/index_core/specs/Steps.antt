@@ -89,18 +89,18 @@ Stores old new i s (Err fault) = SameKept old new ⊎ IsStored new (Some (at_res
 -- ---- one step
 
 -- a session between two commands: with the files of its folder, the text of its answers, and the faults of the folder
-pub record Place : Type 0 where
+pub record StepMoment : Type 0 where
   pub files : Files
   pub session : SessionData
   pub text : List ℕ
   pub faults : ℕ
 
 -- what commits rests on the session's guarding of the files; nothing else does
-abbrev pub GuardsFor : (committing : Bool) → ℕ → Place → Type 0
+abbrev pub GuardsFor : (committing : Bool) → ℕ → StepMoment → Type 0
 GuardsFor committing D place = committing ≡ true → Guards D place.files place.session
 
 -- from the one place to the other the session does what this outcome says, committing or not
-pub record Applies (D : ℕ) (told : Type 0) (outcome : Index → Outcome) (committing : Bool) (old new : Place)
+pub record Applies (D : ℕ) (told : Type 0) (outcome : Index → Outcome) (committing : Bool) (old new : StepMoment)
     (result : Result Applied PageFault) : Type 0 where
   pub does : told → (i : Index) → Sees D old.files old.session.set i → GuardsFor committing D old
       → DoesOver D new.files (outcome i) i new.session.set old.text new.text result

@@ -39,14 +39,14 @@ abbrev pub with_points : Index → List (List ℤ) → Index
 with_points i points = fold with_point i points
 
 -- a session between two calls: with the files of its folder, and the folder's faults
-pub record Moment : Type 0 where
+pub record SessionMoment : Type 0 where
   pub files : Files
   pub session : SessionData
   pub faults : ℕ
 
 -- From the one place to the other a document came for each point, where it is done; after a fault some of them may
 -- have come. What is kept stays, and each segment that is written is canonical.
-pub record Adds {T : Type 0} (D : ℕ) (told : Type 0) (points : List (List ℤ)) (old new : Moment)
+pub record Adds {T : Type 0} (D : ℕ) (told : Type 0) (points : List (List ℤ)) (old new : SessionMoment)
     (result : Result T PageFault) : Type 0 where
   pub seen : told → (i : Index) → Sees D old.files old.session.set i
       → OnOk result (Sees D new.files new.session.set (with_points i points))
@@ -61,12 +61,12 @@ pub record Adds {T : Type 0} (D : ℕ) (told : Type 0) (points : List (List ℤ)
   pub evident : OnDamage result (IsEvident (told × Trusts D old.files old.session) new.files)
 
 -- what becomes of a document that is added where all points fit, so that `Full` is never answered
-abbrev pub added : Result ℕ AddFault → Result (Unit {0}) PageFault
-added (Ok number) = Ok tt
-added (Err add.Full) = Err page.Memory
-added (Err add.Failed) = Err page.Failed
-added (Err (add.Damaged d)) = Err (page.Damaged d)
-added (Err add.Memory) = Err page.Memory
+abbrev pub add_result : Result ℕ AddFault → Result (Unit {0}) PageFault
+add_result (Ok number) = Ok tt
+add_result (Err add.Full) = Err page.Memory
+add_result (Err add.Failed) = Err page.Failed
+add_result (Err (add.Damaged d)) = Err (page.Damaged d)
+add_result (Err add.Memory) = Err page.Memory
 
 -- A command that is done as a whole appends the text of the answer and leaves its state stored, and it is said
 -- whether it is refused. After a fault of the folder or want of memory what was stored is, or what the answer leaves.

@@ -20,13 +20,13 @@ ghost use Rattle.stored_index.specs.Kept.{ListsFile, SameKept};
 ghost use Rattle.segment_set.specs.Seen.{Sees};
 ghost use Rattle.index_opening.specs.Evidence.{IsEvident};
 ghost use Rattle.segment_set.specs.Faithful.{IsFaithful};
-ghost use Rattle.segment_view.specs.Parts.{Part};
+ghost use Rattle.segment_view.specs.LiveSegments.{LiveSegment};
 ghost use Rattle.segment_set.specs.Sets.{IsNamed, IsSettled};
 ghost use Rattle.file_names.specs.Names.{is_named};
 ghost use Rattle.segment_set.specs.Kept.{Follows, IsCommitOf, IsNeeded, StaysButFiles};
 ghost use Rattle.index_core.specs.Sessions.{AreTraced, Guards, GuardsSet, IsCommitAnew, IsSound, IsUnchanged, Trusts};
 ghost use Rattle.index_core.specs.Brought.{KeepsCommit};
-ghost use Rattle.index_core.specs.Closed.{IsClosed, IsIdle, IsTracked, NamesOnlyListed};
+ghost use Rattle.index_core.specs.Closed.{IsSessionClosed, IsIdle, IsTracked, NamesOnlyListed};
 ghost use Rattle.index_core.specs.Costs.{ReadsAtMost};
 ghost use Rattle.index_core.specs.Damages.{ShowsDamage, ShowsMerge};
 ghost use Rattle.index_core.specs.Effects.{BringsCanonical, OnRefused};
@@ -124,7 +124,7 @@ impl<const D: usize> Session<D> {
         gate: &G,
     ) -> Result<(), PageFault>
         ensures closed { OnOk result
-            (IsClosed D (IsTrue F.told) (F.files folder.old) (F.files folder.new) self.old self.new) }
+            (IsSessionClosed D (IsTrue F.told) (F.files folder.old) (F.files folder.new) self.old self.new) }
         ensures stored { IsTrue F.told → (i : Index) → Sees D (F.files folder.old) self.old.set i
             → Guards D (F.files folder.old) self.old
             → Stores (F.files folder.old) (F.files folder.new) i self.new.set result }
@@ -224,7 +224,7 @@ impl<const D: usize> Session<D> {
         requires there { IsSome self.old.commit }
         requires written { self.old.refused ≡ false }
         ensures alone { StaysButFiles self.old.set self.new.set }
-        ensures segments { IsTrue F.told → (p : Part) → Contains self.old.set.parts p
+        ensures segments { IsTrue F.told → (p : LiveSegment) → Contains self.old.set.parts p
             → F.files folder.new (Segment p.head.id) ≡ F.files folder.old (Segment p.head.id) }
         ensures faithful { IsTrue F.told → IsFaithful D (F.files folder.old) self.old.set
             → IsFaithful D (F.files folder.new) self.new.set }

@@ -5,7 +5,7 @@ ghost use Rattle.outer_io.specs.Files.{Files};
 ghost use Rattle.point_codec.specs.Seen.{coordinates_of};
 ghost use Rattle.page_cache.specs.Causes.{HasPageCause};
 ghost use Rattle.page_cache.specs.Evidence.{NotDamaged, OnDamage};
-ghost use Rattle.documents.specs.Documents.{deleted, hits, is_live};
+ghost use Rattle.documents.specs.Documents.{docs_without, hits, is_live};
 ghost use Rattle.documents.specs.Nearest.{found_of, nearest};
 ghost use Rattle.index_model.specs.State.{Index};
 ghost use Rattle.segment_set.specs.Seen.{Sees};
@@ -13,7 +13,7 @@ ghost use Rattle.index_opening.specs.Evidence.{IsEvident};
 ghost use Rattle.segment_set.specs.Faithful.{IsFaithful};
 ghost use Rattle.index_core.specs.Sessions.{AreTraced, Guards};
 ghost use Rattle.index_core.specs.Effects.{BringsCanonical};
-ghost use Rattle.index_core.specs.Whole.{Adds, added};
+ghost use Rattle.index_core.specs.Whole.{Adds, add_result};
 
 use crate::session::Session;
 use bkd_build::Gate;
@@ -63,7 +63,7 @@ impl<const D: usize> Session<D> {
         let _leaf = self.set.leaf();
         let mut list = Vec::with_capacity(alloc, 1)?;
         list.push_reserved(*point);
-        added(self.set.add(rt, alloc, folder, &Points::of(list), gate))
+        add_result(self.set.add(rt, alloc, folder, &Points::of(list), gate))
     }
 
     /// Adds a document for each point, in their order, without a copy of them. After a fault some are added.
@@ -87,9 +87,9 @@ impl<const D: usize> Session<D> {
     }
 
     /// Takes a document out. True exactly where it was live. It takes no memory and no folder.
-    pub fn take_out(&mut self, doc: u32) -> bool
+    pub fn delete_document(&mut self, doc: u32) -> bool
         ensures seen { (files : Files) (i : Index) → Sees D files self.old.set i
-            → Sees D files self.new.set (record i { docs = deleted doc i.docs }) }
+            → Sees D files self.new.set (record i { docs = docs_without doc i.docs }) }
         ensures live { (files : Files) (i : Index) → Sees D files self.old.set i → result ≡ is_live doc i.docs }
         ensures guards { (files : Files) → Guards D files self.old → Guards D files self.new }
         ensures faithful { (files : Files) → IsFaithful D files self.old.set → IsFaithful D files self.new.set }
@@ -154,8 +154,8 @@ impl<const D: usize> Session<D> {
 }
 
 /// What becomes of a document that is added where all points fit, so that `Full` is never answered.
-fn added(done: Result<u32, AddFault>) -> Result<(), PageFault>
-    ensures { result ≡ added done }
+fn add_result(done: Result<u32, AddFault>) -> Result<(), PageFault>
+    ensures { result ≡ add_result done }
 {
     match done {
         Ok(_) => Ok(()),

@@ -4,9 +4,9 @@ ghost use Rattle.std.specs.Prelude.{◌≡◌, ◌≤◌, ◌↔◌, ℕ, true, 
 ghost use Rattle.documents.specs.Documents.{hits};
 ghost use Rattle.script_lang.specs.Requests as asks;
 ghost use Rattle.script_lang.specs.Replies.{hits_text};
-ghost use Rattle.script_lang.specs.Seen.{viewed};
+ghost use Rattle.script_lang.specs.Seen.{view_name};
 ghost use Rattle.index_model.specs.State.{viewed_docs};
-ghost use Rattle.index_model.specs.Step.{answered, step_on};
+ghost use Rattle.index_model.specs.Step.{query_outcome, step_on};
 ghost use Rattle.segment_set.specs.Sets.{HasView, viewed_parts};
 ghost use Rattle.index_core.specs.Costs.{ReadsAtMost, ReadsTouched};
 ghost use Rattle.index_core.specs.Damages.{ShowsDamage, ShowsLeaf};
@@ -28,7 +28,7 @@ use std::alloc::Global;
 impl<const D: usize> Session<D> {
     /// Whether there is such a view.
     fn has_view(&self, view: &View) -> bool
-        ensures { (result ≡ true) ↔ HasView (viewed view.now) self.now.set }
+        ensures { (result ≡ true) ↔ HasView (view_name view.now) self.now.set }
     {
         match view {
             View::Now => true,
@@ -46,7 +46,8 @@ impl<const D: usize> Session<D> {
         out: &mut Vec<u8>,
     ) -> Result<Applied, PageFault>
         ensures applies { Applies D (IsTrue F.told)
-            (λ i. answered i (viewed_docs (viewed view.now) i) (λ docs. hits_text (hits (S.has shape.old) docs)))
+            (λ i. query_outcome i (viewed_docs (view_name view.now) i)
+                (λ docs. hits_text (hits (S.has shape.old) docs)))
             false
             (record {
               files = F.files folder.old;
@@ -61,10 +62,10 @@ impl<const D: usize> Session<D> {
               faults = F.faults folder.new;
             }) result }
         ensures reads { ReadsTouched D (S.has shape.old) (S.crosses shape.old)
-            (viewed_parts (viewed view.now) self.old.set)
+            (viewed_parts (view_name view.now) self.old.set)
             (F.reads folder.old) (F.reads folder.new) }
         ensures damage { ShowsLeaf D (IsTrue F.told) (F.files folder.old) self.old.set
-            (viewed_parts (viewed view.now) self.old.set) result }
+            (viewed_parts (view_name view.now) self.old.set) result }
         ensures still { IsStill (IsTrue F.told) (F.files folder.old) (F.files folder.new) self.old self.new }
         ensures unread { OnRefused result (F.reads folder.new ≡ F.reads folder.old) }
     {
@@ -85,7 +86,8 @@ impl<const D: usize> Session<D> {
         rings: &Rings,
         out: &mut Vec<u8>,
     ) -> Result<Applied, PageFault>
-        ensures applies { Applies D (IsTrue F.told) (λ i. step_on i (asks.InPolygon (viewed view.now) rings.now)) false
+        ensures applies { Applies D (IsTrue F.told)
+            (λ i. step_on i (asks.InPolygon (view_name view.now) rings.now)) false
             (record {
               files = F.files folder.old;
               session = self.old;
@@ -98,12 +100,13 @@ impl<const D: usize> Session<D> {
               text = out.new.items;
               faults = F.faults folder.new;
             }) result }
-        ensures reads { ReadsAtMost D (IsTrue F.told) (asks.InPolygon (viewed view.now) rings.now)
+        ensures reads { ReadsAtMost D (IsTrue F.told) (asks.InPolygon (view_name view.now) rings.now)
             (F.files folder.old) self.old
             (F.reads folder.old) (F.reads folder.new) }
-        ensures damage { ShowsDamage D (IsTrue F.told) (asks.InPolygon (viewed view.now) rings.now) (F.files folder.old)
+        ensures damage { ShowsDamage D (IsTrue F.told) (asks.InPolygon (view_name view.now) rings.now)
+            (F.files folder.old)
             (F.files folder.new) self.old self.new result }
-        ensures still { KeepsStill (IsTrue F.told) (asks.InPolygon (viewed view.now) rings.now) (F.files folder.old)
+        ensures still { KeepsStill (IsTrue F.told) (asks.InPolygon (view_name view.now) rings.now) (F.files folder.old)
             (F.files folder.new) self.old self.new result }
         ensures unread { OnRefused result (F.reads folder.new ≡ F.reads folder.old) }
     {
@@ -123,7 +126,8 @@ impl<const D: usize> Session<D> {
     ) -> Result<Applied, PageFault>
         requires some { 1 ≤ k }
         requires few { k ≤ 10000 }
-        ensures applies { Applies D (IsTrue F.told) (λ i. step_on i (asks.Nearest (viewed view.now) k at.now.c)) false
+        ensures applies { Applies D (IsTrue F.told)
+            (λ i. step_on i (asks.Nearest (view_name view.now) k at.now.c)) false
             (record {
               files = F.files folder.old;
               session = self.old;
@@ -136,12 +140,13 @@ impl<const D: usize> Session<D> {
               text = out.new.items;
               faults = F.faults folder.new;
             }) result }
-        ensures reads { ReadsAtMost D (IsTrue F.told) (asks.Nearest (viewed view.now) k at.now.c)
+        ensures reads { ReadsAtMost D (IsTrue F.told) (asks.Nearest (view_name view.now) k at.now.c)
             (F.files folder.old) self.old
             (F.reads folder.old) (F.reads folder.new) }
-        ensures damage { ShowsDamage D (IsTrue F.told) (asks.Nearest (viewed view.now) k at.now.c) (F.files folder.old)
+        ensures damage { ShowsDamage D (IsTrue F.told) (asks.Nearest (view_name view.now) k at.now.c)
+            (F.files folder.old)
             (F.files folder.new) self.old self.new result }
-        ensures still { KeepsStill (IsTrue F.told) (asks.Nearest (viewed view.now) k at.now.c) (F.files folder.old)
+        ensures still { KeepsStill (IsTrue F.told) (asks.Nearest (view_name view.now) k at.now.c) (F.files folder.old)
             (F.files folder.new) self.old self.new result }
         ensures unread { OnRefused result (F.reads folder.new ≡ F.reads folder.old) }
     {

@@ -6,7 +6,7 @@ ghost use Rattle.std.specs.Str.{bytes_eq};
 ghost use Rattle.std.specs.List.{list_any};
 ghost use Rattle.point_codec.specs.Points.{in_box};
 ghost use Rattle.point_codec.specs.Seen.{coordinates_of};
-ghost use Rattle.documents.specs.Documents.{Document, hits, passes, without, is_live, deleted};
+ghost use Rattle.documents.specs.Documents.{Document, hits, passes, docs_failing, is_live, docs_without};
 ghost use Rattle.index_model.specs.State.{Snapshot, snapshot_of};
 
 use documents::{HeldDocument, Memory};
@@ -117,7 +117,7 @@ pub fn is_live<const D: usize>(docs: &[HeldDocument<D>], number: u32) -> bool
 
 /// Takes the document of this number out.
 pub fn delete<const D: usize>(docs: &mut Vec<HeldDocument<D>>, number: u32)
-    ensures { docs.new.items ≡ deleted number docs.old.items }
+    ensures { docs.new.items ≡ docs_without number docs.old.items }
 {
     docs.retain(
         |doc| -> bool
@@ -129,7 +129,7 @@ pub fn delete<const D: usize>(docs: &mut Vec<HeldDocument<D>>, number: u32)
 /// Takes the documents with a point in the box out.
 pub fn delete_in<const D: usize>(docs: &mut Vec<HeldDocument<D>>, lo: &Point<D>, hi: &Point<D>)
     requires { D ≤ 8 }
-    ensures { docs.new.items ≡ without (in_box (record { lo = lo.now.c; hi = hi.now.c })) docs.old.items }
+    ensures { docs.new.items ≡ docs_failing (in_box (record { lo = lo.now.c; hi = hi.now.c })) docs.old.items }
 {
     docs.retain(
         |doc| -> bool

@@ -4,9 +4,9 @@ ghost use Rattle.std.specs.Prelude.{◌≡◌, ◌≤◌, ◌<◌, Some, None, M
 ghost use Rattle.documents.specs.Documents.{hits};
 ghost use Rattle.script_lang.specs.Replies.{hits_text};
 ghost use Rattle.script_lang.specs.Requests as asks;
-ghost use Rattle.script_lang.specs.Seen.{viewed};
+ghost use Rattle.script_lang.specs.Seen.{view_name};
 ghost use Rattle.index_model.specs.State.{viewed_docs};
-ghost use Rattle.index_model.specs.Step.{Done, step_on, answered};
+ghost use Rattle.index_model.specs.Step.{Done, step_on, query_outcome};
 
 use crate::held::snapshot_of;
 use crate::session::{Applied, ListSession};
@@ -25,8 +25,8 @@ impl<const D: usize> ListSession<D> {
     /// The documents that a query looks at, or None where no snapshot has the name.
     pub(crate) fn viewed(&self, view: &View) -> Option<&[HeldDocument<D>]>
         requires { D ≤ 8 }
-        ensures { MatchOption result (viewed_docs (viewed view.now) self.now ≡ None)
-            (λ docs. viewed_docs (viewed view.now) self.now ≡ Some docs.now) }
+        ensures { MatchOption result (viewed_docs (view_name view.now) self.now ≡ None)
+            (λ docs. viewed_docs (view_name view.now) self.now ≡ Some docs.now) }
     {
         match view {
             View::Now => Some(self.docs.as_slice()),
@@ -46,7 +46,7 @@ impl<const D: usize> ListSession<D> {
     ) -> Result<Applied, Memory>
         requires { D ≤ 8 }
         ensures { Does
-            (answered self.now (viewed_docs (viewed view.now) self.now)
+            (query_outcome self.now (viewed_docs (view_name view.now) self.now)
             (λ docs. hits_text (hits (S.has shape.old) docs)))
             self.now self.now out.old.items out.new.items result }
     {
@@ -66,7 +66,7 @@ impl<const D: usize> ListSession<D> {
     ) -> Result<Applied, Memory>
         requires { D ≤ 8 }
         ensures { Does
-            (step_on self.now (asks.InPolygon (viewed view.now) rings.now)) self.now self.now out.old.items
+            (step_on self.now (asks.InPolygon (view_name view.now) rings.now)) self.now self.now out.old.items
             out.new.items result }
     {
         let _ = &self.leaf;
@@ -84,7 +84,8 @@ impl<const D: usize> ListSession<D> {
     ) -> Result<Applied, Memory>
         requires { D ≤ 8 }
         ensures { Does
-            (step_on self.now (asks.Nearest (viewed view.now) k at.now.c)) self.now self.now out.old.items out.new.items
+            (step_on self.now (asks.Nearest (view_name view.now) k at.now.c)) self.now self.now out.old.items
+                out.new.items
             result }
     {
         let Some(docs) = self.viewed(view) else {

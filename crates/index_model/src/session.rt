@@ -5,7 +5,7 @@ ghost use Rattle.documents.specs.Documents.{hits};
 ghost use Rattle.script_lang.specs.Requests as asks;
 ghost use Rattle.script_lang.specs.Seen.{request_of};
 ghost use Rattle.index_model.specs.State.{Index, new_index};
-ghost use Rattle.index_model.specs.Step.{Done, step_on, added, snapped, released, done_ok};
+ghost use Rattle.index_model.specs.Step.{Done, step_on, add_outcome, snapshot_outcome, release_outcome, done_ok};
 
 use crate::held::{HeldSnapshot, delete, delete_in, is_live, release, snapshot_of};
 use cell_relate::BoxShape;
@@ -126,7 +126,7 @@ impl<const D: usize> ListSession<D> {
         out: &mut Vec<u8>,
     ) -> Result<Applied, Memory>
         requires { D ≤ 8 }
-        ensures { Does (added points.now self.old) self.old self.new out.old.items out.new.items result }
+        ensures { Does (add_outcome points.now self.old) self.old self.new out.old.items out.new.items result }
     {
         let count = points.as_slice().len() as u32;
         if self.given + count > MAX_POINTS {
@@ -191,7 +191,7 @@ impl<const D: usize> ListSession<D> {
 
     fn snapshot(&mut self, alloc: Global, name: &Name, out: &mut Vec<u8>) -> Result<Applied, Memory>
         requires { D ≤ 8 }
-        ensures { Does (snapped name.now self.old) self.old self.new out.old.items out.new.items result }
+        ensures { Does (snapshot_outcome name.now self.old) self.old self.new out.old.items out.new.items result }
     {
         if snapshot_of(self.snapshots.as_slice(), name).is_some() {
             return Ok(Applied::Refused(Refusal::NameTaken));
@@ -206,7 +206,7 @@ impl<const D: usize> ListSession<D> {
     }
 
     fn release(&mut self, name: &Name, out: &mut Vec<u8>) -> Result<Applied, Memory>
-        ensures { Does (released name.now self.old) self.old self.new out.old.items out.new.items result }
+        ensures { Does (release_outcome name.now self.old) self.old self.new out.old.items out.new.items result }
     {
         if snapshot_of(self.snapshots.as_slice(), name).is_none() {
             return Ok(Applied::Refused(Refusal::UnknownSnapshot));

@@ -26,11 +26,11 @@ use Rattle.segment_file.specs.Damages.{AsksFor, IsHeadDamage, IsHeadDamageOf, Is
 use Rattle.segment_file.proofs.Cut.{not_cut}
 use Rattle.stored_index.specs.Segments.{places}
 use Rattle.stored_index.specs.Stored.{HaveLive}
-use Rattle.segment_view.specs.Parts.{Part}
+use Rattle.segment_view.specs.LiveSegments.{LiveSegment}
 use Rattle.segment_view.specs.Damages.{IsPartDamage}
 use Rattle.index_opening.specs.Damages.{IsAttachDamage, IsAttachDamageOf, IsMisplaced, IsUnequalOf}
 use Rattle.index_opening.specs.Evidence.{AsksPages, HasNoBody, InHead, InList, InSets, IsEvident, IsEvidentWith}
-use Rattle.index_opening.specs.Evidence.{IsHeadIn, IsListed, IsTrueDamage, IsTrueOf, IsTwice, LacksLeaf, OfFiles}
+use Rattle.index_opening.specs.Evidence.{IsHeadIn, IsOfListed, IsTrueDamage, IsTrueOf, IsTwice, LacksLeaf, OfFiles}
 use Rattle.index_opening.proofs.ListedShows.{attach_shows}
 
 -- ---- of the same files, where more is told
@@ -129,30 +129,30 @@ leaf_carried W D files head root tree is has (Beyond doc next) shown h = absurd 
 leaf_carried W D files head root tree is has (Doubled doc) shown h = absurd h
 
 -- of a segment that is read, whose head is that of its file
-pub part_evident : (W : ℕ → Type 0) (T : Type 0) (D : ℕ) (files : Files) (parts : List Part) (d : Damage)
-    → (T → All (λ (q : Part). ∥ IsHeadIn files D q.head ∥₁) parts) → (T → IsLeafDamageOf files d) → IsPartDamage D parts d → IsEvidentWith W T files d
+pub part_evident : (W : ℕ → Type 0) (T : Type 0) (D : ℕ) (files : Files) (parts : List LiveSegment) (d : Damage)
+    → (T → All (λ (q : LiveSegment). ∥ IsHeadIn files D q.head ∥₁) parts) → (T → IsLeafDamageOf files d) → IsPartDamage D parts d → IsEvidentWith W T files d
 part_evident W T D files parts d heads truth (p, there, read) = record {
   shows = ∥∥₁_map read (λ r. leaf_shows HasRanges D p.head r.root r.tree r.ranges r.has d r.shows);
   of_files = λ t. record {
-    shows = ∥∥₁_elim (All-contains (λ (q : Part). ∥ IsHeadIn files D q.head ∥₁) parts p (heads t) there) ∥∥₁_prop
+    shows = ∥∥₁_elim (All-contains (λ (q : LiveSegment). ∥ IsHeadIn files D q.head ∥₁) parts p (heads t) there) ∥∥₁_prop
         (λ is. ∥∥₁_map read (λ r. leaf_shows (IsHeadIn files) D p.head r.root r.tree is r.has d r.shows));
-    carries = ∥∥₁_elim (All-contains (λ (q : Part). ∥ IsHeadIn files D q.head ∥₁) parts p (heads t) there) ∥∥₁_prop
+    carries = ∥∥₁_elim (All-contains (λ (q : LiveSegment). ∥ IsHeadIn files D q.head ∥₁) parts p (heads t) there) ∥∥₁_prop
         (λ is. ∥∥₁_map read (λ r. leaf_carried W D files p.head r.root r.tree is r.has d r.shows (truth t)));
   };
 }
 
-pub on_part_evident : {X : Type 0} (W : ℕ → Type 0) (T : Type 0) (D : ℕ) (files : Files) (parts : List Part) (r : Result X PageFault)
-    → (T → All (λ (q : Part). ∥ IsHeadIn files D q.head ∥₁) parts) → (T → OnDamage r (IsLeafDamageOf files))
+pub on_part_evident : {X : Type 0} (W : ℕ → Type 0) (T : Type 0) (D : ℕ) (files : Files) (parts : List LiveSegment) (r : Result X PageFault)
+    → (T → All (λ (q : LiveSegment). ∥ IsHeadIn files D q.head ∥₁) parts) → (T → OnDamage r (IsLeafDamageOf files))
     → OnDamage r (IsPartDamage D parts) → OnDamage r (IsEvidentWith W T files)
 on_part_evident W T D files parts r heads =
     on_told T r (IsLeafDamageOf files) (IsPartDamage D parts) (IsEvidentWith W T files) (λ d truth read. part_evident W T D files parts d heads truth read)
 
 pub segment_listed : (files : Files) (c : CommitData) (s : Listed) (file : FileName) → IsCommitFile (bytes_of (files Commit)) c
-    → Contains c.listed s → file ≡ Segment s.segment → IsListed files file
+    → Contains c.listed s → file ≡ Segment s.segment → IsOfListed files file
 segment_listed files c s file says there is = record { commit = c; says = says; listed = s; there = there; is = inl is }
 
 pub live_listed : (files : Files) (c : CommitData) (s : Listed) (file : FileName) → IsCommitFile (bytes_of (files Commit)) c
-    → Contains c.listed s → file ≡ Live s.segment s.generation → IsListed files file
+    → Contains c.listed s → file ≡ Live s.segment s.generation → IsOfListed files file
 live_listed files c s file says there is = record { commit = c; says = says; listed = s; there = there; is = inr is }
 
 -- the pages that a file of a segment asks for

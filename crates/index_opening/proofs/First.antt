@@ -14,7 +14,7 @@ use Rattle.commit_list.specs.declared.listed.Listed.{Listed}
 use Rattle.commit_list.specs.Commits.{CommitData}
 use Rattle.segment_file.specs.Damages.{IsHeadDamage, IsLiveDamage, IsPairDamage}
 use Rattle.stored_index.specs.Stored.{HasHead}
-use Rattle.segment_view.specs.Parts.{Part}
+use Rattle.segment_view.specs.LiveSegments.{LiveSegment}
 use Rattle.index_opening.specs.Opened.{IsOpened}
 use Rattle.index_opening.specs.First.{IsFirstIn, IsFirstListed, IsOfFile, OfHead, OfLive}
 
@@ -63,7 +63,8 @@ first_from T mid files c s d same (OfLive head has leaf entries h) = OfLive head
     entries h
 
 -- one segment more, as the loop over the list has it
-pub first_next : (T : Type 0) (mid files : Files) (c : CommitData) (xs : List Listed) (i : ℕ) (s : Listed) (parts : List Part) (f : PageFault) → xs ≡ c.listed
+pub first_next : (T : Type 0) (mid files : Files) (c : CommitData) (xs : List Listed) (i : ℕ) (s : Listed) (parts : List LiveSegment) (f : PageFault)
+    → xs ≡ c.listed
     → (T → mid ≡ files) → i < length xs
     → AllZip (IsOpened T files c) (take i c.listed) parts → FaultShows (IsFirstIn T mid c (get_or xs i s)) f → FaultShows (IsFirstListed T files c) f
 first_next T mid files c xs i s parts f is same lt opened =

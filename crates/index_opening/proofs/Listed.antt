@@ -27,7 +27,7 @@ use Rattle.stored_index.proofs.Parts.{held_head, held_live}
 use Rattle.stored_index.proofs.Places.{none_from_next}
 use Rattle.stored_index.proofs.Whole.{held_for}
 use Rattle.index_model.specs.State.{State}
-use Rattle.segment_view.specs.Parts.{Part, lives_of, part_of}
+use Rattle.segment_view.specs.LiveSegments.{LiveSegment, lives_of, live_segment}
 use Rattle.index_opening.specs.Damages.{Entries, IsAttachDamage, IsAttachDamageOf, IsListedDamage, IsListedDamageOf, IsMisplaced, IsPair, LeafSize, LiveCount}
 use Rattle.index_opening.specs.Opened.{IsOpened}
 
@@ -149,14 +149,15 @@ undefined_fault files page.Memory whole = tt
 
 -- ---- the parts that the files hold
 
-abbrev pub as_part : SegmentData → Part
-as_part d = part_of d.head d.live
+abbrev pub as_part : SegmentData → LiveSegment
+as_part d = live_segment d.head d.live
 
-abbrev HasPart : Files → CommitData → Listed → Part → Type 0
+abbrev HasPart : Files → CommitData → Listed → LiveSegment → Type 0
 HasPart files c s p = HasHead c.dims files s p.head × HasLive files s p.live
 
 -- the heads and the live sets that the files have are those of the segments that are held
-pub parts_held : (files : Files) (c : CommitData) (parts : List Part) (held : List SegmentData) → HaveHeads files c (map (λ (p : Part). p.head) parts)
+pub parts_held : (files : Files) (c : CommitData) (parts : List LiveSegment) (held : List SegmentData)
+    → HaveHeads files c (map (λ (p : LiveSegment). p.head) parts)
     → HaveLive files c (lives_of parts) → HoldAll files c held
     → parts ≡ map as_part held
 parts_held files c parts held heads lives all =
@@ -164,34 +165,37 @@ parts_held files c parts held heads lives all =
     (zip_map (HoldsFiles files c) (HasPart files c) as_part c.listed held
     (λ s d there h. (record { id = h.id; is = head_of_segment c.dims (bytes_of (files (Segment s.segment))) d.head d.entries h.segment }, h.live)) all)
   where
-    once : (s : Listed) (p q : Part) → HasPart files c s p → HasPart files c s q → p ≡ q
+    once : (s : Listed) (p q : LiveSegment) → HasPart files c s p → HasPart files c s q → p ≡ q
     once s p q has have =
         let head : p.head ≡ q.head = one_head c.dims (bytes_of (files (Segment s.segment))) p.head q.head (has.0.id ∙ sym have.0.id) has.0.is have.0.is in
         let live : p.live ≡ q.live = one_live_set s.segment s.generation (bytes_of (files (Live s.segment s.generation))) p.live q.live has.1 have.1 in
         λ i. record { head = head i; live = live i }
 
-    pairs : (ss : List Listed) (ps : List Part) → AllZip (HasHead c.dims files) ss (map (λ (p : Part). p.head) ps) → AllZip (HasLive files) ss (lives_of ps)
+    pairs : (ss : List Listed) (ps : List LiveSegment) → AllZip (HasHead c.dims files) ss (map (λ (p : LiveSegment). p.head) ps)
+        → AllZip (HasLive files) ss (lives_of ps)
         → AllZip (HasPart files c) ss ps
     pairs [] [] hs ls = tt
     pairs [] (p ∷ ps) hs ls = absurd hs
     pairs (s ∷ ss) [] hs ls = absurd hs
     pairs (s ∷ ss) (p ∷ ps) hs ls = ((hs.0, ls.0), pairs ss ps hs.1 ls.1)
 
-pub opened_heads : (told : Type 0) (files : Files) (c : CommitData) (parts : List Part) → told → AllZip (IsOpened told files c) c.listed parts
-    → HaveHeads files c (map (λ (p : Part). p.head) parts)
+pub opened_heads : (told : Type 0) (files : Files) (c : CommitData) (parts : List LiveSegment) → told → AllZip (IsOpened told files c) c.listed parts
+    → HaveHeads files c (map (λ (p : LiveSegment). p.head) parts)
 opened_heads told files c parts t all =
-    zip_map (IsOpened told files c) (HasHead c.dims files) (λ (p : Part). p.head) c.listed parts (λ s p there one. one.head t) all
+    zip_map (IsOpened told files c) (HasHead c.dims files) (λ (p : LiveSegment). p.head) c.listed parts (λ s p there one. one.head t) all
 
-pub opened_lives : (told : Type 0) (files : Files) (c : CommitData) (parts : List Part) → told → AllZip (IsOpened told files c) c.listed parts
+pub opened_lives : (told : Type 0) (files : Files) (c : CommitData) (parts : List LiveSegment) → told → AllZip (IsOpened told files c) c.listed parts
     → HaveLive files c (lives_of parts)
-opened_lives told files c parts t all = zip_map (IsOpened told files c) (HasLive files) (λ (p : Part). p.live) c.listed parts (λ s p there one. one.live t) all
+opened_lives told files c parts t all =
+    zip_map (IsOpened told files c) (HasLive files) (λ (p : LiveSegment). p.live) c.listed parts (λ s p there one. one.live t) all
 
 pub lives_map : (held : List SegmentData) → lives_of (map as_part held) ≡ live_sets held
 lives_map [] = refl
 lives_map (d ∷ ds) = ap (λ (ss : List LiveSet). d.live ∷ ss) (lives_map ds)
 
 -- in what is held each number is where it may be
-pub lives_placed : (files : Files) (c : CommitData) (docs : List Document) (parts : List Part) (held : HoldsIndex files c docs) → parts ≡ map as_part held.parts
+pub lives_placed : (files : Files) (c : CommitData) (docs : List Document) (parts : List LiveSegment) (held : HoldsIndex files c docs)
+    → parts ≡ map as_part held.parts
     → (d : Damage)
     → IsMisplaced (λ doc. 1 ≤ places doc (lives_of parts)) (λ doc. 2 ≤ places doc (lives_of parts)) c.next d → ⊥
 lives_placed files c docs parts held is =
@@ -209,7 +213,7 @@ pub whole_listed : (files : Files) (c : CommitData) (f : PageFault) → ((held :
     → (state : State) → IsStored files state → FaultShows (λ _. ⊥) f
 whole_listed files c f whole says state stored = let found = held_for files c state stored says in whole found.1.parts found.1.segments
 
-pub whole_placed : (files : Files) (c : CommitData) (parts : List Part) (f : PageFault) → HaveHeads files c (map (λ (p : Part). p.head) parts)
+pub whole_placed : (files : Files) (c : CommitData) (parts : List LiveSegment) (f : PageFault) → HaveHeads files c (map (λ (p : LiveSegment). p.head) parts)
     → HaveLive files c (lives_of parts)
     → FaultShows (IsMisplaced (λ doc. 1 ≤ places doc (lives_of parts)) (λ doc. 2 ≤ places doc (lives_of parts)) c.next) f
     → IsCommitFile (bytes_of (files Commit)) c

@@ -20,31 +20,31 @@ use Rattle.commit_list.specs.CommitFiles.{IsCommitFile, IsCommitDamage, IsCommit
 use Rattle.segment_file.specs.Heads.{Head}
 use Rattle.segment_file.specs.Damages.{IsHeadDamage, IsHeadDamageOf, IsLeafDamage, IsLiveDamage}
 use Rattle.stored_index.specs.Segments.{places}
-use Rattle.segment_view.specs.Parts.{Part}
+use Rattle.segment_view.specs.LiveSegments.{LiveSegment}
 use Rattle.segment_view.specs.Damages.{IsPartDamage}
 use Rattle.index_opening.specs.Damages.{IsAttachDamageOf, IsMisplaced, IsUnequalOf}
-use Rattle.index_opening.specs.Evidence.{InHead, InList, IsFound, IsListed, NamesLooked}
+use Rattle.index_opening.specs.Evidence.{InHead, InList, IsFound, IsOfListed, NamesLooked}
 use Rattle.index_opening.proofs.Evident.{live_listed, segment_listed}
 
 -- ---- a leaf
 
-leaf_named : (D : ℕ) (files : Files) (head : Head) (root : Region) (tree : IndexTree) → IsListed files (Segment head.id)
+leaf_named : (D : ℕ) (files : Files) (head : Head) (root : Region) (tree : IndexTree) → IsOfListed files (Segment head.id)
     → (d : Damage) → IsLeafDamage D head 0 front tree d → NamesLooked files d
-leaf_named D files head root tree listed (Page file number bytes) h = inr (subst (IsListed files) (sym h.0) listed)
-leaf_named D files head root tree listed (Leaf file number offset len bytes) h = subst (IsListed files) (sym h.0) listed
-leaf_named D files head root tree listed (Size file size needed) h = inr (subst (IsListed files) (sym h.0) listed)
+leaf_named D files head root tree listed (Page file number bytes) h = inr (subst (IsOfListed files) (sym h.0) listed)
+leaf_named D files head root tree listed (Leaf file number offset len bytes) h = subst (IsOfListed files) (sym h.0) listed
+leaf_named D files head root tree listed (Size file size needed) h = inr (subst (IsOfListed files) (sym h.0) listed)
 leaf_named D files head root tree listed (Body file bytes) h = absurd h
 leaf_named D files head root tree listed (Missing file) h = absurd h
 leaf_named D files head root tree listed (Unequal file said found) h = absurd h
 leaf_named D files head root tree listed (Beyond doc next) h = absurd h
 leaf_named D files head root tree listed (Doubled doc) h = absurd h
 
-pub part_found : (D : ℕ) (files : Files) (parts : List Part) (f : PageFault)
-    → All (λ (q : Part). IsListed files (Segment q.head.id)) parts → FaultShows (IsPartDamage D parts) f
+pub part_found : (D : ℕ) (files : Files) (parts : List LiveSegment) (f : PageFault)
+    → All (λ (q : LiveSegment). IsOfListed files (Segment q.head.id)) parts → FaultShows (IsPartDamage D parts) f
     → FaultShows (IsFound files) f
 part_found D files parts f listed = fault_weaker f (IsPartDamage D parts) (IsFound files)
     (λ d (p, there, read).
-    let here = All-contains (λ (q : Part). IsListed files (Segment q.head.id)) parts p listed there in
+    let here = All-contains (λ (q : LiveSegment). IsOfListed files (Segment q.head.id)) parts p listed there in
     ∥∥₁_map read (λ r. leaf_named D files p.head r.root r.tree here d r.shows))
 
 -- ---- the segments that a commit lists

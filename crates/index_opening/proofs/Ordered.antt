@@ -20,7 +20,7 @@ use Rattle.stored_index.specs.Opening.{listed_pages, segments_pages}
 use Rattle.stored_index.specs.Segments.{SegmentData}
 use Rattle.stored_index.specs.Stored.{HasHead, HasLive, HaveHeads, HaveLive, HoldAll, HoldsFiles}
 use Rattle.stored_index.proofs.Pairwise.{held_of}
-use Rattle.segment_view.specs.Parts.{IsPlaced, Part, ids_of}
+use Rattle.segment_view.specs.LiveSegments.{IsPlaced, LiveSegment, ids_of}
 use Rattle.index_opening.specs.Opened.{IsOpened}
 
 -- ---- the segments in the order of the list
@@ -51,49 +51,51 @@ before (x ∷ xs) (suc i) d up lt =
     (before xs i d (pairs_tail (λ (m n : ℕ). m < n) x.segment (map (λ (s : Listed). s.segment) xs) up) less)
 
 -- those that are opened come before the next one
-pub opened_before : (told : Type 0) (files : Files) (c : CommitData) (i : ℕ) (d s : Listed) (parts : List Part)
+pub opened_before : (told : Type 0) (files : Files) (c : CommitData) (i : ℕ) (d s : Listed) (parts : List LiveSegment)
     → IsStrictlyIncreasing (map (λ (s : Listed). s.segment) c.listed) → i < length c.listed → get_or c.listed i d ≡ s
-    → AllZip (IsOpened told files c) (take i c.listed) parts → All (λ (q : Part). q.head.id < s.segment) parts
+    → AllZip (IsOpened told files c) (take i c.listed) parts → All (λ (q : LiveSegment). q.head.id < s.segment) parts
 opened_before told files c i d s parts up lt at all =
-    zip_right (IsOpened told files c) (λ (k : Listed). k.segment < s.segment) (λ (q : Part). q.head.id < s.segment) (take i c.listed) parts
+    zip_right (IsOpened told files c) (λ (k : Listed). k.segment < s.segment) (λ (q : LiveSegment). q.head.id < s.segment) (take i c.listed) parts
     (λ k q less one. subst (λ n. n < s.segment) (sym one.listed.id) less)
     (subst (λ (t : Listed). All (λ (k : Listed). k.segment < t.segment) (take i c.listed)) at (before c.listed i d
     (AllPairs-from_increasing (map (λ (s : Listed). s.segment) c.listed) up) lt)) all
 
-pub not_among : (parts : List Part) (id : ℕ) → All (λ (q : Part). q.head.id < id) parts → is_among (ids_of parts) id ≡ false
+pub not_among : (parts : List LiveSegment) (id : ℕ) → All (λ (q : LiveSegment). q.head.id < id) parts → is_among (ids_of parts) id ≡ false
 not_among parts id less = false_from_ne_true (is_among (ids_of parts) id)
     (λ among.
-    let found = of_map (λ (q : Part). q.head.id) parts id (among_to (ids_of parts) id among) in
-    omega (arith, found.2, All-contains (λ (q : Part). q.head.id < id) parts found.0 less found.1))
+    let found = of_map (λ (q : LiveSegment). q.head.id) parts id (among_to (ids_of parts) id among) in
+    omega (arith, found.2, All-contains (λ (q : LiveSegment). q.head.id < id) parts found.0 less found.1))
 
 -- a segment of the greatest id is put behind the others
-pub placed_last : (p : Part) (old new : List Part) → IsPlaced p old new → IsStrictlyIncreasing (ids_of new) → All (λ (q : Part). q.head.id < p.head.id) old
+pub placed_last : (p : LiveSegment) (old new : List LiveSegment) → IsPlaced p old new → IsStrictlyIncreasing (ids_of new)
+    → All (λ (q : LiveSegment). q.head.id < p.head.id) old
     → new ≡ old ++ p ∷ []
 placed_last p old new put up less = by put.back refl
   where
     up_after : AllPairs (λ (m n : ℕ). m < n) (ids_of (put.front ++ p ∷ put.back))
-    up_after = AllPairs-from_increasing (ids_of (put.front ++ p ∷ put.back)) (subst (λ (ps : List Part). IsStrictlyIncreasing (ids_of ps)) put.after up)
+    up_after = AllPairs-from_increasing (ids_of (put.front ++ p ∷ put.back)) (subst (λ (ps : List LiveSegment). IsStrictlyIncreasing (ids_of ps)) put.after up)
 
-    by : (back : List Part) → put.back ≡ back → new ≡ old ++ p ∷ []
-    by [] is = put.after ∙ ap (λ (ps : List Part). put.front ++ p ∷ ps) is
-        ∙ ap (λ (ps : List Part). ps ++ p ∷ []) (sym (append-nil put.front) ∙ ap (λ (ps : List Part). put.front ++ ps) (sym is) ∙ sym put.before)
+    by : (back : List LiveSegment) → put.back ≡ back → new ≡ old ++ p ∷ []
+    by [] is = put.after ∙ ap (λ (ps : List LiveSegment). put.front ++ p ∷ ps) is
+        ∙ ap (λ (ps : List LiveSegment). ps ++ p ∷ []) (sym (append-nil put.front) ∙ ap (λ (ps : List LiveSegment). put.front ++ ps) (sym is) ∙ sym put.before)
     by (b ∷ bs) is =
         let there : Contains old b =
-        subst (λ (ps : List Part). Contains ps b) (sym put.before)
-        (subst (λ (ps : List Part). Contains (put.front ++ ps) b) (sym is) (in_back put.front b bs)) in
-        let low = All-contains (λ (q : Part). q.head.id < p.head.id) old b less there in
-        let high = after put.front p b bs (subst (λ (ps : List Part). AllPairs (λ (m n : ℕ). m < n) (ids_of (put.front ++ p ∷ ps))) is up_after) in
+        subst (λ (ps : List LiveSegment). Contains ps b) (sym put.before)
+        (subst (λ (ps : List LiveSegment). Contains (put.front ++ ps) b) (sym is) (in_back put.front b bs)) in
+        let low = All-contains (λ (q : LiveSegment). q.head.id < p.head.id) old b less there in
+        let high = after put.front p b bs (subst (λ (ps : List LiveSegment). AllPairs (λ (m n : ℕ). m < n) (ids_of (put.front ++ p ∷ ps))) is up_after) in
         absurd (omega (arith, low, high))
       where
-        in_back : (front : List Part) (q : Part) (qs : List Part) → Contains (front ++ q ∷ qs) q
+        in_back : (front : List LiveSegment) (q : LiveSegment) (qs : List LiveSegment) → Contains (front ++ q ∷ qs) q
         in_back [] q qs = cons_head q qs
         in_back (f ∷ fs) q qs = cons_tail f (fs ++ q ∷ qs) q (in_back fs q qs)
 
-        after : (front : List Part) (p q : Part) (qs : List Part) → AllPairs (λ (m n : ℕ). m < n) (ids_of (front ++ p ∷ q ∷ qs)) → p.head.id < q.head.id
+        after : (front : List LiveSegment) (p q : LiveSegment) (qs : List LiveSegment) → AllPairs (λ (m n : ℕ). m < n) (ids_of (front ++ p ∷ q ∷ qs))
+            → p.head.id < q.head.id
         after [] p q qs pairs = pairs_head (λ (m n : ℕ). m < n) p.head.id (ids_of (q ∷ qs)) pairs q.head.id (cons_head q.head.id (ids_of qs))
         after (f ∷ fs) p q qs pairs = after fs p q qs (pairs_tail (λ (m n : ℕ). m < n) f.head.id (ids_of (fs ++ p ∷ q ∷ qs)) pairs)
 
-pub opened_more : (told : Type 0) (files : Files) (c : CommitData) (i : ℕ) (d s : Listed) (p : Part) (old new : List Part)
+pub opened_more : (told : Type 0) (files : Files) (c : CommitData) (i : ℕ) (d s : Listed) (p : LiveSegment) (old new : List LiveSegment)
     → IsStrictlyIncreasing (map (λ (s : Listed). s.segment) c.listed) → i < length c.listed → get_or c.listed i d ≡ s
     → AllZip (IsOpened told files c) (take i c.listed) old → IsOpened told files c s p → IsPlaced p old new → IsStrictlyIncreasing (ids_of new)
     → AllZip (IsOpened told files c) (take (i + 1) c.listed) new
@@ -101,7 +103,7 @@ opened_more told files c i d s p old new up lt at all one put ascend =
     subst (λ (ss : List Listed). AllZip (IsOpened told files c) ss new) (sym (take_more c.listed i d lt ∙ ap (λ (k : Listed). take i c.listed ++ k ∷ []) at))
     (subst (AllZip (IsOpened told files c) (take i c.listed ++ s ∷ []))
     (sym (placed_last p old new put ascend
-    (subst (λ n. All (λ (q : Part). q.head.id < n) old) (sym one.listed.id) (opened_before told files c i d s old up lt at all))))
+    (subst (λ n. All (λ (q : LiveSegment). q.head.id < n) old) (sym one.listed.id) (opened_before told files c i d s old up lt at all))))
     (zip_pushed (IsOpened told files c) (take i c.listed) old s p all one))
 
 -- ---- the pages that are read
@@ -156,7 +158,7 @@ reads_on files mid c i d s heads sets from now same lt at have lives most =
 
 -- ---- one segment more, as the loop over the list has it
 
-pub opened_from : (told : Type 0) (mid files : Files) (c : CommitData) (s : Listed) (p : Part) → (told → mid ≡ files) → IsOpened told mid c s p
+pub opened_from : (told : Type 0) (mid files : Files) (c : CommitData) (s : Listed) (p : LiveSegment) → (told → mid ≡ files) → IsOpened told mid c s p
     → IsOpened told files c s p
 opened_from told mid files c s p same one = record {
   listed = one.listed;
@@ -164,7 +166,8 @@ opened_from told mid files c s p same one = record {
   live = λ t. subst (λ (f : Files). HasLive f s p.live) (same t) (one.live t);
 }
 
-pub opened_next : (told : Type 0) (mid files : Files) (c : CommitData) (xs : List Listed) (i : ℕ) (d : Listed) (p : Part) (old new : List Part) → xs ≡ c.listed
+pub opened_next : (told : Type 0) (mid files : Files) (c : CommitData) (xs : List Listed) (i : ℕ) (d : Listed) (p : LiveSegment) (old new : List LiveSegment)
+    → xs ≡ c.listed
     → (told → mid ≡ files)
     → IsStrictlyIncreasing (map (λ (s : Listed). s.segment) c.listed) → i < length xs → AllZip (IsOpened told files c) (take i c.listed) old
     → IsOpened told mid c (get_or xs i d) p
@@ -174,11 +177,11 @@ opened_next told mid files c xs i d p old new is same up lt all one put ascend =
     (ap (λ (ys : List Listed). get_or ys i d) (sym is)) all
     (opened_from told mid files c (get_or xs i d) p same one) put ascend
 
-pub fresh_next : (told : Type 0) (files : Files) (c : CommitData) (xs : List Listed) (i : ℕ) (d : Listed) (parts : List Part) (id : ℕ) → xs ≡ c.listed
+pub fresh_next : (told : Type 0) (files : Files) (c : CommitData) (xs : List Listed) (i : ℕ) (d : Listed) (parts : List LiveSegment) (id : ℕ) → xs ≡ c.listed
     → IsStrictlyIncreasing (map (λ (s : Listed). s.segment) c.listed) → i < length xs → AllZip (IsOpened told files c) (take i c.listed) parts
     → id ≡ (get_or xs i d).segment → is_among (ids_of parts) id ≡ false
 fresh_next told files c xs i d parts id is up lt all same =
-    not_among parts id (subst (λ n. All (λ (q : Part). q.head.id < n) parts) (sym same)
+    not_among parts id (subst (λ n. All (λ (q : LiveSegment). q.head.id < n) parts) (sym same)
     (opened_before told files c i d (get_or xs i d) parts up (subst (λ (ys : List Listed). i < length ys) is lt)
     (ap (λ (ys : List Listed). get_or ys i d) (sym is)) all))
 

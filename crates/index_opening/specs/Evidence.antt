@@ -22,7 +22,7 @@ use Rattle.segment_file.specs.Segments.{IsHeadOf, IsSegment}
 use Rattle.segment_file.specs.Damages.{AreHeadPair, AsksFor, BeginsNoHead, BeginsNoSet, IsNoLeaf}
 use Rattle.stored_index.specs.Segments.{SegmentData, all_live_entries, places}
 use Rattle.stored_index.specs.Stored.{HasLive, HaveLive, HoldAll}
-use Rattle.segment_view.specs.Parts.{Part}
+use Rattle.segment_view.specs.LiveSegments.{LiveSegment}
 use Rattle.document_checks.specs.Crowded.{IsCrowded}
 use Rattle.index_opening.specs.Damages.{IsPair}
 
@@ -58,7 +58,7 @@ abbrev pub IsHeadIn : Files → ℕ → Head → Type 0
 IsHeadIn files D head = IsHeadOf D (bytes_of (files (Segment head.id))) head
 
 -- the commit of the files lists the segment whose file this is, or whose live bits it has
-pub record IsListed (files : Files) (file : FileName) : Type 0 where
+pub record IsOfListed (files : Files) (file : FileName) : Type 0 where
   pub commit : CommitData
   pub says : IsCommitFile (bytes_of (files Commit)) commit
   pub listed : Listed
@@ -67,7 +67,7 @@ pub record IsListed (files : Files) (file : FileName) : Type 0 where
 
 -- it is the Commit file, or one that it lists
 abbrev pub IsLookedAt : Files → FileName → Type 0
-IsLookedAt files file = (file ≡ Commit) ⊎ IsListed files file
+IsLookedAt files file = (file ≡ Commit) ⊎ IsOfListed files file
 
 -- the first page of the file has this payload and asks for so many pages, by the layout of its kind
 abbrev pub AsksPages : FileName → (payload : List ℕ) → (pages : ℕ) → Type 0
@@ -107,9 +107,9 @@ pub data ArePair (files : Files) (file : FileName) (said found : ℕ) : Type 0 w
 -- the damage names a file that was looked at, if any, and two numbers that differ are a pair of the files
 abbrev pub NamesLooked : Files → Damage → Type 0
 NamesLooked files (Page file number bytes) = IsLookedAt files file
-NamesLooked files (Leaf file number offset len bytes) = IsListed files file
+NamesLooked files (Leaf file number offset len bytes) = IsOfListed files file
 NamesLooked files (Body file bytes) = IsLookedAt files file
-NamesLooked files (Missing file) = IsListed files file
+NamesLooked files (Missing file) = IsOfListed files file
 NamesLooked files (Size file size needed) = IsLookedAt files file
 NamesLooked files (Unequal file said found) = IsFilePair files file said found
 NamesLooked files (Beyond doc next) = Unit {0}
@@ -129,14 +129,14 @@ pub record IsLiveBeyond (files : Files) (doc next : ℕ) : Type 0 where
   pub there : 1 ≤ places doc sets
 
 -- of the entries that the segment's file holds more than 16 live ones have the number, or two that are the same
-pub record CrowdsPart (D : ℕ) (files : Files) (p : Part) (doc : ℕ) : Type 0 where
+pub record CrowdsPart (D : ℕ) (files : Files) (p : LiveSegment) (doc : ℕ) : Type 0 where
   pub items : List Item
   pub held : IsSegment D (bytes_of (files (Segment p.head.id))) p.head items
   pub crowded : IsCrowded doc (filter (λ x. is_live p.live x.doc) items)
 
 -- one of these segments has it so
-abbrev pub IsCrowdedIn : ℕ → Files → List Part → (doc : ℕ) → Type 0
-IsCrowdedIn D files parts doc = (p : Part) × Contains parts p × CrowdsPart D files p doc
+abbrev pub IsCrowdedIn : ℕ → Files → List LiveSegment → (doc : ℕ) → Type 0
+IsCrowdedIn D files parts doc = (p : LiveSegment) × Contains parts p × CrowdsPart D files p doc
 
 -- The number is live in two segments that the commit lists. Or more than 16 of the live entries of one of them have
 -- it, or two of these are the same; live are the numbers of its file of live bits.
@@ -144,14 +144,15 @@ pub data IsTwice (files : Files) (doc : ℕ) : Type 0 where
   InSets : (c : CommitData) → IsCommitFile (bytes_of (files Commit)) c → (sets : List LiveSet) → HaveLive files c sets
       → 2 ≤ places doc sets → IsTwice files doc
   InSegment : (c : CommitData) → IsCommitFile (bytes_of (files Commit)) c → (s : Listed) → Contains c.listed s
-      → (p : Part) → p.head.id ≡ s.segment → HasLive files s p.live → CrowdsPart c.dims files p doc → IsTwice files doc
+      → (p : LiveSegment) → p.head.id ≡ s.segment → HasLive files s p.live → CrowdsPart c.dims files p doc
+      → IsTwice files doc
 
 -- What a damage carries is that of the files. `twice` is what is shown of a number that is Doubled.
 abbrev pub IsTrueOf : (twice : ℕ → Type 0) → Files → Damage → Type 0
 IsTrueOf twice files (Page file number bytes) = IsPageOf files file number bytes.value.b
 IsTrueOf twice files (Leaf file number offset len bytes) = IsPageOf files file number bytes.value.b
 IsTrueOf twice files (Body file bytes) = ArePayloadsOf files file bytes
-IsTrueOf twice files (Missing file) = (files file ≡ None) × IsListed files file
+IsTrueOf twice files (Missing file) = (files file ≡ None) × IsOfListed files file
 IsTrueOf twice files (Size file size needed) = IsSizeOf (AsksPages file) files file size needed
 IsTrueOf twice files (Unequal file said found) = ArePair files file said found
 IsTrueOf twice files (Beyond doc next) = IsLiveBeyond files doc next
@@ -173,5 +174,5 @@ abbrev pub IsEvident : (told : Type 0) → Files → Damage → Type 0
 IsEvident told files = IsEvidentWith (IsTwice files) told files
 
 -- where a number is Doubled one of these segments shows it
-abbrev pub IsEvidentIn : ℕ → List Part → (told : Type 0) → Files → Damage → Type 0
+abbrev pub IsEvidentIn : ℕ → List LiveSegment → (told : Type 0) → Files → Damage → Type 0
 IsEvidentIn D parts told files = IsEvidentWith (IsCrowdedIn D files parts) told files

@@ -13,7 +13,7 @@ use Rattle.commit_list.specs.declared.listed.Listed.{Listed}
 use Rattle.commit_list.specs.Commits.{CommitData}
 use Rattle.segment_file.specs.Heads.{Head}
 use Rattle.stored_index.specs.Stored.{HasHead}
-use Rattle.segment_view.specs.Parts.{Part, lives_of}
+use Rattle.segment_view.specs.LiveSegments.{LiveSegment, lives_of}
 use Rattle.document_checks.specs.Placed.{IsLeastMisplaced}
 use Rattle.document_checks.specs.declared.told.Misplaced.TheVariants as misplaced
 use Rattle.index_opening.specs.Opened.{IsOpened}
@@ -51,12 +51,12 @@ pub record IsFirstListed (told : Type 0) (files : Files) (c : CommitData) (d : D
   pub place : ℕ
   pub segment : Listed
   pub there : slice_get c.listed place ≡ Some segment
-  pub parts : List Part
+  pub parts : List LiveSegment
   pub opened : AllZip (IsOpened told files c) (take place c.listed) parts
   pub here : IsFirstIn told files c segment d
 
 -- or, where all can, of the numbers
 pub data IsFirstOpened (told : Type 0) (files : Files) (c : CommitData) (d : Damage) : Type 0 where
   InSegment : IsFirstListed told files c d → IsFirstOpened told files c d
-  InNumbers : (parts : List Part) → AllZip (IsOpened told files c) c.listed parts
+  InNumbers : (parts : List LiveSegment) → AllZip (IsOpened told files c) c.listed parts
       → IsOfLeast c.next (lives_of parts) d → IsFirstOpened told files c d

@@ -16,7 +16,7 @@ ghost use Rattle.segment_file.specs.Damages.{IsPairDamage};
 ghost use Rattle.stored_index.specs.Segments.{SegmentData, places};
 ghost use Rattle.stored_index.specs.Opening.{listed_pages, segments_pages};
 ghost use Rattle.stored_index.specs.Stored.{HasHead, HasLive, HaveHeads, HaveLive, HoldAll, HoldsFiles};
-ghost use Rattle.segment_view.specs.Parts.{part_of};
+ghost use Rattle.segment_view.specs.LiveSegments.{live_segment};
 ghost use Rattle.index_opening.specs.Damages.{IsMisplaced, IsListedDamage, IsListedDamageOf};
 ghost use Rattle.index_opening.specs.First.{IsFirstIn, IsFirstListed, IsOfFile, IsOfLeast};
 ghost use Rattle.index_opening.specs.Opened.{IsOpened};
@@ -71,7 +71,7 @@ fn open_one<const D: usize, F: Folder>(
     s: Listed,
 ) -> Result<(SegmentHead<D>, LiveBits), PageFault>
     requires { c.now.dims ≡ D }
-    ensures opened { IfOk result (λ r. IsOpened (IsTrue F.told) (F.files folder.old) c.now s (part_of r.0 r.1)) }
+    ensures opened { IfOk result (λ r. IsOpened (IsTrue F.told) (F.files folder.old) c.now s (live_segment r.0 r.1)) }
     ensures files { IsTrue F.told → F.files folder.new ≡ F.files folder.old }
     ensures reads { IsTrue F.told → (head : Head) (live : LiveSet) → HasHead c.now.dims (F.files folder.old) s head
         → HasLive (F.files folder.old) s live

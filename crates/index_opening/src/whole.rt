@@ -11,8 +11,8 @@ ghost use Rattle.commit_list.specs.CommitFiles.{IsCommitFile};
 ghost use Rattle.segment_file.specs.Heads.{Head};
 ghost use Rattle.stored_index.specs.Opening.{segments_pages};
 ghost use Rattle.stored_index.specs.Stored.{HaveHeads, HaveLive, IsUndefined};
-ghost use Rattle.segment_view.specs.Parts.{lives_of};
-ghost use Rattle.document_checks.specs.Placed.{IsPlaced};
+ghost use Rattle.segment_view.specs.LiveSegments.{lives_of};
+ghost use Rattle.document_checks.specs.Placed.{IsPlacedOnce};
 ghost use Rattle.index_opening.specs.First.{IsFirstOpened};
 ghost use Rattle.index_opening.specs.Opened.{IsOpened};
 ghost use Rattle.index_opening.specs.Evidence.{IsEvident, IsFound};
@@ -34,7 +34,7 @@ pub fn open_index<const D: usize, F: Folder>(
     requires { c.now.dims ≡ D }
     ensures opened { IfOk result
         (λ parts. AllZip (IsOpened (IsTrue F.told) (F.files folder.old) c.now) c.now.listed parts) }
-    ensures placed { IfOk result (λ parts. (number : ℕ) → IsPlaced c.now.next (lives_of parts) number) }
+    ensures placed { IfOk result (λ parts. (number : ℕ) → IsPlacedOnce c.now.next (lives_of parts) number) }
     ensures files { IsTrue F.told → F.files folder.new ≡ F.files folder.old }
     ensures reads { IsTrue F.told → (heads : List Head) (sets : List LiveSet)
         → HaveHeads (F.files folder.old) c.now heads

@@ -11,9 +11,9 @@ use Rattle.point_codec.specs.Points.{Region}
 use Rattle.point_codec.specs.Keys.{key}
 use Rattle.point_codec.specs.Cells.{left_of, right_of}
 use Rattle.byte_cursor.specs.Vint.{vint, vint_groups}
-use Rattle.inner_pack.specs.Places.{Spot, Placed, placed, behind}
+use Rattle.inner_pack.specs.Places.{Spot, LeafSpan, leaf_spans, leaf_end}
 use Rattle.inner_pack.specs.Trees.{IndexTree, Leaf, Split, IsCell, IsInCell, HasCells, leaf_count, lengths_of}
-use Rattle.inner_pack.specs.Bodies.{cuts_table, places_table, place_bytes, cell_bytes, shared, node_bytes, first_length, right_begin}
+use Rattle.inner_pack.specs.Bodies.{cuts_table, places_table, place_bytes, cell_bytes, shared_front, node_bytes, first_length, right_begin}
 use Rattle.inner_pack.specs.Spelled.{spelled_part, told_part, IsNodeOf}
 use Rattle.inner_pack.specs.Heads.{SaysSplit}
 use Rattle.inner_pack.specs.declared.head.Head.{Head}
@@ -54,9 +54,9 @@ right_lengths l r h =
 -- ---- form 1
 
 abbrev pub tail_places : Spot → IndexTree → List ℕ
-tail_places s t = flat_map place_bytes (placed (behind s (first_length t)) (rest_lengths t))
+tail_places s t = flat_map place_bytes (leaf_spans (leaf_end s (first_length t)) (rest_lengths t))
 
-abbrev pub first_place : Spot → IndexTree → Placed
+abbrev pub first_place : Spot → IndexTree → LeafSpan
 first_place s t = record { at = s; length = first_length t }
 
 pub record TableNode (leaves : ℕ) (s : Spot) (d : ℕ) (x : ℤ) (l r : IndexTree) (bytes places : List ℕ) : Type 0 where
@@ -130,7 +130,7 @@ own_few form D own le cell = elim (cases_eq form 3) [
 fields_long : (references : List (List ℕ)) (d : ℕ) (x : ℤ) (pages offset : ℕ) (lb rb : List ℕ)
     → length (fields references d (key x) pages offset lb rb) ≤ 20 + (length lb + length rb)
 fields_long references d x pages offset lb rb =
-    let p = shared (key x) (slice_index_or references d []) in
+    let p = shared_front (key x) (slice_index_or references d []) in
     let v1 = vint_few pages in
     let v2 = vint_few offset in
     let v3 = vint_few (length lb) in
@@ -167,7 +167,7 @@ pub record PackedNode (form : ℕ) (references : List (List ℕ)) (s : Spot) (d 
   pub is : bytes
       ≡ fields references d (key x) ((right_begin s l r).page - s.page) (right_begin s l r).offset (node_bytes form (slice_set references d (key x)) s l)
       (node_bytes form (slice_set references d (key x)) (right_begin s l r) r)
-  pub few : shared (key x) (slice_index_or references d []) ≤ 4
+  pub few : shared_front (key x) (slice_index_or references d []) ≤ 4
   pub pages : (right_begin s l r).page - s.page < 2 ^ 32
   pub offset : (right_begin s l r).offset ≤ 4064
   pub left : length (node_bytes form (slice_set references d (key x)) s l) < 2 ^ 32
@@ -195,14 +195,14 @@ packed_node D form leaves s path references bytes places d x l r le packed few h
 pub joins_packed : (form : ℕ) (references : List (List ℕ)) (s : Spot) (l r : IndexTree) (h : Head) (bytes places back : List ℕ) (code : ℕ) → 2 ≤ form
     → SaysSplit form references s h.dimension h.at l r h
     → bytes ≡ code ∷ (drop (code % 5) h.key ++ (vint h.pages ++ (vint h.offset ++ (vint (length h.left.bytes.now) ++ (h.left.bytes.now ++ h.right.bytes.now)))))
-    → h.dimension ≡ code / 5 → shared h.key (slice_index_or references h.dimension []) ≡ code % 5 → places ≡ h.left.places.now
+    → h.dimension ≡ code / 5 → shared_front h.key (slice_index_or references h.dimension []) ≡ code % 5 → places ≡ h.left.places.now
     → (bytes ≡ spelled_part form references s (Split h.dimension h.at l r)) × (places ≡ told_part form s (Split h.dimension h.at l r))
 joins_packed form references s l r h bytes places back code packed says eb ed es ep =
     let lower = slice_set references h.dimension (key h.at) in
     let right = right_begin s l r in
     let lb : h.left.bytes.now ≡ node_bytes form lower s l = says.left_bytes ∙ spelled_packed form lower s l packed in
     let rb : h.right.bytes.now ≡ node_bytes form lower right r = says.right_bytes ∙ spelled_packed form lower right r packed in
-    let front : code ≡ 5 * h.dimension + shared h.key (slice_index_or references h.dimension []) = omega (arith, ed, es) in
+    let front : code ≡ 5 * h.dimension + shared_front h.key (slice_index_or references h.dimension []) = omega (arith, ed, es) in
     let kept : fields references h.dimension h.key h.pages h.offset h.left.bytes.now h.right.bytes.now ≡ bytes =
     (λ i. sym front i ∷ (drop (es i) h.key ++ (vint h.pages ++ (vint h.offset ++ (vint (length h.left.bytes.now) ++ (h.left.bytes.now ++ h.right.bytes.now))))))
     ∙ sym eb in (

@@ -4,11 +4,11 @@ use Rattle.std.proofs.lemmas.List.Elements.{All-append}
 use Rattle.point_codec.specs.Points.{Region}
 use Rattle.point_codec.specs.Keys.{key}
 use Rattle.point_codec.specs.Cells.{left_of, right_of}
-use Rattle.inner_pack.specs.Places.{Spot, fitted, behind, end_of}
+use Rattle.inner_pack.specs.Places.{Spot, leaf_begin, leaf_end, end_of}
 use Rattle.inner_pack.specs.Trees.{IndexTree, Leaf, Split, IsShaped, IsInCell, lengths_of}
 use Rattle.inner_pack.specs.Bodies.{first_length, right_begin}
 use Rattle.inner_pack.specs.Spelled.{IsNodeOf}
-use Rattle.inner_pack.specs.Heads.{SaysSplit, IsHead}
+use Rattle.inner_pack.specs.Heads.{SaysSplit, IsNodeHead}
 use Rattle.inner_pack.specs.declared.head.Head.{Head}
 use Rattle.inner_pack.proofs.PlaceLemmas.{AreLengths, right_fits, end_of_append, right_first}
 use Rattle.inner_pack.proofs.HeadLemmas.{left_lengths, right_lengths}
@@ -73,7 +73,7 @@ pub joined_node : (D form leaves : ℕ) (s : Spot) (path : Region) (references :
     → IsInCell D path h.dimension h.at
     → IsNodeOf D form (leaves - leaves / 2) s (left_of path h.dimension h.at) lower lb lp l
     → IsNodeOf D form (leaves / 2) (right_begin s l r) (right_of path h.dimension h.at) lower rb rp r
-    → IsHead D form references bytes places h → SaysSplit form references s h.dimension h.at l r h
+    → IsNodeHead D form references bytes places h → SaysSplit form references s h.dimension h.at l r h
     → IsNodeOf D form leaves s path references bytes places (Split h.dimension h.at l r)
 joined_node D form leaves s path references bytes places l r h lb lp rb rp lower two inside nl nr head says =
     let j = head.joins s l r nr.lengths says in
@@ -94,17 +94,18 @@ pub split_end : (e : Spot) (d : ℕ) (x : ℤ) (l r : IndexTree) → end_of e (l
 split_end e d x l r = end_of_append e (lengths_of l) (lengths_of r)
 
 -- where a leaf next behind e ends
-pub leaf_span : (e b f : Spot) (t : IndexTree) (n m : ℕ) (own : Region) → t ≡ Leaf m own → n ≡ m → b ≡ fitted e n → f ≡ behind b n
-    → (b ≡ fitted e (first_length t)) × (f ≡ end_of e (lengths_of t))
+pub leaf_span : (e b f : Spot) (t : IndexTree) (n m : ℕ) (own : Region) → t ≡ Leaf m own → n ≡ m → b ≡ leaf_begin e n → f ≡ leaf_end b n
+    → (b ≡ leaf_begin e (first_length t)) × (f ≡ end_of e (lengths_of t))
 leaf_span e b f t n m own is same begin end =
-    subst (λ (u : IndexTree). (b ≡ fitted e (first_length u)) × (f ≡ end_of e (lengths_of u))) (sym is)
-    (begin ∙ ap (fitted e) same, end ∙ (λ i. behind (begin i) n) ∙ ap (λ k. behind (fitted e k) k) same)
+    subst (λ (u : IndexTree). (b ≡ leaf_begin e (first_length u)) × (f ≡ end_of e (lengths_of u))) (sym is)
+    (begin ∙ ap (leaf_begin e) same, end ∙ (λ i. leaf_end (begin i) n) ∙ ap (λ k. leaf_end (leaf_begin e k) k) same)
 
 pub as_leaf : (D form : ℕ) (e : Spot) (path : Region) (references : List (List ℕ)) (bytes places : List ℕ) (t : IndexTree) (n : ℕ) (own : Region)
     → t ≡ Leaf n own
-    → IsNodeOf D form 1 (fitted e (first_length t)) path references bytes places t → IsNodeOf D form 1 (fitted e n) path references bytes places (Leaf n own)
+    → IsNodeOf D form 1 (leaf_begin e (first_length t)) path references bytes places t
+        → IsNodeOf D form 1 (leaf_begin e n) path references bytes places (Leaf n own)
 as_leaf D form e path references bytes places t n own is h =
-    subst (λ (u : IndexTree). IsNodeOf D form 1 (fitted e (first_length u)) path references bytes places u) is h
+    subst (λ (u : IndexTree). IsNodeOf D form 1 (leaf_begin e (first_length u)) path references bytes places u) is h
 
 -- the same node, its path cell, its references and its begin said otherwise
 pub said_otherwise : (D form leaves : ℕ) (s u : Spot) (path other : Region) (references moved : List (List ℕ)) (bytes places : List ℕ) (t : IndexTree) → u ≡ s
@@ -117,20 +118,20 @@ said_otherwise D form leaves s u path other references moved bytes places t es e
 
 pub as_split : (D form leaves : ℕ) (e : Spot) (path : Region) (references : List (List ℕ)) (bytes places : List ℕ) (t : IndexTree) (d : ℕ) (x : ℤ)
     (l r : IndexTree) → t ≡ Split d x l r
-    → IsNodeOf D form leaves (fitted e (first_length t)) path references bytes places t
-    → IsNodeOf D form leaves (fitted e (first_length l)) path references bytes places (Split d x l r)
+    → IsNodeOf D form leaves (leaf_begin e (first_length t)) path references bytes places t
+    → IsNodeOf D form leaves (leaf_begin e (first_length l)) path references bytes places (Split d x l r)
 as_split D form leaves e path references bytes places t d x l r is h =
-    subst (λ (u : IndexTree). IsNodeOf D form leaves (fitted e (first_length u)) path references bytes places u) is h
+    subst (λ (u : IndexTree). IsNodeOf D form leaves (leaf_begin e (first_length u)) path references bytes places u) is h
 
 -- where an inner node next behind e begins and ends, where its children are found one behind the other
-pub split_span : (e b m f : Spot) (t : IndexTree) (d : ℕ) (x : ℤ) (l r : IndexTree) → t ≡ Split d x l r → b ≡ fitted e (first_length l)
+pub split_span : (e b m f : Spot) (t : IndexTree) (d : ℕ) (x : ℤ) (l r : IndexTree) → t ≡ Split d x l r → b ≡ leaf_begin e (first_length l)
     → m ≡ end_of e (lengths_of l) → f ≡ end_of m (lengths_of r)
-    → (b ≡ fitted e (first_length t)) × (f ≡ end_of e (lengths_of t))
+    → (b ≡ leaf_begin e (first_length t)) × (f ≡ end_of e (lengths_of t))
 split_span e b m f t d x l r is begin middle end =
-    subst (λ (u : IndexTree). (b ≡ fitted e (first_length u)) × (f ≡ end_of e (lengths_of u))) (sym is)
+    subst (λ (u : IndexTree). (b ≡ leaf_begin e (first_length u)) × (f ≡ end_of e (lengths_of u))) (sym is)
     (begin, end ∙ ap (λ (v : Spot). end_of v (lengths_of r)) middle ∙ sym (split_end e d x l r))
 
 -- where the right child is found is where the tree has it
 pub right_found : (e m : Spot) (l r : IndexTree) → AreLengths (lengths_of l) → m ≡ end_of e (lengths_of l)
-    → fitted m (first_length r) ≡ right_begin (fitted e (first_length l)) l r
-right_found e m l r h middle = ap (λ (v : Spot). fitted v (first_length r)) middle ∙ sym (right_first e l r h)
+    → leaf_begin m (first_length r) ≡ right_begin (leaf_begin e (first_length l)) l r
+right_found e m l r h middle = ap (λ (v : Spot). leaf_begin v (first_length r)) middle ∙ sym (right_first e l r h)

@@ -8,17 +8,17 @@ use Rattle.byte_cursor.specs.Vint.{vint, AppendsVint}
 use Rattle.byte_cursor.proofs.SpelledVints.{length-vint, appended}
 use Rattle.point_codec.specs.Points.{Region}
 use Rattle.point_codec.specs.Keys.{key}
-use Rattle.inner_pack.specs.Bodies.{shared, head_bytes, leaf_bytes, cell_bytes}
-use Rattle.inner_pack.specs.Packs.{AppendsTurned}
+use Rattle.inner_pack.specs.Bodies.{shared_front, head_bytes, leaf_bytes, cell_bytes}
+use Rattle.inner_pack.specs.Packs.{AppendsReversed}
 
 pub turned : (old mid new bytes : List ℕ) (from : ℕ) → from ≡ length old → mid ≡ old ++ bytes → new ≡ take from mid ++ reverse (drop from mid)
-    → AppendsTurned old new bytes
+    → AppendsReversed old new bytes
 turned old mid new bytes from here e t =
     t
     ∙ (λ i. take (here i) (e i) ++ reverse (drop (here i) (e i)))
     ∙ (λ i. take-append_seam old bytes i ++ reverse (drop-append_seam old bytes i))
 
-pub length-turned : (old new bytes : List ℕ) → AppendsTurned old new bytes → length new ≡ length old + length bytes
+pub length-turned : (old new bytes : List ℕ) → AppendsReversed old new bytes → length new ≡ length old + length bytes
 length-turned old new bytes h = ap length h ∙ length-append old (reverse bytes) ∙ ap (λ (n : ℕ). length old + n) (length-reverse bytes)
 
 pub leaf_joined : (old a b : List ℕ) (size : ℕ) (own : Region) → a ≡ old ++ vint size → b ≡ a ++ cell_bytes own → b ≡ old ++ leaf_bytes 3 size own
@@ -33,12 +33,12 @@ joined : (old : List ℕ) (code : ℕ) (k p o l : List ℕ) → ((((old ++ code 
 joined old code k p o l = simp append_assoc
 
 pub head_joined : (references : List (List ℕ)) (d : ℕ) (x : ℤ) (pages offset left : ℕ) (old a b c e f : List ℕ)
-    → a ≡ old ++ (5 * d + shared (key x) (get_or references d [])) ∷ []
-    → b ≡ a ++ drop (shared (key x) (get_or references d [])) (key x) → c ≡ b ++ vint pages → e ≡ c ++ vint offset → f ≡ e ++ vint left
+    → a ≡ old ++ (5 * d + shared_front (key x) (get_or references d [])) ∷ []
+    → b ≡ a ++ drop (shared_front (key x) (get_or references d [])) (key x) → c ≡ b ++ vint pages → e ≡ c ++ vint offset → f ≡ e ++ vint left
     → f ≡ old ++ head_bytes references d x pages offset left
 unfolding head_bytes
 head_joined references d x pages offset left old a b c e f p q r s t =
-    let k = shared (key x) (get_or references d []) in
+    let k = shared_front (key x) (get_or references d []) in
     let rest = drop k (key x) in
     t ∙ (λ i. s i ++ vint left) ∙ (λ i. (r i ++ vint offset) ++ vint left) ∙ (λ i. ((q i ++ vint pages) ++ vint offset) ++ vint left)
     ∙ (λ i. (((p i ++ rest) ++ vint pages) ++ vint offset) ++ vint left)
@@ -48,7 +48,7 @@ pub length-head : (references : List (List ℕ)) (d : ℕ) (x : ℤ) (pages offs
     → length (head_bytes references d x pages offset left) ≤ 20
 unfolding head_bytes
 length-head references d x pages offset left four p o l =
-    let k = shared (key x) (get_or references d []) in
+    let k = shared_front (key x) (get_or references d []) in
     let rest = drop k (key x) in
     omega (
       arith,
@@ -62,8 +62,8 @@ length-head references d x pages offset left four p o l =
     )
 
 -- what both keys share, where one of them is this coordinate's
-pub shared_key : (n : ℕ) (k reference : List ℕ) (x : ℤ) → n ≡ shared k reference → k ≡ key x → n ≡ shared (key x) reference
-shared_key n k reference x e is = e ∙ ap (λ (a : List ℕ). shared a reference) is
+pub shared_key : (n : ℕ) (k reference : List ℕ) (x : ℤ) → n ≡ shared_front k reference → k ≡ key x → n ≡ shared_front (key x) reference
+shared_key n k reference x e is = e ∙ ap (λ (a : List ℕ). shared_front a reference) is
 
 pub grown : (old new bytes : List ℕ) → new ≡ old ++ bytes → length new ≡ length old + length bytes
 grown old new bytes e = ap length e ∙ length-append old bytes

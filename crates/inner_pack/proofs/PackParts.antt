@@ -12,16 +12,17 @@ use Rattle.point_codec.specs.declared.boxes.Cell.{Cell}
 use Rattle.inner_pack.specs.declared.place.LeafPlace.{LeafPlace}
 use Rattle.inner_pack.specs.declared.pack.Subtree.{Subtree}
 use Rattle.inner_pack.specs.PackedParts.{AreChildParts}
-use Rattle.inner_pack.specs.Places.{Spot, fitted, behind, Placed, placed, end_of}
+use Rattle.inner_pack.specs.Places.{Spot, leaf_begin, leaf_end, LeafSpan, leaf_spans, end_of}
 use Rattle.inner_pack.specs.Trees.{IndexTree, Leaf, Split, Cut, IsShaped, leaf_count, cuts_of, lengths_of, own_cells}
 use Rattle.inner_pack.specs.Bodies.{first_length, right_begin, head_bytes, leaf_bytes, node_bytes}
-use Rattle.inner_pack.specs.Packs.{placed_of, AppendsTurned, IsPart}
+use Rattle.inner_pack.specs.Packs.{AppendsReversed, IsSubtree}
 use Rattle.inner_pack.proofs.PlaceLemmas.{placed_append, placed_first, fitted_again, first_fits, lengths_first, count_shaped, length-lengths_of}
 use Rattle.inner_pack.proofs.PackBytes.{length-turned}
+use Rattle.inner_pack.specs.Heads.{placed_of}
 
-pub length-placed : (e : Spot) (xs : List ℕ) → length (placed e xs) ≡ length xs
+pub length-placed : (e : Spot) (xs : List ℕ) → length (leaf_spans e xs) ≡ length xs
 length-placed e [] = refl
-length-placed e (x ∷ xs) = ap suc (length-placed (behind (fitted e x) x) xs)
+length-placed e (x ∷ xs) = ap suc (length-placed (leaf_end (leaf_begin e x) x) xs)
 
 pub length-own_cells : (t : IndexTree) → length (own_cells t) ≡ leaf_count t
 length-own_cells (Leaf m own) = refl
@@ -61,8 +62,8 @@ All-right xs ys all =
 -- ---- the children
 
 pub left_part : (D k : ℕ) (s : Spot) (nodes : List (ℕ × ℤ)) (places : List LeafPlace) (cells : List (Cell D)) (d : ℕ) (x : ℤ) (l r : IndexTree)
-    → k ≡ length places - length places / 2 → IsPart D s nodes places cells (Split d x l r)
-    → IsPart D s (take (k - 1) (drop 1 nodes)) (take k places) (take k cells) l
+    → k ≡ length places - length places / 2 → IsSubtree D s nodes places cells (Split d x l r)
+    → IsSubtree D s (take (k - 1) (drop 1 nodes)) (take k places) (take k cells) l
 left_part D k s nodes places cells d x l r half p =
     let n = length places in
     let count : leaf_count l ≡ k = count_shaped (n - n / 2) l p.shaped.1 ∙ sym half in
@@ -76,15 +77,15 @@ left_part D k s nodes places cells d x l r half p =
       nodes_are = taken (k - 1) (drop 1 nodes) (map split_of (cuts_of l)) (map split_of (cuts_of r))
           (ap (drop 1) p.nodes_are ∙ map-append split_of (cuts_of l) (cuts_of r))
           (omega (arith, length-map (cuts_of l) split_of, length-cuts_of l));
-      places_are = seen_taken placed_of k places (placed s (lengths_of l)) (placed (end_of s (lengths_of l)) (lengths_of r))
+      places_are = seen_taken placed_of k places (leaf_spans s (lengths_of l)) (leaf_spans (end_of s (lengths_of l)) (lengths_of r))
           (p.places_are ∙ placed_append s (lengths_of l) (lengths_of r))
           (omega (arith, length-placed s (lengths_of l), length-lengths_of l));
       cells_are = seen_taken region_of k cells (own_cells l) (own_cells r) p.cells_are (omega (arith, length-own_cells l));
     }
 
 pub right_part : (D k : ℕ) (s : Spot) (nodes : List (ℕ × ℤ)) (places : List LeafPlace) (cells : List (Cell D)) (d : ℕ) (x : ℤ) (l r : IndexTree)
-    → k ≡ length places - length places / 2 → IsPart D s nodes places cells (Split d x l r)
-    → IsPart D (right_begin s l r) (drop k nodes) (drop k places) (drop k cells) r
+    → k ≡ length places - length places / 2 → IsSubtree D s nodes places cells (Split d x l r)
+    → IsSubtree D (right_begin s l r) (drop k nodes) (drop k places) (drop k cells) r
 unfolding right_begin
 right_part D k s nodes places cells d x l r half p =
     let n = length places in
@@ -102,45 +103,46 @@ right_part D k s nodes places cells d x l r half p =
           (p.nodes_are ∙ ap (λ (cs : List (ℕ × ℤ)). (d, x) ∷ cs) (map-append split_of (cuts_of l) (cuts_of r)))
           (omega (arith, length-map (cuts_of l) split_of, length-cuts_of l));
       places_are =
-          seen_dropped placed_of k places (placed s (lengths_of l)) (placed e (lengths_of r)) (p.places_are ∙ placed_append s (lengths_of l) (lengths_of r))
+          seen_dropped placed_of k places (leaf_spans s (lengths_of l)) (leaf_spans e (lengths_of r))
+              (p.places_are ∙ placed_append s (lengths_of l) (lengths_of r))
           (omega (arith, length-placed s (lengths_of l), length-lengths_of l)) ∙ sym (placed_first e r all);
       cells_are = seen_dropped region_of k cells (own_cells l) (own_cells r) p.cells_are (omega (arith, length-own_cells l));
     }
 
 -- the first place tells where the subtree begins
 pub first_place : (D : ℕ) (s : Spot) (nodes : List (ℕ × ℤ)) (places : List LeafPlace) (cells : List (Cell D)) (t : IndexTree) (p d : LeafPlace)
-    → 0 < length places → p ≡ get_or places 0 d → IsPart D s nodes places cells t → placed_of p ≡ record { at = s; length = first_length t }
+    → 0 < length places → p ≡ get_or places 0 d → IsSubtree D s nodes places cells t → placed_of p ≡ record { at = s; length = first_length t }
 first_place D s nodes places cells t p d some is part =
     let seen : placed_of p ≡ get_or (map placed_of places) 0 (placed_of p) = ap placed_of is ∙ sym (get_or-map placed_of places 0 d (placed_of p) some) in
-    let first : get_or (placed s (lengths_of t)) 0 (placed_of p) ≡ record { at = fitted s (first_length t); length = first_length t } =
-    ap (λ (ns : List ℕ). get_or (placed s ns) 0 (placed_of p)) (lengths_first t) in
-    let begin : Placed = record { at = s; length = first_length t } in
-    let here : record { at = fitted s (first_length t); length = first_length t } ≡ begin =
+    let first : get_or (leaf_spans s (lengths_of t)) 0 (placed_of p) ≡ record { at = leaf_begin s (first_length t); length = first_length t } =
+    ap (λ (ns : List ℕ). get_or (leaf_spans s ns) 0 (placed_of p)) (lengths_first t) in
+    let begin : LeafSpan = record { at = s; length = first_length t } in
+    let here : record { at = leaf_begin s (first_length t); length = first_length t } ≡ begin =
     ap (λ (e : Spot). record { at = e; length = first_length t }) part.begins in
-    seen ∙ ap (λ (ps : List Placed). get_or ps 0 (placed_of p)) part.places_are ∙ first ∙ here
+    seen ∙ ap (λ (ps : List LeafSpan). get_or ps 0 (placed_of p)) part.places_are ∙ first ∙ here
 
 -- ---- the children as the code has them
 
 pub left_is : {D : ℕ} (s : Spot) (whole left right : Subtree D) (d : ℕ) (x : ℤ) (l r : IndexTree) → AreChildParts whole left right
-    → IsPart D s whole.nodes.now whole.places.now whole.cells.now (Split d x l r) → IsPart D s left.nodes.now left.places.now left.cells.now l
+    → IsSubtree D s whole.nodes.now whole.places.now whole.cells.now (Split d x l r) → IsSubtree D s left.nodes.now left.places.now left.cells.now l
 left_is {D} s whole left right d x l r h part =
     let k = length left.places.now in
-    let is : IsPart D s (take (k - 1) (drop 1 whole.nodes.now)) (take k whole.places.now) (take k whole.cells.now) l =
+    let is : IsSubtree D s (take (k - 1) (drop 1 whole.nodes.now)) (take k whole.places.now) (take k whole.cells.now) l =
     left_part D k s whole.nodes.now whole.places.now whole.cells.now d x l r h.half part in
-    subst (λ (ns : List (ℕ × ℤ)). IsPart D s ns left.places.now left.cells.now l) (sym h.left_nodes)
-    (subst (λ (ps : List LeafPlace). IsPart D s (take (k - 1) (drop 1 whole.nodes.now)) ps left.cells.now l) (sym h.left_places)
-    (subst (λ (cs : List (Cell D)). IsPart D s (take (k - 1) (drop 1 whole.nodes.now)) (take k whole.places.now) cs l) (sym h.left_cells) is))
+    subst (λ (ns : List (ℕ × ℤ)). IsSubtree D s ns left.places.now left.cells.now l) (sym h.left_nodes)
+    (subst (λ (ps : List LeafPlace). IsSubtree D s (take (k - 1) (drop 1 whole.nodes.now)) ps left.cells.now l) (sym h.left_places)
+    (subst (λ (cs : List (Cell D)). IsSubtree D s (take (k - 1) (drop 1 whole.nodes.now)) (take k whole.places.now) cs l) (sym h.left_cells) is))
 
 pub right_is : {D : ℕ} (s : Spot) (whole left right : Subtree D) (d : ℕ) (x : ℤ) (l r : IndexTree) → AreChildParts whole left right
-    → IsPart D s whole.nodes.now whole.places.now whole.cells.now (Split d x l r)
-    → IsPart D (right_begin s l r) right.nodes.now right.places.now right.cells.now r
+    → IsSubtree D s whole.nodes.now whole.places.now whole.cells.now (Split d x l r)
+    → IsSubtree D (right_begin s l r) right.nodes.now right.places.now right.cells.now r
 right_is {D} s whole left right d x l r h part =
     let k = length left.places.now in
-    let is : IsPart D (right_begin s l r) (drop k whole.nodes.now) (drop k whole.places.now) (drop k whole.cells.now) r =
+    let is : IsSubtree D (right_begin s l r) (drop k whole.nodes.now) (drop k whole.places.now) (drop k whole.cells.now) r =
     right_part D k s whole.nodes.now whole.places.now whole.cells.now d x l r h.half part in
-    subst (λ (ns : List (ℕ × ℤ)). IsPart D (right_begin s l r) ns right.places.now right.cells.now r) (sym h.right_nodes)
-    (subst (λ (ps : List LeafPlace). IsPart D (right_begin s l r) (drop k whole.nodes.now) ps right.cells.now r) (sym h.right_places)
-    (subst (λ (cs : List (Cell D)). IsPart D (right_begin s l r) (drop k whole.nodes.now) (drop k whole.places.now) cs r) (sym h.right_cells) is))
+    subst (λ (ns : List (ℕ × ℤ)). IsSubtree D (right_begin s l r) ns right.places.now right.cells.now r) (sym h.right_nodes)
+    (subst (λ (ps : List LeafPlace). IsSubtree D (right_begin s l r) (drop k whole.nodes.now) ps right.cells.now r) (sym h.right_places)
+    (subst (λ (cs : List (Cell D)). IsSubtree D (right_begin s l r) (drop k whole.nodes.now) (drop k whole.places.now) cs r) (sym h.right_cells) is))
 
 -- ---- what is written
 
@@ -148,10 +150,10 @@ right_is {D} s whole left right d x l r h part =
 pub leaf_written : (D : ℕ) (s : Spot) (nodes : List (ℕ × ℤ)) (places : List LeafPlace) (cells : List (Cell D)) (references : List (List ℕ))
     (p other : LeafPlace) (own any : Cell D)
     (a b : List ℕ) (t : IndexTree) → length places < 2 → p ≡ get_or places 0 other → own ≡ get_or cells 0 any
-    → AppendsTurned a b (leaf_bytes 3 p.length (region_of own)) → IsPart D s nodes places cells t → AppendsTurned a b (node_bytes 3 references s t)
+    → AppendsReversed a b (leaf_bytes 3 p.length (region_of own)) → IsSubtree D s nodes places cells t → AppendsReversed a b (node_bytes 3 references s t)
 leaf_written D s nodes places cells references p other own any a b (Leaf m cell) one is own_is written part =
     let count : length places ≡ 1 = part.shaped in
-    let long : p.length ≡ m = ap (λ (z : Placed). z.length) (first_place D s nodes places cells (Leaf m cell) p other (omega arith) is part) in
+    let long : p.length ≡ m = ap (λ (z : LeafSpan). z.length) (first_place D s nodes places cells (Leaf m cell) p other (omega arith) is part) in
     let some : 0 < length cells = omega (arith, ap length part.cells_are, length-map cells (region_of {D = D})) in
     let seen : region_of own ≡ cell =
     ap region_of own_is ∙ sym (get_or-map region_of cells 0 any (region_of own) some) ∙ ap (λ (cs : List Region). get_or cs 0 (region_of own)) part.cells_are in
@@ -161,8 +163,8 @@ leaf_written D s nodes places cells references p other own any a b (Split d x l 
     absurd (omega arith)
 
 -- a node behind its children
-node_joined : (a b c e right left head : List ℕ) → AppendsTurned a b right → AppendsTurned b c left → AppendsTurned c e head
-    → AppendsTurned a e ((head ++ left) ++ right)
+node_joined : (a b c e right left head : List ℕ) → AppendsReversed a b right → AppendsReversed b c left → AppendsReversed c e head
+    → AppendsReversed a e ((head ++ left) ++ right)
 node_joined a b c e right left head p q r =
     let turned : reverse ((head ++ left) ++ right) ≡ reverse right ++ (reverse left ++ reverse head) =
     reverse-append (head ++ left) right ∙ ap (λ (t : List ℕ). reverse right ++ t) (reverse-append head left) in
@@ -174,10 +176,10 @@ pub node_written : {D : ℕ} (s : Spot) (whole left right : Subtree D) (p q othe
     (references below : List (List ℕ)) (a b c e : List ℕ)
     (t : IndexTree) → 2 ≤ length whole.places.now → AreChildParts whole left right → p ≡ get_or whole.places.now 0 other → q ≡ get_or right.places.now 0 other
     → v ≡ get_or whole.nodes.now 0 (0, pos 0) → y ≡ v.1 → pages ≡ q.page - p.page → size ≡ length c - length b → below ≡ set references v.0 (key v.1)
-    → ((s : Spot) (t : IndexTree) → IsPart D s right.nodes.now right.places.now right.cells.now t → AppendsTurned a b (node_bytes 3 below s t))
-    → ((s : Spot) (t : IndexTree) → IsPart D s left.nodes.now left.places.now left.cells.now t → AppendsTurned b c (node_bytes 3 below s t))
-    → AppendsTurned c e (head_bytes references v.0 y pages q.offset size)
-    → IsPart D s whole.nodes.now whole.places.now whole.cells.now t → AppendsTurned a e (node_bytes 3 references s t)
+    → ((s : Spot) (t : IndexTree) → IsSubtree D s right.nodes.now right.places.now right.cells.now t → AppendsReversed a b (node_bytes 3 below s t))
+    → ((s : Spot) (t : IndexTree) → IsSubtree D s left.nodes.now left.places.now left.cells.now t → AppendsReversed b c (node_bytes 3 below s t))
+    → AppendsReversed c e (head_bytes references v.0 y pages q.offset size)
+    → IsSubtree D s whole.nodes.now whole.places.now whole.cells.now t → AppendsReversed a e (node_bytes 3 references s t)
 node_written {D} s whole left right p q other v y pages size references below a b c e (Leaf m own) two h p_is q_is v_is y_is pages_is size_is below_is
     right_done left_done head_done part =
     let one : length whole.places.now ≡ 1 = part.shaped in absurd (omega arith)
@@ -194,13 +196,13 @@ node_written {D} s whole left right p q other v y pages size references below a 
     let inner_is : below ≡ set references d (key x) = below_is ∙ (λ i. set references (dim i) (key (value i))) in
     let right_bytes : List ℕ = node_bytes 3 (set references d (key x)) (right_begin s l r) r in
     let left_bytes : List ℕ = node_bytes 3 (set references d (key x)) s l in
-    let right_written : AppendsTurned a b right_bytes = subst (λ (w : List (List ℕ)). AppendsTurned a b (node_bytes 3 w (right_begin s l r) r)) inner_is
+    let right_written : AppendsReversed a b right_bytes = subst (λ (w : List (List ℕ)). AppendsReversed a b (node_bytes 3 w (right_begin s l r) r)) inner_is
     (right_done (right_begin s l r) r right_part_is) in
-    let left_written : AppendsTurned b c left_bytes =
-    subst (λ (w : List (List ℕ)). AppendsTurned b c (node_bytes 3 w s l)) inner_is (left_done s l left_part_is) in
+    let left_written : AppendsReversed b c left_bytes =
+    subst (λ (w : List (List ℕ)). AppendsReversed b c (node_bytes 3 w s l)) inner_is (left_done s l left_part_is) in
     let long : size ≡ length left_bytes = omega (arith, size_is, length-turned b c left_bytes left_written) in
     let further : pages ≡ (right_begin s l r).page - s.page = pages_is ∙ (λ i. (middle i).at.page - (begin i).at.page) in
-    let head : AppendsTurned c e (head_bytes references d x ((right_begin s l r).page - s.page) (right_begin s l r).offset (length left_bytes)) =
+    let head : AppendsReversed c e (head_bytes references d x ((right_begin s l r).page - s.page) (right_begin s l r).offset (length left_bytes)) =
     head_done ∙ (λ i. c ++ reverse (head_bytes references (dim i) ((y_is ∙ value) i) (further i) (middle i).at.offset (long i))) in
     node_joined a b c e right_bytes left_bytes (head_bytes references d x ((right_begin s l r).page - s.page) (right_begin s l r).offset (length left_bytes))
     right_written left_written head

@@ -8,14 +8,15 @@ use Rattle.point_codec.specs.Keys.{key}
 use Rattle.point_codec.specs.Cells.{left_of, right_of}
 use Rattle.point_codec.specs.declared.boxes.Cell.{Cell}
 use Rattle.inner_pack.specs.declared.place.LeafPlace.{LeafPlace}
-use Rattle.inner_pack.specs.Places.{Spot, front, fitted, behind, Placed, placed, end_of}
+use Rattle.inner_pack.specs.Places.{Spot, front, leaf_begin, leaf_end, LeafSpan, leaf_spans, end_of}
 use Rattle.inner_pack.specs.Trees.{IndexTree, Leaf, Split, Cut, HasCells, IsShaped, leaf_count, cuts_of}
 use Rattle.inner_pack.specs.Bodies.{first_length, node_bytes, cell_bytes, body_bytes, SpellsIndex, IsIndex}
 use Rattle.inner_pack.specs.Parts.{ArePartsOf, AreParts}
-use Rattle.inner_pack.specs.Packs.{placed_of, AppendsTurned, IsPart}
+use Rattle.inner_pack.specs.Packs.{AppendsReversed, IsSubtree}
 use Rattle.inner_pack.proofs.PlaceLemmas.{fitted_here, first_fits, length-lengths_of}
 use Rattle.inner_pack.proofs.PackBytes.{turned}
 use Rattle.inner_pack.proofs.PackParts.{length-placed, length-own_cells, length-cuts_of}
+use Rattle.inner_pack.specs.Heads.{placed_of}
 
 -- each split's dimension is one of the cell's
 dimensions_in : (D : ℕ) (path : Region) (t : IndexTree) → HasCells D path t → All (λ (v : ℕ × ℤ). v.0 < D) (map (λ (c : Cut). (c.dimension, c.at)) (cuts_of t))
@@ -37,21 +38,22 @@ pub lengths_small : (D : ℕ) (root : Region) (nodes : List (ℕ × ℤ)) (lengt
     → All (λ (n : ℕ). (1 ≤ n) × (n ≤ 4064)) lengths
 lengths_small D root nodes lengths cells h = subst (All (λ (n : ℕ). (1 ≤ n) × (n ≤ 4064))) (sym h.are.lengths_are) h.are.tree.lengths
 
-placed_lengths : (e : Spot) (xs : List ℕ) → map (λ (z : Placed). z.length) (placed e xs) ≡ xs
+placed_lengths : (e : Spot) (xs : List ℕ) → map (λ (z : LeafSpan). z.length) (leaf_spans e xs) ≡ xs
 placed_lengths e [] = refl
-placed_lengths e (x ∷ xs) = ap (λ (t : List ℕ). x ∷ t) (placed_lengths (behind (fitted e x) x) xs)
+placed_lengths e (x ∷ xs) = ap (λ (t : List ℕ). x ∷ t) (placed_lengths (leaf_end (leaf_begin e x) x) xs)
 
 -- the lengths that the places tell
-pub places_small : (places : List LeafPlace) (lengths : List ℕ) → map placed_of places ≡ placed front lengths → All (λ (n : ℕ). (1 ≤ n) × (n ≤ 4064)) lengths
+pub places_small : (places : List LeafPlace) (lengths : List ℕ) → map placed_of places ≡ leaf_spans front lengths
+    → All (λ (n : ℕ). (1 ≤ n) × (n ≤ 4064)) lengths
     → All (λ (p : LeafPlace). p.length ≤ 4064) places
 places_small places lengths are all k d lt =
     let n = length-map places placed_of in
     let m = length-placed front lengths in
     let same : length places ≡ length lengths = sym n ∙ ap length are ∙ m in
     let told : (get_or places k d).length ≡ get_or lengths k d.length =
-    ap (λ (z : Placed). z.length) (sym (get_or-map placed_of places k d (placed_of d) lt))
-    ∙ ap (λ (zs : List Placed). (get_or zs k (placed_of d)).length) are
-    ∙ sym (get_or-map (λ (z : Placed). z.length) (placed front lengths) k (placed_of d) d.length (omega arith))
+    ap (λ (z : LeafSpan). z.length) (sym (get_or-map placed_of places k d (placed_of d) lt))
+    ∙ ap (λ (zs : List LeafSpan). (get_or zs k (placed_of d)).length) are
+    ∙ sym (get_or-map (λ (z : LeafSpan). z.length) (leaf_spans front lengths) k (placed_of d) d.length (omega arith))
     ∙ ap (λ (ns : List ℕ). get_or ns k d.length) (placed_lengths front lengths) in
     let here : (1 ≤ get_or lengths k d.length) × (get_or lengths k d.length ≤ 4064) = all k d.length (omega arith) in
     omega arith
@@ -65,7 +67,7 @@ pub record Counts {D : ℕ} (nodes : List (ℕ × ℤ)) (lengths : List ℕ) (pl
 
 pub counted : (D : ℕ) (root : Region) (nodes : List (ℕ × ℤ)) (lengths : List ℕ) (cells : List (Cell D)) (places : List LeafPlace)
     → AreParts D root nodes lengths cells
-    → map placed_of places ≡ placed front lengths → Counts nodes lengths places cells
+    → map placed_of places ≡ leaf_spans front lengths → Counts nodes lengths places cells
 counted D root nodes lengths cells places h are =
     let t = h.tree in
     let same : length places ≡ length lengths = sym (length-map places placed_of) ∙ ap length are ∙ length-placed front lengths in
@@ -79,7 +81,7 @@ counted D root nodes lengths cells places h are =
 -- the parts of the whole are those of a subtree that begins at the front
 pub whole_part : (D : ℕ) (root : Region) (nodes : List (ℕ × ℤ)) (lengths : List ℕ) (cells : List (Cell D)) (places : List LeafPlace) (t : IndexTree)
     → ArePartsOf D root nodes lengths cells t
-    → map placed_of places ≡ placed front lengths → IsPart D front nodes places cells t
+    → map placed_of places ≡ leaf_spans front lengths → IsSubtree D front nodes places cells t
 whole_part D root nodes lengths cells places t h are =
     let same : length lengths ≡ length places = sym (sym (length-map places placed_of) ∙ ap length are ∙ length-placed front lengths) in
     let fits : first_length t ≤ 4064 = (first_fits t h.tree.lengths).1 in
@@ -90,18 +92,18 @@ whole_part D root nodes lengths cells places t h are =
       lengths = h.tree.lengths;
       begins = fitted_here front (first_length t) (omega arith);
       nodes_are = h.nodes_are;
-      places_are = are ∙ ap (placed front) h.lengths_are;
+      places_are = are ∙ ap (leaf_spans front) h.lengths_are;
       cells_are = h.cells_are;
     }
 
 -- the body, from the nodes that are turned
-pub body_turned : (root : Region) (t : IndexTree) (a b c d e : List ℕ) (from : ℕ) → a ≡ [] → AppendsTurned a b (node_bytes 3 (map key root.lo) front t)
+pub body_turned : (root : Region) (t : IndexTree) (a b c d e : List ℕ) (from : ℕ) → a ≡ [] → AppendsReversed a b (node_bytes 3 (map key root.lo) front t)
     → from ≡ length b
     → c ≡ b ++ cell_bytes root → d ≡ take from c ++ reverse (drop from c) → e ≡ take 0 d ++ reverse (drop 0 d) → e ≡ body_bytes 3 root t
 unfolding body_bytes
 body_turned root t a b c d e from none nodes here cell first last =
     let node = node_bytes 3 (map key root.lo) front t in
-    let back : AppendsTurned b d (cell_bytes root) = turned b c d (cell_bytes root) from here cell first in
+    let back : AppendsReversed b d (cell_bytes root) = turned b c d (cell_bytes root) from here cell first in
     last
     ∙ ap reverse back
     ∙ reverse-append b (reverse (cell_bytes root))

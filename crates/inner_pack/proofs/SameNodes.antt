@@ -10,9 +10,9 @@ use Rattle.byte_cursor.proofs.Numbers.{spelling_unique}
 use Rattle.point_codec.specs.Points.{Region}
 use Rattle.point_codec.specs.Keys.{key}
 use Rattle.point_codec.specs.Cells.{left_of, right_of}
-use Rattle.inner_pack.specs.Places.{Spot, fitted}
+use Rattle.inner_pack.specs.Places.{Spot, leaf_begin}
 use Rattle.inner_pack.specs.Trees.{IndexTree, Leaf, Split, IsCell, IsInCell}
-use Rattle.inner_pack.specs.Bodies.{cuts_table, places_table, place_bytes, node_bytes, cell_bytes, shared, right_begin}
+use Rattle.inner_pack.specs.Bodies.{cuts_table, places_table, place_bytes, node_bytes, cell_bytes, shared_front, right_begin}
 use Rattle.inner_pack.specs.Spelled.{spelled_part, told_part, IsNodeOf}
 use Rattle.inner_pack.proofs.PlaceLemmas.{first_fits, right_fits}
 use Rattle.inner_pack.proofs.CellLemmas.{split_same, key_front, key_one, cell_one, Fit}
@@ -67,7 +67,7 @@ one_leaf D form leaves s u path references bytes places m n own other h k = elim
       let bn = first_fits (Leaf n other) k.lengths in
       let told =
       sym (h.told ∙ told_one form s (Leaf m own) one ∙ leaf_in_table s m own) ∙ (k.told ∙ told_one form u (Leaf n other) one ∙ leaf_in_table u n other) in
-      let size : m ≡ n = table_sizes (fitted s m) (fitted u n) m n (omega (arith, bm.1)) (omega (arith, bn.1)) told in
+      let size : m ≡ n = table_sizes (leaf_begin s m) (leaf_begin u n) m n (omega (arith, bm.1)) (omega (arith, bn.1)) told in
       let cell : own ≡ other = h.path_cells (omega (arith, one)) ∙ sym (k.path_cells (omega (arith, one))) in
       (λ i. Leaf (size i) (cell i))
   | inr ne ↦
@@ -113,18 +113,19 @@ table_parts leaves s u bytes places d e x y l l2 r r2 fx fy a b =
     record { dimension = head; value = rest.0; left_bytes = cuts.0; left_places = told.0; right_bytes = cuts.1; right_places = told.1 }
 
 -- a key is known by what it shares with a reference, and its rest
-same_key : (j k reference : List ℕ) → shared j reference ≡ shared k reference → drop (shared j reference) j ≡ drop (shared k reference) k → j ≡ k
-same_key j k reference sh back = key_again k reference (drop (shared j reference) j) j (shared k reference) refl back
-    (sym (take-append-drop (shared j reference) j) ∙ (λ i. shared_take j reference i ++ drop (shared j reference) j)
-    ∙ ap (λ n. take n reference ++ drop (shared j reference) j) sh)
+same_key : (j k reference : List ℕ) → shared_front j reference ≡ shared_front k reference
+    → drop (shared_front j reference) j ≡ drop (shared_front k reference) k → j ≡ k
+same_key j k reference sh back = key_again k reference (drop (shared_front j reference) j) j (shared_front k reference) refl back
+    (sym (take-append-drop (shared_front j reference) j) ∙ (λ i. shared_take j reference i ++ drop (shared_front j reference) j)
+    ∙ ap (λ n. take n reference ++ drop (shared_front j reference) j) sh)
 
 fields_parts : (references : List (List ℕ)) (d e : ℕ) (x y : ℤ) (p1 p2 o1 o2 : ℕ) (lb lb2 rb rb2 : List ℕ) → FitsSigned w32 x → FitsSigned w32 y
-    → shared (key x) (slice_index_or references d []) ≤ 4 → shared (key y) (slice_index_or references e []) ≤ 4
+    → shared_front (key x) (slice_index_or references d []) ≤ 4 → shared_front (key y) (slice_index_or references e []) ≤ 4
     → p1 < 2 ^ 32 → p2 < 2 ^ 32 → o1 ≤ 4064 → o2 ≤ 4064 → length lb < 2 ^ 32 → length lb2 < 2 ^ 32
     → fields references d (key x) p1 o1 lb rb ≡ fields references e (key y) p2 o2 lb2 rb2 → (d ≡ e) × (x ≡ y) × (lb ≡ lb2) × (rb ≡ rb2)
 fields_parts references d e x y p1 p2 o1 o2 lb lb2 rb rb2 fx fy hs hs2 hp hp2 ho ho2 hl hl2 same =
-    let q = shared (key x) (slice_index_or references d []) in
-    let q2 = shared (key y) (slice_index_or references e []) in
+    let q = shared_front (key x) (slice_index_or references d []) in
+    let q2 = shared_front (key y) (slice_index_or references e []) in
     let code : 5 * d + q ≡ 5 * e + q2 = ap (λ (t : List ℕ). get_or t 0 0) same in
     let head : d ≡ e = omega (arith, code, hs, hs2) in
     let share : q ≡ q2 = omega (arith, code, hs, hs2) in
@@ -137,7 +138,7 @@ fields_parts references d e x y p1 p2 o1 o2 lb lb2 rb rb2 fx fy hs hs2 hp hp2 ho
     let l = vint_front (length lb) (length lb2) (lb ++ rb) (lb2 ++ rb2) hl hl2 o.1 in
     let parts = split_same lb lb2 rb rb2 l.0 l.1 in
     let reference : slice_index_or references d [] ≡ slice_index_or references e [] = ap (λ n. slice_index_or references n []) head in
-    let sh2 : shared (key y) (slice_index_or references d []) ≡ q2 = ap (shared (key y)) reference in
+    let sh2 : shared_front (key y) (slice_index_or references d []) ≡ q2 = ap (shared_front (key y)) reference in
     let keys : key x ≡ key y = same_key (key x) (key y) (slice_index_or references d []) (share ∙ sym sh2) (k.0 ∙ ap (λ n. drop n (key y)) (sym sh2)) in
     (head, key_one x y fx fy keys, parts.0, parts.1)
 

@@ -8,9 +8,9 @@ use Rattle.point_codec.specs.Points.{Region, all_le}
 use Rattle.point_codec.specs.Keys.{key}
 use Rattle.point_codec.specs.Cells.{within}
 use Rattle.byte_cursor.specs.Vint.{vint}
-use Rattle.inner_pack.specs.Places.{Spot, fitted, front}
+use Rattle.inner_pack.specs.Places.{Spot, leaf_begin, front}
 use Rattle.inner_pack.specs.Trees.{IndexTree, Leaf, Split, IsShaped, IsCell, cuts_of, leaf_count}
-use Rattle.inner_pack.specs.Bodies.{cut_bytes, cuts_table, places_table, place_bytes, shared, head_bytes}
+use Rattle.inner_pack.specs.Bodies.{cut_bytes, cuts_table, places_table, place_bytes, shared_front, head_bytes}
 use Rattle.inner_pack.specs.Bodies.{leaf_bytes, node_bytes, with_children, cell_bytes, body_bytes}
 use Rattle.inner_pack.specs.Spelled.{spelled_part, told_part, tree_bytes, IsNodeOf}
 use Rattle.inner_pack.specs.Heads.{IsPackedLeaf, IsTableLeaf, IsLeafBehind}
@@ -70,9 +70,9 @@ one_length n low high k d lt =
     let first : zero ≡ k = omega arith in
     subst (λ (i : ℕ). (1 ≤ slice_index_or (n ∷ []) i d) × (slice_index_or (n ∷ []) i d ≤ 4064)) first (low, high)
 
-pub leaf_in_table : (s : Spot) (n : ℕ) (own : Region) → places_table s (Leaf n own) ≡ place_bytes (record { at = fitted s n; length = n })
+pub leaf_in_table : (s : Spot) (n : ℕ) (own : Region) → places_table s (Leaf n own) ≡ place_bytes (record { at = leaf_begin s n; length = n })
 unfolding places_table
-leaf_in_table s n own = append-nil (place_bytes (record { at = fitted s n; length = n }))
+leaf_in_table s n own = append-nil (place_bytes (record { at = leaf_begin s n; length = n }))
 
 pub no_cut : (n : ℕ) (own : Region) → cuts_table (Leaf n own) ≡ []
 unfolding cuts_table
@@ -90,21 +90,21 @@ of_table_leaf D form e path references bytes places n one cell h = record {
     cells = (cell, within_self path);
     path_cells = λ _. refl;
     lengths = one_length n h.least h.greatest;
-    spelled = h.no_node ∙ sym (spelled_one form references (fitted e n) (Leaf n path) one ∙ no_cut n path);
+    spelled = h.no_node ∙ sym (spelled_one form references (leaf_begin e n) (Leaf n path) one ∙ no_cut n path);
     told = h.told ∙ (λ i. place_bytes (record { at = sym (fitted_again e n h.greatest) i; length = n }))
-        ∙ sym (told_one form (fitted e n) (Leaf n path) one ∙ leaf_in_table (fitted e n) n path);
+        ∙ sym (told_one form (leaf_begin e n) (Leaf n path) one ∙ leaf_in_table (leaf_begin e n) n path);
   };
 }
 
 pub to_table_leaf : (D form : ℕ) (e : Spot) (path : Region) (references : List (List ℕ)) (bytes places : List ℕ) (n : ℕ) (own : Region) → form ≡ 1
-    → IsNodeOf D form 1 (fitted e n) path references bytes places (Leaf n own) → IsTableLeaf e bytes places n
+    → IsNodeOf D form 1 (leaf_begin e n) path references bytes places (Leaf n own) → IsTableLeaf e bytes places n
 to_table_leaf D form e path references bytes places n own one h =
     let bound = first_fits (Leaf n own) h.lengths in
     record {
       least = bound.0;
       greatest = bound.1;
-      no_node = h.spelled ∙ spelled_one form references (fitted e n) (Leaf n own) one ∙ no_cut n own;
-      told = h.told ∙ told_one form (fitted e n) (Leaf n own) one ∙ leaf_in_table (fitted e n) n own
+      no_node = h.spelled ∙ spelled_one form references (leaf_begin e n) (Leaf n own) one ∙ no_cut n own;
+      told = h.told ∙ told_one form (leaf_begin e n) (Leaf n own) one ∙ leaf_in_table (leaf_begin e n) n own
           ∙ (λ i. place_bytes (record { at = fitted_again e n bound.1 i; length = n }));
     }
 
@@ -124,8 +124,8 @@ of_packed_leaf D form e path references bytes places n own packed high none h = 
     cells = (h.cell, h.inside);
     path_cells = h.path_cell;
     lengths = one_length n h.least h.greatest;
-    spelled = h.spelled ∙ sym (spelled_packed form references (fitted e n) (Leaf n own) packed);
-    told = none ∙ sym (told_packed form (fitted e n) (Leaf n own) packed);
+    spelled = h.spelled ∙ sym (spelled_packed form references (leaf_begin e n) (Leaf n own) packed);
+    told = none ∙ sym (told_packed form (leaf_begin e n) (Leaf n own) packed);
   };
 }
 
@@ -168,14 +168,14 @@ places_long n s t h = length-places s t ∙ ap (λ k. 8 * k) (count_shaped n t h
 -- the fields of a packed inner node one behind the other
 abbrev pub fields : (references : List (List ℕ)) (d : ℕ) (k : List ℕ) (pages offset : ℕ) (lb rb : List ℕ) → List ℕ
 fields references d k pages offset lb rb =
-    let p = shared k (slice_index_or references d []) in
+    let p = shared_front k (slice_index_or references d []) in
     (5 * d + p) ∷ (drop p k ++ (vint pages ++ (vint offset ++ (vint (length lb) ++ (lb ++ rb)))))
 
 pub with_children_is : (references : List (List ℕ)) (d : ℕ) (x : ℤ) (s right : Spot) (lb rb : List ℕ)
     → with_children references d x s right lb rb ≡ fields references d (key x) (right.page - s.page) right.offset lb rb
 unfolding head_bytes
 with_children_is references d x s right lb rb =
-    let p = shared (key x) (slice_index_or references d []) in
+    let p = shared_front (key x) (slice_index_or references d []) in
     ap (λ (t : List ℕ). (5 * d + p) ∷ t) (six (drop p (key x)) (vint (right.page - s.page)) (vint right.offset) (vint (length lb)) lb rb)
   where
     six : (a b c d e f : List ℕ) → ((((a ++ b) ++ c) ++ d) ++ e) ++ f ≡ a ++ (b ++ (c ++ (d ++ (e ++ f))))

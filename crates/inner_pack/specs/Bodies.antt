@@ -7,7 +7,7 @@ use Rattle.std.specs.Int.{w16, w32, to_be_bytes}
 use Rattle.point_codec.specs.Points.{Region}
 use Rattle.point_codec.specs.Keys.{key}
 use Rattle.byte_cursor.specs.Vint.{vint}
-use Rattle.inner_pack.specs.Places.{Spot, front, fitted, Placed, placed, end_of}
+use Rattle.inner_pack.specs.Places.{Spot, front, leaf_begin, LeafSpan, leaf_spans, end_of}
 use Rattle.inner_pack.specs.Trees.{IndexTree, Leaf, Split, Cut, cuts_of, lengths_of, HasPathCells, IsTree}
 
 -- the keys of the least coordinates, then those of the greatest
@@ -19,7 +19,7 @@ cell_bytes r = flat_map key r.lo ++ flat_map key r.hi
 abbrev pub cut_bytes : Cut → List ℕ
 cut_bytes c = c.dimension ∷ key c.at
 
-abbrev pub place_bytes : Placed → List ℕ
+abbrev pub place_bytes : LeafSpan → List ℕ
 place_bytes p = to_be_bytes w32 p.at.page ++ to_be_bytes w16 p.at.offset ++ to_be_bytes w16 p.length
 
 unfoldable pub cuts_table : IndexTree → List ℕ
@@ -27,23 +27,24 @@ cuts_table t = flat_map cut_bytes (cuts_of t)
 
 -- the first leaf begins at s
 unfoldable pub places_table : Spot → IndexTree → List ℕ
-places_table s t = flat_map place_bytes (placed s (lengths_of t))
+places_table s t = flat_map place_bytes (leaf_spans s (lengths_of t))
 
 -- ---- forms 2 and 3, packed: a split value less what it shares with the last one on the path in its dimension, and its
 -- place in the bytes told so that a walk can pass over a subtree (after Lucene's packed index of a block tree)
 
 -- how many bytes the two keys share at the front
-abbrev pub shared : List ℕ → List ℕ → ℕ
-shared (x ∷ xs) (y ∷ ys) = if x == y then shared xs ys + 1 else 0
-shared [] ys = 0
-shared (x ∷ xs) [] = 0
+abbrev pub shared_front : List ℕ → List ℕ → ℕ
+shared_front (x ∷ xs) (y ∷ ys) = if x == y then shared_front xs ys + 1 else 0
+shared_front [] ys = 0
+shared_front (x ∷ xs) [] = 0
 
 -- the code of dimension and shared length, the rest of the key, how many pages further and at which offset the right
 -- child's first leaf begins, and how many bytes spell the left child. A reference is the key of the last split in its
 -- dimension on the path from the root, and of the root cell's least coordinate where there is none
 unfoldable pub head_bytes : (references : List (List ℕ)) (dimension : ℕ) (at : ℤ) (pages offset left : ℕ) → List ℕ
 head_bytes references d x pages offset left =
-    (5 * d + shared (key x) (slice_index_or references d [])) ∷ drop (shared (key x) (slice_index_or references d []))
+    (5 * d + shared_front (key x) (slice_index_or references d [])) ∷ drop
+        (shared_front (key x) (slice_index_or references d []))
     (key x) ++ vint pages ++ vint offset ++ vint left
 
 -- in form 3 a leaf's own cell stands behind its length
@@ -57,7 +58,7 @@ first_length (Split d x l r) = first_length l
 
 -- where the first leaf of the right child begins, where that of the left child begins at s
 unfoldable pub right_begin : Spot → IndexTree → IndexTree → Spot
-right_begin s l r = fitted (end_of s (lengths_of l)) (first_length r)
+right_begin s l r = leaf_begin (end_of s (lengths_of l)) (first_length r)
 
 abbrev pub with_children : (references : List (List ℕ)) (d : ℕ) (x : ℤ) (s right : Spot)
     (left_bytes right_bytes : List ℕ) → List ℕ

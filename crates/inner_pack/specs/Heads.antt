@@ -3,7 +3,7 @@ use Rattle.std.specs.Prelude.{ℕ, ◌-◌, ◌≤◌, ◌<◌, ◌≡◌, if◌
 use Rattle.point_codec.specs.Points.{Region}
 use Rattle.point_codec.specs.Keys.{key}
 use Rattle.point_codec.specs.Cells.{within}
-use Rattle.inner_pack.specs.Places.{Spot, Placed, front, fitted, end_of}
+use Rattle.inner_pack.specs.Places.{Spot, LeafSpan, front, leaf_begin, end_of}
 use Rattle.inner_pack.specs.Trees.{IndexTree, Leaf, Split, IsCell, lengths_of}
 use Rattle.inner_pack.specs.Bodies.{first_length, right_begin, cell_bytes, leaf_bytes, place_bytes}
 use Rattle.inner_pack.specs.Spelled.{spelled_part, told_part, tree_bytes, IsNodeOf}
@@ -39,7 +39,7 @@ pub record SaysTree (form : ℕ) (references : List (List ℕ)) (s : Spot) (t : 
 
 -- the bytes are those of the node with the head's split, wherever its first leaf begins, where the parts are those of
 -- the children
-pub record IsHead (D form : ℕ) (references : List (List ℕ)) (bytes places : List ℕ) (h : Head) : Type 0 where
+pub record IsNodeHead (D form : ℕ) (references : List (List ℕ)) (bytes places : List ℕ) (h : Head) : Type 0 where
   pub dimension : h.dimension < D
   pub key_is : h.key ≡ key h.at
   pub joins : (s : Spot) (l r : IndexTree) → All (λ length. (1 ≤ length) × (length ≤ 4064)) (lengths_of r)
@@ -47,7 +47,7 @@ pub record IsHead (D form : ℕ) (references : List (List ℕ)) (bytes places : 
       → (bytes ≡ spelled_part form references s (Split h.dimension h.at l r))
       × (places ≡ told_part form s (Split h.dimension h.at l r))
 
-abbrev pub placed_of : LeafPlace → Placed
+abbrev pub placed_of : LeafPlace → LeafSpan
 placed_of p = record { at = record { page = p.page; offset = p.offset }; length = p.length }
 
 -- a leaf of a packed form, of so many bytes and with this own cell
@@ -71,24 +71,24 @@ pub record IsTableLeaf (e : Spot) (bytes places : List ℕ) (length : ℕ) : Typ
   pub least : 1 ≤ length
   pub greatest : length ≤ 4064
   pub no_node : bytes ≡ []
-  pub told : places ≡ place_bytes (record { at = fitted e length; length = length })
+  pub told : places ≡ place_bytes (record { at = leaf_begin e length; length = length })
 
 -- a leaf of so many bytes next behind e, in any form
 pub record IsLeafBehind (D form : ℕ) (e : Spot) (path : Region) (references : List (List ℕ)) (bytes places : List ℕ)
     (length : ℕ) : Type 0 where
   pub own : Region
-  pub is : IsNodeOf D form 1 (fitted e length) path references bytes places (Leaf length own)
+  pub is : IsNodeOf D form 1 (leaf_begin e length) path references bytes places (Leaf length own)
 
 -- the span of a tree next behind e
 pub record IsSpanOf (e : Spot) (t : IndexTree) (x : Span) : Type 0 where
-  pub begin : spot_of x.begin ≡ fitted e (first_length t)
+  pub begin : spot_of x.begin ≡ leaf_begin e (first_length t)
   pub end : spot_of x.end ≡ end_of e (lengths_of t)
 
 -- the node next behind e, from where its first leaf begins to where its last one ends
 pub record SpansFrom (D form leaves : ℕ) (e : Spot) (path : Region) (references : List (List ℕ)) (bytes places : List ℕ)
     (x : Span) : Type 0 where
   pub tree : IndexTree
-  pub is : IsNodeOf D form leaves (fitted e (first_length tree)) path references bytes places tree
+  pub is : IsNodeOf D form leaves (leaf_begin e (first_length tree)) path references bytes places tree
   pub span : IsSpanOf e tree x
 
 -- what follows the root cell is a tree's, where these are the root's parts

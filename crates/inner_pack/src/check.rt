@@ -3,14 +3,14 @@
 ghost use Rattle.std.specs.Prelude.{◌≡◌, ◌≤◌, ◌<◌, ◌≤ℤ◌, ◌+◌, ◌-◌, ◌^◌, ℕ, ℤ, List, pos, length, IfSome, IsSomeAnd};
 ghost use Rattle.std.specs.Prelude.{IsTrue, ◌↔◌, slice_index_or, slice_set};
 ghost use Rattle.point_codec.specs.Seen.{region_of};
-ghost use Rattle.inner_pack.specs.Places.{fitted, end_of};
+ghost use Rattle.inner_pack.specs.Places.{leaf_begin, end_of};
 ghost use Rattle.inner_pack.specs.Trees.{IndexTree, IsInCell, lengths_of};
 ghost use Rattle.inner_pack.specs.Bodies.{first_length};
 ghost use Rattle.inner_pack.specs.Spelled.{IsNodeOf};
 ghost use Rattle.inner_pack.specs.Heads.{SpansFrom, IsSpanOf, spot_of};
 
 use crate::fields::is_cell;
-use crate::head::{Head, Part, read_head};
+use crate::head::{Head, NodeBytes, read_head};
 use crate::leaf::read_leaf;
 use crate::place::Mark;
 use point_codec::Cell;
@@ -29,7 +29,7 @@ pub(crate) fn check_node<const D: usize>(
     leaves: u32,
     path: &Cell<D>,
     references: &[[u8; 4]; D],
-    part: Part,
+    part: NodeBytes,
     behind: Mark,
 ) -> Option<Span>
     requires dims { (1 ≤ D) × (D ≤ 8) }
@@ -41,7 +41,7 @@ pub(crate) fn check_node<const D: usize>(
         (SpansFrom D form leaves (spot_of behind)
         (region_of path.now) references.now part.entry.bytes.now part.entry.places.now) }
     ensures only { (t : IndexTree)
-        → IsNodeOf D form leaves (fitted (spot_of behind) (first_length t))
+        → IsNodeOf D form leaves (leaf_begin (spot_of behind) (first_length t))
         (region_of path.now) references.now part.entry.bytes.now part.entry.places.now t
         → IsSomeAnd result (IsSpanOf (spot_of behind) t) }
     ensures page { IfSome result (λ x. x.end.page ≤ behind.page + leaves) }
@@ -87,7 +87,7 @@ fn check_leaf<const D: usize>(
     form: u8,
     path: &Cell<D>,
     references: &[[u8; 4]; D],
-    part: Part,
+    part: NodeBytes,
     behind: Mark,
 ) -> Option<Span>
     requires form { (1 ≤ form) × (form ≤ 3) }
@@ -97,7 +97,7 @@ fn check_leaf<const D: usize>(
         (SpansFrom D form 1 (spot_of behind)
         (region_of path.now) references.now part.entry.bytes.now part.entry.places.now) }
     ensures only { (t : IndexTree)
-        → IsNodeOf D form 1 (fitted (spot_of behind) (first_length t))
+        → IsNodeOf D form 1 (leaf_begin (spot_of behind) (first_length t))
         (region_of path.now) references.now part.entry.bytes.now part.entry.places.now t
         → IsSomeAnd result (IsSpanOf (spot_of behind) t) }
     ensures page { IfSome result (λ x. x.end.page ≤ behind.page + 1) }

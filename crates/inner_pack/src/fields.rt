@@ -9,8 +9,8 @@ ghost use Rattle.point_codec.specs.Seen.{region_of};
 ghost use Rattle.point_codec.specs.Keys.{key};
 ghost use Rattle.byte_cursor.specs.Vint.{vint};
 ghost use Rattle.inner_pack.specs.Trees.{IsCell};
-ghost use Rattle.inner_pack.specs.Bodies.{cell_bytes, place_bytes, shared};
-ghost use Rattle.inner_pack.specs.Places.{Placed};
+ghost use Rattle.inner_pack.specs.Bodies.{cell_bytes, place_bytes, shared_front};
+ghost use Rattle.inner_pack.specs.Places.{LeafSpan};
 ghost use Rattle.inner_pack.specs.Heads.{placed_of};
 
 use crate::place::LeafPlace;
@@ -100,8 +100,8 @@ pub(crate) fn take_vint(b: &[u8]) -> Option<(u32, &[u8])>
 /// front of the bytes; and the bytes behind it.
 pub(crate) fn take_key(b: &[u8], reference: [u8; 4], prefix: usize) -> Option<([u8; 4], &[u8])>
     requires { prefix ≤ 4 }
-    ensures found { IfSome result (λ x. (shared x.0 reference ≡ prefix) × (b.now ≡ drop prefix x.0 ++ x.1.now)) }
-    ensures only { (k rest : List ℕ) → length k ≡ 4 → shared k reference ≡ prefix → b.now ≡ drop prefix k ++ rest
+    ensures found { IfSome result (λ x. (shared_front x.0 reference ≡ prefix) × (b.now ≡ drop prefix x.0 ++ x.1.now)) }
+    ensures only { (k rest : List ℕ) → length k ≡ 4 → shared_front k reference ≡ prefix → b.now ≡ drop prefix k ++ rest
         → IsSomeAnd result (λ x. (x.0 ≡ k) × (x.1.now ≡ rest)) }
 {
     let (back, rest) = cut(b, 4 - prefix)?;
@@ -132,7 +132,7 @@ fn joined(reference: [u8; 4], prefix: usize, back: &[u8]) -> [u8; 4]
 /// The place with which the bytes begin, and the bytes behind it.
 pub(crate) fn take_place(b: &[u8]) -> Option<(LeafPlace, &[u8])>
     ensures found { IfSome result (λ x. b.now ≡ place_bytes (placed_of x.0) ++ x.1.now) }
-    ensures only { (p : Placed) (rest : List ℕ) → p.at.page < 2 ^ 32 → p.at.offset < 2 ^ 16 → p.length < 2 ^ 16
+    ensures only { (p : LeafSpan) (rest : List ℕ) → p.at.page < 2 ^ 32 → p.at.offset < 2 ^ 16 → p.length < 2 ^ 16
         → b.now ≡ place_bytes p ++ rest
         → IsSomeAnd result (λ x. (placed_of x.0 ≡ p) × (x.1.now ≡ rest)) }
 {
@@ -179,7 +179,7 @@ pub(crate) fn cut(b: &[u8], n: usize) -> Option<(&[u8], &[u8])>
 
 /// How many bytes the two keys share at the front.
 pub(crate) fn shared_length(a: [u8; 4], b: [u8; 4]) -> usize
-    ensures value { result ≡ shared a b }
+    ensures value { result ≡ shared_front a b }
     ensures few { result ≤ 4 }
 {
     let [a0, a1, a2, a3] = a;

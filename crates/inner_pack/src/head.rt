@@ -5,18 +5,18 @@ ghost use Rattle.std.specs.Prelude.{IfSome, IsSomeAnd, slice_index_or, slice_set
 ghost use Rattle.std.specs.Int.{w16, w32, to_be_bytes};
 ghost use Rattle.point_codec.specs.Points.{Region};
 ghost use Rattle.point_codec.specs.Keys.{key};
-ghost use Rattle.inner_pack.specs.Places.{Spot, Placed};
+ghost use Rattle.inner_pack.specs.Places.{Spot, LeafSpan};
 ghost use Rattle.inner_pack.specs.Trees.{IndexTree, Split, lengths_of};
 ghost use Rattle.inner_pack.specs.Bodies.{first_length, place_bytes};
 ghost use Rattle.inner_pack.specs.Spelled.{IsNodeOf, spelled_part, told_part};
-ghost use Rattle.inner_pack.specs.Heads.{IsHead, SaysSplit};
+ghost use Rattle.inner_pack.specs.Heads.{IsNodeHead, SaysSplit};
 
 use crate::fields::{cut, take_byte, take_key, take_place, take_vint};
 use point_codec::from_sortable;
 
 /// The bytes of a node with all below it.
 #[derive(Clone, Copy, Debug)]
-pub(crate) struct Part<'a> {
+pub(crate) struct NodeBytes<'a> {
     /// The node; in form 1 its part of the table of inner nodes.
     pub bytes: &'a [u8],
     /// In form 1 its part of the table of places.
@@ -33,8 +33,8 @@ pub(crate) struct Head<'a> {
     /// How many pages behind the node's first leaf, and at which offset, the right child's first leaf begins.
     pub pages: u32,
     pub offset: u16,
-    pub left: Part<'a>,
-    pub right: Part<'a>,
+    pub left: NodeBytes<'a>,
+    pub right: NodeBytes<'a>,
 }
 
 /// The head of an inner node.
@@ -42,12 +42,12 @@ pub(crate) fn read_head<'a, const D: usize>(
     form: u8,
     leaves: u32,
     references: &[[u8; 4]; D],
-    part: Part<'a>,
+    part: NodeBytes<'a>,
 ) -> Option<Head<'a>>
     requires dims { (1 ≤ D) × (D ≤ 8) }
     requires form { (1 ≤ form) × (form ≤ 3) }
     requires leaves { (2 ≤ leaves) × (leaves ≤ 8388608) }
-    ensures found { IfSome result (IsHead D form references.now part.entry.bytes.now part.entry.places.now) }
+    ensures found { IfSome result (IsNodeHead D form references.now part.entry.bytes.now part.entry.places.now) }
     ensures only { (s : Spot) (path : Region) (d : ℕ) (x : ℤ) (l r : IndexTree) → s.page ≤ 8388608 → FitsSigned w32 x
         → IsNodeOf D form leaves s path references.now part.entry.bytes.now part.entry.places.now (Split d x l r)
         → IsSomeAnd result (SaysSplit form references.now s d x l r) }
@@ -60,11 +60,11 @@ pub(crate) fn read_head<'a, const D: usize>(
 }
 
 /// The head of an inner node in the tables of form 1.
-fn table_head<'a, const D: usize>(leaves: u32, part: Part<'a>) -> Option<Head<'a>>
+fn table_head<'a, const D: usize>(leaves: u32, part: NodeBytes<'a>) -> Option<Head<'a>>
     requires dims { D ≤ 8 }
     requires leaves { (2 ≤ leaves) × (leaves ≤ 8388608) }
     ensures found { (references : List (List ℕ))
-        → IfSome result (IsHead D 1 references part.entry.bytes.now part.entry.places.now) }
+        → IfSome result (IsNodeHead D 1 references part.entry.bytes.now part.entry.places.now) }
     ensures only { (references : List (List ℕ)) (s : Spot) (path : Region) (d : ℕ) (x : ℤ) (l r : IndexTree)
         → s.page ≤ 8388608 → FitsSigned w32 x
         → IsNodeOf D 1 leaves s path references part.entry.bytes.now part.entry.places.now (Split d x l r)
@@ -83,11 +83,11 @@ fn table_head<'a, const D: usize>(leaves: u32, part: Part<'a>) -> Option<Head<'a
         key,
         pages,
         offset: middle.offset,
-        left: Part {
+        left: NodeBytes {
             bytes: left,
             places: left_places,
         },
-        right: Part {
+        right: NodeBytes {
             bytes: right,
             places: right_places,
         },
@@ -111,10 +111,10 @@ fn take_cut<const D: usize>(b: &[u8]) -> Option<(usize, [u8; 4], &[u8])>
 }
 
 /// The head of an inner node of a packed form.
-fn packed_head<'a, const D: usize>(references: &[[u8; 4]; D], part: Part<'a>) -> Option<Head<'a>>
+fn packed_head<'a, const D: usize>(references: &[[u8; 4]; D], part: NodeBytes<'a>) -> Option<Head<'a>>
     requires dims { D ≤ 8 }
     ensures found { (form : ℕ) → 2 ≤ form
-        → IfSome result (IsHead D form references.now part.entry.bytes.now part.entry.places.now) }
+        → IfSome result (IsNodeHead D form references.now part.entry.bytes.now part.entry.places.now) }
     ensures only { (form leaves : ℕ) (s : Spot) (path : Region) (d : ℕ) (x : ℤ) (l r : IndexTree) → 2 ≤ form
         → leaves ≤ 8388608 → FitsSigned w32 x
         → IsNodeOf D form leaves s path references.now part.entry.bytes.now part.entry.places.now (Split d x l r)
@@ -140,11 +140,11 @@ fn packed_head<'a, const D: usize>(references: &[[u8; 4]; D], part: Part<'a>) ->
         key,
         pages,
         offset: offset as u16,
-        left: Part {
+        left: NodeBytes {
             bytes: left,
             places: part.places,
         },
-        right: Part {
+        right: NodeBytes {
             bytes: right,
             places: part.places,
         },

@@ -12,7 +12,7 @@ ghost use Rattle.inner_pack.specs.Heads.{JoinsRoot};
 
 use crate::check::check_node;
 use crate::fields::{cell_of, coordinates, cut, is_cell};
-use crate::head::Part;
+use crate::head::NodeBytes;
 use crate::node::NodeAt;
 use crate::place::Mark;
 use byte_cursor::{Bytes, Memory};
@@ -204,7 +204,7 @@ fn checked_tree<const D: usize>(form: u8, leaves: u32, root: &Cell<D>, b: &[u8])
 }
 
 /// The part of the root in what follows the root cell.
-fn root_part(form: u8, leaves: u32, b: &[u8]) -> Option<Part<'_>>
+fn root_part(form: u8, leaves: u32, b: &[u8]) -> Option<NodeBytes<'_>>
     requires form { 1 ≤ form }
     requires leaves { (1 ≤ leaves) × (leaves ≤ 8388608) }
     ensures found { IfSome result (λ part. JoinsRoot form b.now part.bytes.now part.places.now) }
@@ -215,10 +215,10 @@ fn root_part(form: u8, leaves: u32, b: &[u8]) -> Option<Part<'_>>
 {
     if form == 1 {
         let (bytes, places) = cut(b, 5 * (leaves as usize - 1))?;
-        return Some(Part { bytes, places });
+        return Some(NodeBytes { bytes, places });
     }
     let (places, bytes) = b.split_at(0);
-    Some(Part { bytes, places })
+    Some(NodeBytes { bytes, places })
 }
 
 /// The keys of the coordinates.

@@ -6,13 +6,13 @@ ghost use Rattle.point_codec.specs.Points.{Region};
 ghost use Rattle.point_codec.specs.Seen.{region_of};
 ghost use Rattle.point_codec.specs.Cells.{within};
 ghost use Rattle.byte_cursor.specs.Vint.{vint};
-ghost use Rattle.inner_pack.specs.Places.{Spot, fitted};
+ghost use Rattle.inner_pack.specs.Places.{Spot, leaf_begin};
 ghost use Rattle.inner_pack.specs.Trees.{Leaf};
 ghost use Rattle.inner_pack.specs.Spelled.{IsNodeOf};
 ghost use Rattle.inner_pack.specs.Heads.{IsPackedLeaf, IsOwnCell, IsTableLeaf, IsLeafBehind, spot_of};
 
 use crate::fields::{cell_of, is_cell, take_place, take_vint};
-use crate::head::Part;
+use crate::head::NodeBytes;
 use crate::place::Mark;
 use point_codec::{Cell, all_le};
 
@@ -20,7 +20,7 @@ use point_codec::{Cell, all_le};
 pub(crate) fn read_leaf<const D: usize>(
     form: u8,
     path: &Cell<D>,
-    part: Part,
+    part: NodeBytes,
     behind: Mark,
 ) -> Option<u16>
     requires form { (1 ≤ form) × (form ≤ 3) }
@@ -31,7 +31,7 @@ pub(crate) fn read_leaf<const D: usize>(
         (IsLeafBehind D form (spot_of behind)
         (region_of path.now) references part.entry.bytes.now part.entry.places.now) }
     ensures only { (references : List (List ℕ)) (n : ℕ) (own : Region)
-        → IsNodeOf D form 1 (fitted (spot_of behind) n)
+        → IsNodeOf D form 1 (leaf_begin (spot_of behind) n)
         (region_of path.now) references part.entry.bytes.now part.entry.places.now (Leaf n own)
         → IsSomeAnd result (λ x. x ≡ n) }
 {
@@ -47,7 +47,7 @@ pub(crate) fn read_leaf<const D: usize>(
 }
 
 /// The length of the leaf next behind the mark in the tables of form 1.
-fn table_leaf(part: Part, behind: Mark) -> Option<u16>
+fn table_leaf(part: NodeBytes, behind: Mark) -> Option<u16>
     requires room { behind.page < 8388608 }
     requires offset { behind.offset ≤ 4064 }
     ensures found { IfSome result (IsTableLeaf (spot_of behind) part.entry.bytes.now part.entry.places.now) }

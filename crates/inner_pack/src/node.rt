@@ -9,7 +9,7 @@ ghost use Rattle.inner_pack.specs.Spelled.{IsNodeOf, IsSomeNode, IsSomeTree, IsS
 
 use crate::check::with_key;
 use crate::fields::{is_cell, take_place};
-use crate::head::{Head, Part, read_head};
+use crate::head::{Head, NodeBytes, read_head};
 use crate::leaf::{packed_leaf, take_length};
 use crate::place::{LeafPlace, Mark};
 use point_codec::Cell;
@@ -144,7 +144,7 @@ impl<'a, const D: usize> NodeAt<'a, D> {
             → SaysTree self.now.form self.now.references (spot_at self.now.page self.now.offset) t result }
     {
         is_cell(&self.cell);
-        let part = Part {
+        let part = NodeBytes {
             bytes: self.bytes,
             places: self.places,
         };
@@ -182,7 +182,7 @@ impl<'a, const D: usize> NodeAt<'a, D> {
         begin: Mark,
         path: &Cell<D>,
         references: &[[u8; 4]; D],
-        part: Part<'a>,
+        part: NodeBytes<'a>,
     ) -> NodeAt<'a, D>
         requires some { ∥ IsSomeTree D form leaves (spot_of begin)
             (region_of path.now) references.now part.bytes.now part.places.now ∥₁ }

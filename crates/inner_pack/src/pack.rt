@@ -5,13 +5,14 @@
 //! end. So a node is written as soon as its parts are known, into one vector that is reserved once.
 
 ghost use Rattle.std.specs.Prelude.{◌≡◌, ◌≤◌, ◌<◌, ◌+◌, ◌*◌, ◌^◌, ◌++◌, length, map, reverse, take, drop, All};
+ghost use Rattle.inner_pack.specs.Heads.{placed_of};
 ghost use Rattle.std.specs.Prelude.{IfOk, OnOk};
 ghost use Rattle.point_codec.specs.Keys.{key};
 ghost use Rattle.point_codec.specs.Seen.{region_of};
-ghost use Rattle.inner_pack.specs.Places.{Spot, front, placed, fitted, end_of};
+ghost use Rattle.inner_pack.specs.Places.{Spot, front, leaf_spans, leaf_begin, end_of};
 ghost use Rattle.inner_pack.specs.Trees.{IndexTree};
 ghost use Rattle.inner_pack.specs.Bodies.{body_bytes, head_bytes, leaf_bytes, node_bytes};
-ghost use Rattle.inner_pack.specs.Packs.{placed_of, end_at, AppendsTurned, IsPart};
+ghost use Rattle.inner_pack.specs.Packs.{end_at, AppendsReversed, IsSubtree};
 
 use crate::cells::put_cell;
 use crate::fields::shared_length;
@@ -62,15 +63,15 @@ fn body_of<const D: usize>(
     whole: Subtree<'_, D>,
 ) -> Result<Vec<u8>, Memory>
     requires { length whole.places.now ≤ 8388608 }
-    ensures { (t : IndexTree) → IsPart D front whole.entry.nodes.now whole.entry.places.now whole.entry.cells.now t
+    ensures { (t : IndexTree) → IsSubtree D front whole.entry.nodes.now whole.entry.places.now whole.entry.cells.now t
         → IfOk result (λ b. b.items ≡ body_bytes 3 (region_of root.now) t) }
 {
     let mut out = Vec::with_capacity(alloc, room(whole.places.len(), D))?;
     put_node(&mut out, keys_of(&root.lo), whole)?;
     let from = out.len();
     put_cell(&mut out, root)?;
-    turn(&mut out, from);
-    turn(&mut out, 0);
+    reverse_from(&mut out, from);
+    reverse_from(&mut out, 0);
     Ok(out)
 }
 
@@ -98,7 +99,7 @@ impl Layout {
     fn of(alloc: Global, lengths: &[u16]) -> Result<Layout, Memory>
         requires few { length lengths.now ≤ 8388608 }
         requires lengths { All (λ length. (1 ≤ length) × (length ≤ 4064)) lengths.now }
-        ensures places { IfOk result (λ l. map placed_of l.places.items ≡ placed front lengths.now) }
+        ensures places { IfOk result (λ l. map placed_of l.places.items ≡ leaf_spans front lengths.now) }
         ensures pages { IfOk result (λ l. l.pages ≡ (end_of front lengths.now).page + 1) }
     {
         let mut places = Vec::with_capacity(alloc, lengths.len())?;
@@ -123,7 +124,7 @@ fn next(last: &LeafPlace, size: u16) -> LeafPlace
     requires size { size ≤ 4064 }
     requires within { last.now.offset + last.now.length ≤ 4064 }
     requires page { last.now.page < 8388608 }
-    ensures begin { (placed_of result).at ≡ fitted (end_at last.now) size }
+    ensures begin { (placed_of result).at ≡ leaf_begin (end_at last.now) size }
     ensures size { result.length ≡ size }
     ensures within { result.offset + result.length ≤ 4064 }
     ensures page { result.page ≤ last.now.page + 1 }
@@ -207,8 +208,8 @@ fn put_node<const D: usize>(
 ) -> Result<(), Memory>
     requires { length out.old.items + 89 * length part.places.now < 2 ^ 32 }
     ensures spelled { (s : Spot) (t : IndexTree)
-        → IsPart D s part.entry.nodes.now part.entry.places.now part.entry.cells.now t
-        → OnOk result (AppendsTurned out.old.items out.new.items (node_bytes 3 references.entry s t)) }
+        → IsSubtree D s part.entry.nodes.now part.entry.places.now part.entry.cells.now t
+        → OnOk result (AppendsReversed out.old.items out.new.items (node_bytes 3 references.entry s t)) }
     ensures more { OnOk result (length out.old.items ≤ length out.new.items) }
     ensures room { OnOk result (length out.new.items + 20 ≤ length out.old.items + 89 * length part.entry.places.now) }
 {
@@ -243,7 +244,7 @@ fn put_head<const D: usize>(
 ) -> Result<(), Memory>
     requires dims { D ≤ 8 }
     requires dimension { head.now.dimension < D }
-    ensures spelled { OnOk result (AppendsTurned out.old.items out.new.items
+    ensures spelled { OnOk result (AppendsReversed out.old.items out.new.items
         (head_bytes references.now head.now.dimension head.now.at head.now.pages head.now.offset head.now.left)) }
     ensures more { OnOk result (length out.old.items ≤ length out.new.items) }
     ensures room { OnOk result (length out.new.items ≤ length out.old.items + 20) }
@@ -256,26 +257,27 @@ fn put_head<const D: usize>(
     put_vint(out, head.pages)?;
     put_vint(out, u32::from(head.offset))?;
     put_vint(out, head.left)?;
-    turn(out, from);
+    reverse_from(out, from);
     Ok(())
 }
 
 /// Appends the length and the own cell of a leaf, the last byte first.
 fn put_leaf<const D: usize>(out: &mut Vec<u8>, size: u16, own: &Cell<D>) -> Result<(), Memory>
     requires { size ≤ 4064 }
-    ensures spelled { OnOk result (AppendsTurned out.old.items out.new.items (leaf_bytes 3 size (region_of own.now))) }
+    ensures spelled { OnOk result
+        (AppendsReversed out.old.items out.new.items (leaf_bytes 3 size (region_of own.now))) }
     ensures more { OnOk result (length out.old.items ≤ length out.new.items) }
     ensures room { OnOk result (length out.new.items ≤ length out.old.items + 69) }
 {
     let from = out.len();
     put_vint(out, u32::from(size))?;
     put_cell(out, own)?;
-    turn(out, from);
+    reverse_from(out, from);
     Ok(())
 }
 
 /// Turns the order of the bytes from there on.
-fn turn(out: &mut Vec<u8>, from: usize)
+fn reverse_from(out: &mut Vec<u8>, from: usize)
     requires { from ≤ length out.old.items }
     ensures { out.new.items ≡ take from out.old.items ++ reverse (drop from out.old.items) }
 {

@@ -1,7 +1,7 @@
 //! Where leaves stand.
 
 ghost use Rattle.std.specs.Prelude.{◌≡◌, ◌≤◌, ◌+◌, ◌<◌, ◌^◌};
-ghost use Rattle.inner_pack.specs.Places.{fitted, behind};
+ghost use Rattle.inner_pack.specs.Places.{leaf_begin, leaf_end};
 
 /// The place of a leaf in the leaf pages of its segment.
 #[derive(Clone, Copy, PartialEq, Eq, Debug)]
@@ -29,7 +29,7 @@ impl Mark {
         requires length { length ≤ 4064 }
         requires offset { self.offset ≤ 4064 }
         requires page { self.page + 1 < 2 ^ 32 }
-        ensures { spot_of result ≡ fitted (spot_of self) length }
+        ensures { spot_of result ≡ leaf_begin (spot_of self) length }
     {
         if self.offset + length <= 4064 {
             self
@@ -44,7 +44,7 @@ impl Mark {
     /// Where a leaf ends that begins at the mark.
     pub(crate) fn behind(self, length: u16) -> Mark
         requires { self.offset + length ≤ 4064 }
-        ensures { spot_of result ≡ behind (spot_of self) length }
+        ensures { spot_of result ≡ leaf_end (spot_of self) length }
     {
         Mark {
             page: self.page,

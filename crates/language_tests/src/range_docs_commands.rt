@@ -12,10 +12,10 @@ const LEAST: i32 = -2_147_483_648;
 const GREATEST: i32 = 2_147_483_647;
 
 /// A box that is asked for, and of what.
-type Asked<const D: usize> = (View, Point<D>, Point<D>);
+type BoxQuery<const D: usize> = (View, Point<D>, Point<D>);
 
 /// What a line where ranges have one dimension asks of a box.
-fn asked_of_one(alloc: Global, line: &[u8]) -> Result<Asked<2>, Fail> {
+fn asked_of_one(alloc: Global, line: &[u8]) -> Result<BoxQuery<2>, Fail> {
     let Command::InBox { view, lo, hi } = read_range_line(alloc, line)? else {
         return Err("no box")?;
     };
@@ -23,7 +23,7 @@ fn asked_of_one(alloc: Global, line: &[u8]) -> Result<Asked<2>, Fail> {
 }
 
 /// The same of two dimensions.
-fn asked_of_two(alloc: Global, line: &[u8]) -> Result<Asked<4>, Fail> {
+fn asked_of_two(alloc: Global, line: &[u8]) -> Result<BoxQuery<4>, Fail> {
     let Command::InBox { view, lo, hi } = read_range_line(alloc, line)? else {
         return Err("no box")?;
     };
@@ -31,7 +31,7 @@ fn asked_of_two(alloc: Global, line: &[u8]) -> Result<Asked<4>, Fail> {
 }
 
 /// The same of three.
-fn asked_of_three(alloc: Global, line: &[u8]) -> Result<Asked<6>, Fail> {
+fn asked_of_three(alloc: Global, line: &[u8]) -> Result<BoxQuery<6>, Fail> {
     let Command::InBox { view, lo, hi } = read_range_line(alloc, line)? else {
         return Err("no box")?;
     };

@@ -178,7 +178,7 @@ fn named(name: &[u8]) -> Result<View, &'static str> {
 
 /// What a line of a command without points asks.
 #[derive(Clone, Copy, PartialEq, Eq, Debug)]
-enum Asked {
+enum OtherCommand {
     Blank,
     Create(u8, u16),
     Delete(u32),
@@ -191,30 +191,30 @@ enum Asked {
 }
 
 /// What a command of two dimensions asks.
-fn asked_by(command: &Command<2>) -> Asked {
+fn asked_by(command: &Command<2>) -> OtherCommand {
     match command {
-        Command::Blank => Asked::Blank,
-        Command::Create { dims, leaf } => Asked::Create(*dims, *leaf),
-        Command::Delete(doc) => Asked::Delete(*doc),
-        Command::Flush => Asked::Flush,
-        Command::Merge => Asked::Merge,
-        Command::MergeEnd => Asked::MergeEnd,
-        Command::Commit => Asked::Commit,
-        Command::Reopen => Asked::Reopen,
-        _ => Asked::Other,
+        Command::Blank => OtherCommand::Blank,
+        Command::Create { dims, leaf } => OtherCommand::Create(*dims, *leaf),
+        Command::Delete(doc) => OtherCommand::Delete(*doc),
+        Command::Flush => OtherCommand::Flush,
+        Command::Merge => OtherCommand::Merge,
+        Command::MergeEnd => OtherCommand::MergeEnd,
+        Command::Commit => OtherCommand::Commit,
+        Command::Reopen => OtherCommand::Reopen,
+        _ => OtherCommand::Other,
     }
 }
 
 /// Lines of commands without points.
-const OTHERS: [(&[u8], Asked); 8] = [
-    (b" # add 1", Asked::Blank),
-    (b"create 8 leaf 111", Asked::Create(8, 111)),
-    (b"delete 007", Asked::Delete(7)),
-    (b"flush ", Asked::Flush),
-    (b"merge", Asked::Merge),
-    (b"merge end", Asked::MergeEnd),
-    (b"commit", Asked::Commit),
-    (b"reopen", Asked::Reopen),
+const OTHERS: [(&[u8], OtherCommand); 8] = [
+    (b" # add 1", OtherCommand::Blank),
+    (b"create 8 leaf 111", OtherCommand::Create(8, 111)),
+    (b"delete 007", OtherCommand::Delete(7)),
+    (b"flush ", OtherCommand::Flush),
+    (b"merge", OtherCommand::Merge),
+    (b"merge end", OtherCommand::MergeEnd),
+    (b"commit", OtherCommand::Commit),
+    (b"reopen", OtherCommand::Reopen),
 ];
 
 #[test]

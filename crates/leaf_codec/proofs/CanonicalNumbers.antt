@@ -5,7 +5,7 @@ use Rattle.std.proofs.lemmas.List.Elements.{All-from_get_or}
 use Rattle.leaf_codec.specs.Spelling.{least, greatest, form, width}
 use Rattle.leaf_codec.specs.Words.{AreBytes}
 use Rattle.leaf_codec.specs.Raw.{RawNumbers, AreRawNumbers, offset_at, raw_docs}
-use Rattle.leaf_codec.specs.Views.{IsSpan, AreCanonical}
+use Rattle.leaf_codec.specs.Views.{IsSpan, AreCanonNumbers}
 use Rattle.leaf_codec.proofs.NumbersLemmas.{form_row, form_other}
 use Rattle.std.proofs.lemmas.List.{drop-take}
 use Rattle.leaf_codec.proofs.ReadNumbers.{offset_at-lt, length-raw_docs, get_or-raw_docs, least_from, least_not}
@@ -13,7 +13,7 @@ use Rattle.leaf_codec.proofs.ReadNumbers.{greatest_is, small_from, greatest_smal
 
 -- ---- whether the fields are canonical
 
-pub row_canonical : (count : ℕ) (r : RawNumbers) → r.width ≡ 0 → 0 < count → r.least + offset_at r (count - 1) < 2 ^ 24 → AreCanonical count r
+pub row_canonical : (count : ℕ) (r : RawNumbers) → r.width ≡ 0 → 0 < count → r.least + offset_at r (count - 1) < 2 ^ 24 → AreCanonNumbers count r
 row_canonical count r none pos low =
     let row = row_from count r pos (λ i lt. row_offsets r none i) in
     record {
@@ -24,20 +24,22 @@ row_canonical count r none pos low =
           omega (arith, get_or-raw_docs count r i d under, row_offsets r none i, row_offsets r none (count - 1));
     }
 
-pub canonical_last : (count : ℕ) (r : RawNumbers) → 0 < count → AreCanonical count r → r.least + offset_at r (count - 1) < 2 ^ 24
+pub canonical_last : (count : ℕ) (r : RawNumbers) → 0 < count → AreCanonNumbers count r → r.least + offset_at r (count - 1) < 2 ^ 24
 canonical_last count r pos h =
     let last : count - 1 < count = omega arith in
     omega (arith, h.small (count - 1) 0 (omega (arith, length-raw_docs count r)), get_or-raw_docs count r (count - 1) 0 last)
 
 -- where a form of 1 to 3 bytes isn't due
-pub refuses_row : (count : ℕ) (r : RawNumbers) (top : ℕ) (z w : Bool) → 0 < count → IsSpan count r top z w → r.width ≢ 0 → w ≡ true → AreCanonical count r → ⊥
+pub refuses_row : (count : ℕ) (r : RawNumbers) (top : ℕ) (z w : Bool) → 0 < count → IsSpan count r top z w → r.width ≢ 0 → w ≡ true → AreCanonNumbers count r
+    → ⊥
 refuses_row count r top z w pos s some row h =
     some (sym h.form_is ∙ form_row (raw_docs count r) (row_from count r pos (s.in_row row)).0)
 
-pub refuses_least : (count : ℕ) (r : RawNumbers) (top : ℕ) (z w : Bool) → 0 < count → IsSpan count r top z w → z ≡ false → AreCanonical count r → ⊥
+pub refuses_least : (count : ℕ) (r : RawNumbers) (top : ℕ) (z w : Bool) → 0 < count → IsSpan count r top z w → z ≡ false → AreCanonNumbers count r → ⊥
 refuses_least count r top z w pos s none h = least_not count r pos (s.no_zero none) h.least_is
 
-pub refuses_high : (count : ℕ) (r : RawNumbers) (top : ℕ) (z w : Bool) → 0 < count → IsSpan count r top z w → 2 ^ 24 ≤ r.least + top → AreCanonical count r → ⊥
+pub refuses_high : (count : ℕ) (r : RawNumbers) (top : ℕ) (z w : Bool) → 0 < count → IsSpan count r top z w → 2 ^ 24 ≤ r.least + top → AreCanonNumbers count r
+    → ⊥
 refuses_high count r top z w pos s high h =
     absurd (omega (arith, high, greatest_is count r top z w pos s, greatest_small (raw_docs count r) (2 ^ 24) (omega arith) h.small))
 
@@ -51,7 +53,7 @@ form_is count r top z w pos s found other =
     form_other (raw_docs count r) (row_not count r b.0 b.1 b.2 low) ∙ ap width span
 
 pub takes_width : (count : ℕ) (r : RawNumbers) (top : ℕ) (z w : Bool) → 0 < count → IsSpan count r top z w → z ≡ true → w ≡ false → r.least + top < 2 ^ 24
-    → r.width ≡ width top → AreCanonical count r
+    → r.width ≡ width top → AreCanonNumbers count r
 takes_width count r top z w pos s found other low is =
     let a = s.some_zero found in
     record {
@@ -60,7 +62,7 @@ takes_width count r top z w pos s found other low is =
       small = small_from (raw_docs count r) (2 ^ 24) (omega (arith, low, greatest_is count r top z w pos s));
     }
 
-pub width_of : (count : ℕ) (r : RawNumbers) (top : ℕ) (z w : Bool) → 0 < count → IsSpan count r top z w → z ≡ true → w ≡ false → AreCanonical count r
+pub width_of : (count : ℕ) (r : RawNumbers) (top : ℕ) (z w : Bool) → 0 < count → IsSpan count r top z w → z ≡ true → w ≡ false → AreCanonNumbers count r
     → r.width ≡ width top
 width_of count r top z w pos s found other h = sym h.form_is ∙ form_is count r top z w pos s found other
 

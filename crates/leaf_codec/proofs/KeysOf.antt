@@ -9,7 +9,7 @@ use Rattle.std.proofs.lemmas.List.Elements.{All-take, All-drop, All-map}
 use Rattle.std.proofs.lemmas.List.FromFn.{length-map-range_with_len}
 use Rattle.point_codec.specs.Points.{Item}
 use Rattle.leaf_codec.specs.Dimensions.{key_of, key_byte, shared_prefix, sorted_dimension}
-use Rattle.leaf_codec.specs.Spelling.{shared_bytes, told, rest, rests}
+use Rattle.leaf_codec.specs.Spelling.{shared_bytes, told_length, rest, rests}
 use Rattle.leaf_codec.specs.Words.{AreBytes}
 use Rattle.leaf_codec.specs.Raw.{RawKeys, AreRawKeys, MaySort, gap_of, place_of}
 use Rattle.leaf_codec.proofs.KeysLemmas.{AreKeysOf}
@@ -76,7 +76,7 @@ may_sort D items = record {
 pub length-rest_of : (D : ℕ) (items : List Item) (x : Item) → length (rest D items x) ≡ place_of (lengths_of D items) (sorted_number D items) D
 length-rest_of D items x =
     length-rest D items x
-    ∙ sum_agree (λ d. 4 - told (sorted_dimension D items) d items) (gap_of (lengths_of D items) (sorted_number D items)) 0 D
+    ∙ sum_agree (λ d. 4 - told_length (sorted_dimension D items) d items) (gap_of (lengths_of D items) (sorted_number D items)) 0 D
     (λ d low high. ap (λ n. 4 - n) (sym (told_is D d items (omega arith))))
 
 length-rests : (D : ℕ) (items : List Item) → length (rests D items) ≡ length items * place_of (lengths_of D items) (sorted_number D items) D
@@ -88,8 +88,9 @@ length-rests D items =
 AreBytes-rests : (D : ℕ) (items : List Item) → AreBytes (rests D items)
 unfolding rests
 AreBytes-rests D items =
-    AreBytes-flat_map (rest D items) items (λ x. AreBytes-flat_map (λ d. drop (told (sorted_dimension D items) d items) (key_of d x)) (range_with_len 0 D) (λ d.
-    All-drop (λ (n : ℕ). n < 256) (told (sorted_dimension D items) d items) (key_of d x) (AreBytes-key_of d x)))
+    AreBytes-flat_map (rest D items) items
+        (λ x. AreBytes-flat_map (λ d. drop (told_length (sorted_dimension D items) d items) (key_of d x)) (range_with_len 0 D) (λ d.
+    All-drop (λ (n : ℕ). n < 256) (told_length (sorted_dimension D items) d items) (key_of d x) (AreBytes-key_of d x)))
 
 pub raw_keys_are : (D : ℕ) (items : List Item) → 1 ≤ length items → AreRawKeys D (length items) (raw_keys D items)
 unfolding raw_keys

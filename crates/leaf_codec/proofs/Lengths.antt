@@ -13,7 +13,7 @@ use Rattle.point_codec.specs.Points.{Item}
 use Rattle.leaf_codec.specs.Dimensions.{key_of, key_byte, shared_prefix, sorted_dimension}
 use Rattle.leaf_codec.specs.Leaves.{AreLeaf}
 use Rattle.leaf_codec.specs.Spelling.{least, greatest, form, width, is_row, low_bytes, numbers, shared_bytes, prefixes}
-use Rattle.leaf_codec.specs.Spelling.{pieces, piece_bytes, sorted_bytes, sorted_part, told, rest, rests, spelling}
+use Rattle.leaf_codec.specs.Spelling.{pieces, piece_bytes, sorted_bytes, sorted_part, told_length, rest, rests, spelling}
 use Rattle.byte_cursor.specs.Vint.{vint}
 use Rattle.leaf_codec.proofs.Lists.{sum_agree}
 use Rattle.leaf_codec.proofs.NumbersLemmas.{least-le}
@@ -114,13 +114,14 @@ length-sorted_part (Some s) items =
 
 -- how many bytes of an item's keys are left
 abbrev all_left : ℕ → List Item → ℕ
-all_left D items = sum_by (λ d. 4 - told (sorted_dimension D items) d items) (range_with_len 0 D)
+all_left D items = sum_by (λ d. 4 - told_length (sorted_dimension D items) d items) (range_with_len 0 D)
 
 pub length-rest : (D : ℕ) (items : List Item) (x : Item) → length (rest D items x) ≡ all_left D items
 length-rest D items x =
-    length-flat_map (λ d. drop (told (sorted_dimension D items) d items) (key_of d x)) (range_with_len 0 D)
-    ∙ sum_agree _ (λ d. 4 - told (sorted_dimension D items) d items) 0 D (λ d low high.
-    length-drop (told (sorted_dimension D items) d items) (key_of d x) ∙ ap (λ n. n - told (sorted_dimension D items) d items) (length-key_of d x))
+    length-flat_map (λ d. drop (told_length (sorted_dimension D items) d items) (key_of d x)) (range_with_len 0 D)
+    ∙ sum_agree _ (λ d. 4 - told_length (sorted_dimension D items) d items) 0 D (λ d low high.
+    length-drop (told_length (sorted_dimension D items) d items) (key_of d x)
+        ∙ ap (λ n. n - told_length (sorted_dimension D items) d items) (length-key_of d x))
 
 length-rests : (D : ℕ) (items : List Item) → length (rests D items) ≤ length items * all_left D items
 unfolding rests
@@ -139,28 +140,29 @@ parts_of_keys D items = by (sorted_dimension D items) (λ s e. (sorted_found D i
     range = range_with_len 0 D
 
     -- what is told of a key, and what is left
-    whole : (o : Option ℕ) → ((d : ℕ) → told o d items ≤ 4) → sum_by (λ d. 4 - told o d items) range + sum_by (λ d. told o d items) range ≡ 4 * D
+    whole : (o : Option ℕ) → ((d : ℕ) → told_length o d items ≤ 4)
+        → sum_by (λ d. 4 - told_length o d items) range + sum_by (λ d. told_length o d items) range ≡ 4 * D
     whole o fits =
-        sym (sum_add (λ d. 4 - told o d items) (λ d. told o d items) range)
-        ∙ sum_agree (λ d. (4 - told o d items) + told o d items) (λ _. 4) 0 D (λ d low high. omega (arith, fits d))
+        sym (sum_add (λ d. 4 - told_length o d items) (λ d. told_length o d items) range)
+        ∙ sum_agree (λ d. (4 - told_length o d items) + told_length o d items) (λ _. 4) 0 D (λ d low high. omega (arith, fits d))
         ∙ sum_const 4 range ∙ omega (arith, length-range_with_len 0 D)
 
     flag : ℕ → ℕ → ℕ
     flag s d = cond (eqb d s) 1 0
 
-    told_some : (s d : ℕ) → told (Some s) d items ≡ shared_prefix d items + flag s d
+    told_some : (s d : ℕ) → told_length (Some s) d items ≡ shared_prefix d items + flag s d
     told_some s d = elim (cases_Bool (eqb d s)) [
       | inl same ↦ cond-true (eqb d s) (shared_prefix d items + 1) (shared_prefix d items) same ∙ ap (λ b. shared_prefix d items + cond b 1 0) (sym same)
       | inr apart ↦ cond-false (eqb d s) (shared_prefix d items + 1) (shared_prefix d items) apart ∙ omega arith
           ∙ ap (λ b. shared_prefix d items + cond b 1 0) (sym apart)
     ]
 
-    by : (o : Option ℕ) → ((s : ℕ) → o ≡ Some s → s < D) → ((d : ℕ) → told o d items ≤ 4)
-        → sum_by (λ d. 4 - told o d items) range + all_shared D items + some_sorted o ≤ 4 * D
+    by : (o : Option ℕ) → ((s : ℕ) → o ≡ Some s → s < D) → ((d : ℕ) → told_length o d items ≤ 4)
+        → sum_by (λ d. 4 - told_length o d items) range + all_shared D items + some_sorted o ≤ 4 * D
     by None within fits = omega (arith, whole None fits)
     by (Some s) within fits =
-        let split : sum_by (λ d. told (Some s) d items) range ≡ all_shared D items + sum_by (flag s) range =
-        sum_agree (λ d. told (Some s) d items) (λ d. shared_prefix d items + flag s d) 0 D (λ d low high. told_some s d)
+        let split : sum_by (λ d. told_length (Some s) d items) range ≡ all_shared D items + sum_by (flag s) range =
+        sum_agree (λ d. told_length (Some s) d items) (λ d. shared_prefix d items + flag s d) 0 D (λ d low high. told_some s d)
         ∙ sum_add (λ d. shared_prefix d items) (flag s) range in
         let at : get_or range s 0 ≡ s = get_or-range_with_len 0 D s 0 (within s refl) ∙ omega arith in
         let one : flag s (get_or range s 0) ≡ 1 = ap (λ b. cond b 1 0) (eq-eqb (get_or range s 0) s at) in

@@ -16,7 +16,7 @@ use Rattle.leaf_codec.specs.LeafOrder.{leaf_cmp}
 use Rattle.leaf_codec.specs.Leaves.{IsPoint, SpellsLeaf, SpellsLeafIn, leaf_limit}
 use Rattle.leaf_codec.specs.Spelling.{form, least}
 use Rattle.leaf_codec.specs.Raw.{RawNumbers, AreRawNumbers, RawKeys, AreRawKeys, numbers_bytes, keys_bytes, key_at, point_at, raw_docs, raw_item, raw_items}
-use Rattle.leaf_codec.specs.Views.{BeginsWithNumbers, BeginsWithKeys, AreCanonical, AreDimensionsOf, AscendInside, items_said, raw_numbers_of, raw_keys_of}
+use Rattle.leaf_codec.specs.Views.{BeginsWithNumbers, BeginsWithKeys, AreCanonNumbers, AreDimensionsOf, AscendInside, items_said, raw_numbers_of, raw_keys_of}
 use Rattle.leaf_codec.proofs.Bytes.{coordinate-fits}
 use Rattle.leaf_codec.proofs.ItemsDecoded.{docs, items_decoded, leaf_spelled, length-point_at, raw_item_is}
 use Rattle.leaf_codec.proofs.KeysAgain.{keys_again}
@@ -83,17 +83,17 @@ said_are D count at b cell items n p h begins keys =
     (λ i. raw_items D (long i) ((after_numbers D count at b cell items n h begins).0 i) (raw_keys_of p))
     ∙ items_decoded D items (raw_keys_of p) raw (after_keys D count at b cell items n p h begins keys) leaf.numbers leaf.points
 
-canonical : (ns : List ℕ) → All (λ n. n < 2 ^ 24) ns → AreCanonical (length ns) (raw_numbers ns)
+canonical : (ns : List ℕ) → All (λ n. n < 2 ^ 24) ns → AreCanonNumbers (length ns) (raw_numbers ns)
 canonical ns small =
     let again = docs_again ns small in
     record { form_is = ap form again; least_is = ap least again; small = subst (λ (t : List ℕ). All (λ n. n < 2 ^ 24) t) (sym again) small }
 
 pub canonical_of : (D count at : ℕ) (b : List ℕ) (cell : Region) (items : List Item) (n : Numbers) → SpellsLeafIn D b count cell items
-    → BeginsWithNumbers b count n at → AreCanonical n.count (raw_numbers_of n)
+    → BeginsWithNumbers b count n at → AreCanonNumbers n.count (raw_numbers_of n)
 canonical_of D count at b cell items n h begins =
     let long : length (docs items) ≡ n.count = length-map items (λ (x : Item). x.doc) ∙ h.counted ∙ sym begins.counted in
-    subst (λ (r : RawNumbers). AreCanonical n.count r) (sym (after_numbers D count at b cell items n h begins).0)
-    (subst (λ (k : ℕ). AreCanonical k (raw_numbers (docs items))) long (canonical (docs items) (small_docs items h.spells.are_leaf.numbers)))
+    subst (λ (r : RawNumbers). AreCanonNumbers n.count r) (sym (after_numbers D count at b cell items n h begins).0)
+    (subst (λ (k : ℕ). AreCanonNumbers k (raw_numbers (docs items))) long (canonical (docs items) (small_docs items h.spells.are_leaf.numbers)))
 
 pub dimensions_of : (D count at : ℕ) (b : List ℕ) (cell : Region) (items : List Item) (n : Numbers) (p : Parts) → SpellsLeafIn D b count cell items
     → BeginsWithNumbers b count n at → BeginsWithKeys (drop at b) D count p
@@ -146,7 +146,7 @@ point_is D n i r h here = record {
 
 pub spelled_from : (D count at : ℕ) (b : List ℕ) (cell : Region) (n : Numbers) (p : Parts) → 1 ≤ count → count ≤ leaf_limit D
     → BeginsWithNumbers b count n at → BeginsWithKeys (drop at b) D count p
-    → AreCanonical n.count (raw_numbers_of n) → AreDimensionsOf D (raw_items D p.count (raw_numbers_of n) (raw_keys_of p)) p.lengths.now p.sorted
+    → AreCanonNumbers n.count (raw_numbers_of n) → AreDimensionsOf D (raw_items D p.count (raw_numbers_of n) (raw_keys_of p)) p.lengths.now p.sorted
     → AscendInside (if nat_lt p.sorted D then p.sorted else 0) cell (items_said D n p)
     → SpellsLeafIn D b count cell (items_said D n p)
 spelled_from D count at b cell n p some few begins keys right dims order =

@@ -9,7 +9,7 @@ use Rattle.std.proofs.lemmas.List.FromFn.{get_or-map-range_with_len, length-map-
 use Rattle.leaf_codec.specs.Spelling.{least, greatest, is_row}
 use Rattle.leaf_codec.specs.Words.{number_of, AreBytes}
 use Rattle.leaf_codec.specs.Raw.{RawNumbers, AreRawNumbers, offset_at, raw_docs}
-use Rattle.leaf_codec.specs.Views.{IsSpan, AreEnds}
+use Rattle.leaf_codec.specs.Views.{IsSpan, AreBounds}
 use Rattle.leaf_codec.proofs.Bytes.{word_masked, number_of-lt}
 use Rattle.leaf_codec.proofs.NumbersLemmas.{least-le, le-greatest, row_true, row_false}
 use Rattle.std.proofs.lemmas.List.{get_or_default}
@@ -91,7 +91,7 @@ wide_read count r words step mask i h wide lt =
 
 -- ---- the ends and the span
 
-pub ends_one : (r : RawNumbers) (m : ℕ) → m ≡ offset_at r 0 → AreEnds 1 r m m
+pub ends_one : (r : RawNumbers) (m : ℕ) → m ≡ offset_at r 0 → AreBounds 1 r m m
 ends_one r m is = record {
   below = λ i lt. first i lt (λ k. m ≤ offset_at r k) (omega (arith, is));
   reached_low = (0, omega arith, sym is);
@@ -107,8 +107,8 @@ ends_one r m is = record {
 one_more : (P : ℕ → Type 0) (n : ℕ) → ((i : ℕ) → i < n → P i) → P n → (i : ℕ) → i < n + 1 → P i
 one_more P n below here i lt = below_more P n below here i lt
 
-pub ends_more : (n : ℕ) (r : RawNumbers) (low top m low' top' : ℕ) → AreEnds n r low top → m ≡ offset_at r n → low' ≡ min low m → top' ≡ max top m
-    → AreEnds (n + 1) r low' top'
+pub ends_more : (n : ℕ) (r : RawNumbers) (low top m low' top' : ℕ) → AreBounds n r low top → m ≡ offset_at r n → low' ≡ min low m → top' ≡ max top m
+    → AreBounds (n + 1) r low' top'
 ends_more n r low top m low' top' e is low_is top_is = record {
   below = one_more (λ i. low' ≤ offset_at r i) n (λ i lt. omega (arith, e.below i lt)) (omega arith);
   reached_low = elim (cases_lt m low) [
@@ -122,7 +122,7 @@ ends_more n r low top m low' top' e is low_is top_is = record {
   ];
 }
 
-pub span_of : (n : ℕ) (r : RawNumbers) (low top : ℕ) (row : Bool) → AreEnds n r low top
+pub span_of : (n : ℕ) (r : RawNumbers) (low top : ℕ) (row : Bool) → AreBounds n r low top
     → (row ≡ true → (i : ℕ) → i < n → offset_at r i ≡ i) → (row ≡ false → (i : ℕ) × (i < n) × (offset_at r i ≢ i)) → IsSpan n r top (eqb low 0) row
 span_of n r low top row e each other = record {
   above = e.above;

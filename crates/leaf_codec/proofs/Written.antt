@@ -9,7 +9,7 @@ use Rattle.std.proofs.lemmas.List.FromFn.{get_or-map-range_with_len}
 use Rattle.std.proofs.lemmas.List.Sums.{prefix_len-le-length}
 use Rattle.point_codec.specs.Points.{Item}
 use Rattle.leaf_codec.specs.Dimensions.{key_of, shared_prefix, sorted_dimension, told_of, different}
-use Rattle.leaf_codec.specs.Spelling.{told, rest, shared_bytes}
+use Rattle.leaf_codec.specs.Spelling.{told_length, rest, shared_bytes}
 use Rattle.leaf_codec.proofs.Lists.{flat_map_agree}
 use Rattle.leaf_codec.proofs.Permuted.{sorted_found}
 
@@ -32,10 +32,10 @@ one_if : Bool → ℕ
 one_if b = cond b 1 0
 
 -- how many bytes of a key stand before the rests
-pub told_is : (D d : ℕ) (items : List Item) → d < D → told_of (lengths_of D items) (sorted_number D items) d ≡ told (sorted_dimension D items) d items
+pub told_is : (D d : ℕ) (items : List Item) → d < D → told_of (lengths_of D items) (sorted_number D items) d ≡ told_length (sorted_dimension D items) d items
 told_is D d items lt = ap (λ n. n + cond (eqb d (sorted_number D items)) 1 0) (get_or-lengths D d items lt) ∙ by (sorted_dimension D items)
   where
-    by : (o : Option ℕ) → shared_prefix d items + cond (eqb d (unwrap_or o D)) 1 0 ≡ told o d items
+    by : (o : Option ℕ) → shared_prefix d items + cond (eqb d (unwrap_or o D)) 1 0 ≡ told_length o d items
     by None = ap (λ b. shared_prefix d items + cond b 1 0) (ne_eqb d D (λ e. absurd (omega arith))) ∙ omega arith
     by (Some s) = elim (cases_Bool (eqb d s)) [
       | inl same ↦ ap (λ b. shared_prefix d items + cond b 1 0) same ∙ sym (cond-true (eqb d s) (shared_prefix d items + 1) (shared_prefix d items) same)
@@ -44,10 +44,10 @@ told_is D d items lt = ap (λ n. n + cond (eqb d (sorted_number D items)) 1 0) (
     ]
 
 -- they are at most the whole key
-pub told-le : (D d : ℕ) (items : List Item) → told (sorted_dimension D items) d items ≤ 4
+pub told-le : (D d : ℕ) (items : List Item) → told_length (sorted_dimension D items) d items ≤ 4
 told-le D d items = by (sorted_dimension D items) (λ s e. ltb-true _ _ (sorted_found D items s e).0)
   where
-    by : (o : Option ℕ) → ((s : ℕ) → o ≡ Some s → shared_prefix s items < 4) → told o d items ≤ 4
+    by : (o : Option ℕ) → ((s : ℕ) → o ≡ Some s → shared_prefix s items < 4) → told_length o d items ≤ 4
     by None h = shared_prefix-le d items
     by (Some s) h = elim (cases_Bool (eqb d s)) [
       | inl same ↦ omega

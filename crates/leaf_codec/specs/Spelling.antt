@@ -88,13 +88,13 @@ sorted_part (Some s) items = s ∷ sorted_bytes (map (key_byte s (shared_prefix 
 -- ---- the rests
 
 -- how many bytes of the keys in d stand before the rests: the shared prefix, and of the sorted dimension one more
-abbrev pub told : Option ℕ → ℕ → List Item → ℕ
-told None d items = shared_prefix d items
-told (Some s) d items = if d == s then shared_prefix d items + 1 else shared_prefix d items
+abbrev pub told_length : Option ℕ → ℕ → List Item → ℕ
+told_length None d items = shared_prefix d items
+told_length (Some s) d items = if d == s then shared_prefix d items + 1 else shared_prefix d items
 
 -- what is left of the item's keys
 abbrev pub rest : ℕ → List Item → Item → List ℕ
-rest D items x = flat_map (λ d. drop (told (sorted_dimension D items) d items) (key_of d x)) (range_with_len 0 D)
+rest D items x = flat_map (λ d. drop (told_length (sorted_dimension D items) d items) (key_of d x)) (range_with_len 0 D)
 
 unfoldable pub rests : ℕ → List Item → List ℕ
 rests D items = flat_map (rest D items) items

@@ -27,7 +27,7 @@ pub record IsNumbers (n : Numbers) : Type 0 where
   pub mask : n.mask ≡ 256 ^ n.width - 1
 
 -- the fields are those of the numbers that they say, which are document numbers
-pub record AreCanonical (count : ℕ) (r : RawNumbers) : Type 0 where
+pub record AreCanonNumbers (count : ℕ) (r : RawNumbers) : Type 0 where
   pub form_is : form (raw_docs count r) ≡ r.width
   pub least_is : least (raw_docs count r) ≡ r.least
   pub small : All (λ d. d < 2 ^ 24) (raw_docs count r)
@@ -41,7 +41,7 @@ pub record BeginsWithNumbers (leaf : List ℕ) (count : ℕ) (n : Numbers) (at :
   pub parts : leaf ≡ to_be_bytes w16 count ++ (numbers_bytes (raw_numbers_of n) ++ drop at leaf)
 
 -- the least and the greatest of the first n numbers, each less the one that is said to be the least
-pub record AreEnds (n : ℕ) (r : RawNumbers) (low top : ℕ) : Type 0 where
+pub record AreBounds (n : ℕ) (r : RawNumbers) (low top : ℕ) : Type 0 where
   pub below : (i : ℕ) → i < n → low ≤ offset_at r i
   pub reached_low : (i : ℕ) × (i < n) × (offset_at r i ≡ low)
   pub above : (i : ℕ) → i < n → offset_at r i ≤ top

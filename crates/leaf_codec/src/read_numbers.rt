@@ -5,7 +5,8 @@ ghost use Rattle.std.specs.Prelude.{IsSome, IsTrue};
 ghost use Rattle.std.specs.Int.{w16, to_be_bytes};
 ghost use Rattle.byte_cursor.specs.Vint.{vint};
 ghost use Rattle.leaf_codec.specs.Raw.{RawNumbers, AreRawNumbers, numbers_bytes, offset_at};
-ghost use Rattle.leaf_codec.specs.Views.{raw_numbers_of, IsNumbers, AreCanonical, BeginsWithNumbers, IsSpan, AreEnds};
+ghost use Rattle.leaf_codec.specs.Views.{raw_numbers_of, IsNumbers, AreCanonNumbers, BeginsWithNumbers, IsSpan};
+ghost use Rattle.leaf_codec.specs.Views.{AreBounds};
 
 use crate::words::{mask, word};
 use crate::write_numbers::width;
@@ -64,7 +65,7 @@ impl<'a> Numbers<'a> {
     pub fn are_canonical(&self) -> bool
         requires numbers { IsNumbers self.now }
         requires some { 1 ≤ self.now.count }
-        ensures { IsTrue result ↔ AreCanonical self.now.count (raw_numbers_of self.now) }
+        ensures { IsTrue result ↔ AreCanonNumbers self.now.count (raw_numbers_of self.now) }
     {
         if self.width == 0 {
             return self.number(self.count - 1) < 1 << 24;
@@ -106,7 +107,7 @@ impl<'a> Numbers<'a> {
         requires numbers { IsNumbers self.now }
         requires wide { self.now.width ≢ 0 }
         requires some { 1 ≤ self.now.count }
-        ensures { AreEnds self.now.count (raw_numbers_of self.now) result.0 result.1 }
+        ensures { AreBounds self.now.count (raw_numbers_of self.now) result.0 result.1 }
     {
         let first = self.wide_offset(0);
         let mut least = first;

@@ -12,7 +12,7 @@ use Rattle.std.proofs.lemmas.List.Folds.{length-prefix_len, prefix_len-append}
 use Rattle.std.proofs.lemmas.List.Sums.{prefix_len_stops}
 use Rattle.script_lang.specs.Lines.{lines_of}
 use Rattle.script_lang.proofs.LinesOf.{line_ended, last_taken}
-use Rattle.line_source.specs.Reader.{Gives, GivesLine, Holds, KnowsEnd, TakesPart, kept, lines_left, waiting}
+use Rattle.line_source.specs.Reader.{Gives, GivesLine, HoldsBytes, KnowsEnd, TakesPart, kept_bytes, lines_left, waiting}
 use Rattle.line_source.specs.declared.reader.LineReader.{LineReader}
 
 -- no byte is 10
@@ -47,17 +47,17 @@ pub short_or_long : (n m : ℕ) → (n ≤ m) ⊎ (m ≤ n)
 short_or_long n m = grind arith
 
 -- keeping less of a line first keeps the same
-pub kept_twice : (xs ys : List ℕ) → kept (kept xs ++ ys) ≡ kept (xs ++ ys)
-kept_twice xs ys = elim (short_or_long (length xs) 4194306) as (λ _. kept (kept xs ++ ys) ≡ kept (xs ++ ys)) [
-  | inl short ↦ ap (λ zs. kept (zs ++ ys)) (take_all 4194306 xs short)
+pub kept_twice : (xs ys : List ℕ) → kept_bytes (kept_bytes xs ++ ys) ≡ kept_bytes (xs ++ ys)
+kept_twice xs ys = elim (short_or_long (length xs) 4194306) as (λ _. kept_bytes (kept_bytes xs ++ ys) ≡ kept_bytes (xs ++ ys)) [
+  | inl short ↦ ap (λ zs. kept_bytes (zs ++ ys)) (take_all 4194306 xs short)
   | inr long ↦
-      let all : length (kept xs) ≡ 4194306 = length-take-le 4194306 xs long in
-      take-append-le 4194306 (kept xs) ys (omega (arith, all)) ∙ take-take 4194306 4194306 xs (omega arith) ∙ sym (take-append-le 4194306 xs ys long)
+      let all : length (kept_bytes xs) ≡ 4194306 = length-take-le 4194306 xs long in
+      take-append-le 4194306 (kept_bytes xs) ys (omega (arith, all)) ∙ take-take 4194306 4194306 xs (omega arith) ∙ sym (take-append-le 4194306 xs ys long)
 ]
 
 -- what was kept of a line and as much of a part as there is room for is what is kept of both
-pub kept_more : (xs ys : List ℕ) (n m : ℕ) → m ≡ length xs → m ≤ 4194306 → n ≡ min (length ys) (4194306 - m) → xs ++ take n ys ≡ kept (xs ++ ys)
-kept_more xs ys n m is few n-is = elim (short_or_long (length ys) (4194306 - m)) as (λ _. xs ++ take n ys ≡ kept (xs ++ ys)) [
+pub kept_more : (xs ys : List ℕ) (n m : ℕ) → m ≡ length xs → m ≤ 4194306 → n ≡ min (length ys) (4194306 - m) → xs ++ take n ys ≡ kept_bytes (xs ++ ys)
+kept_more xs ys n m is few n-is = elim (short_or_long (length ys) (4194306 - m)) as (λ _. xs ++ take n ys ≡ kept_bytes (xs ++ ys)) [
   | inl short ↦
       let all : n ≡ length ys = omega (arith, n-is, short) in
       let long = length-append xs ys in
@@ -118,7 +118,7 @@ seam xs n is there =
     sym (take-append-drop n xs) ∙ ap (λ ys. take n xs ++ ys) (drop_next xs n there ∙ ap (λ b. b ∷ drop (n + 1) xs) (is_ten (get_or xs n 0) stops))
 
 module _ (old new : LineReader) (seen bytes : List ℕ) (n : ℕ) (at : n ≡ position_or_len (λ b. b == 10) (waiting old))
-    (are : bytes ≡ kept (seen ++ take n (waiting old))) (ended : new.has_ended ≡ old.has_ended) where
+    (are : bytes ≡ kept_bytes (seen ++ take n (waiting old))) (ended : new.has_ended ≡ old.has_ended) where
   pub takes_whole : n < length (waiting old) → waiting new ≡ drop (n + 1) (waiting old) → TakesPart old new seen bytes true
   takes_whole there rest = record {
     part = take n (waiting old);
@@ -147,13 +147,13 @@ waits_some r some =
 
 module _ (old new : LineReader) (seen bytes line items : List ℕ) (n : ℕ) (same : items ≡ old.piece.items)
     (at : n ≡ position_or_len (λ b. b == 10) (take (old.end - old.at) (drop old.at items)))
-    (got : bytes ≡ kept (line ++ take n (take (old.end - old.at) (drop old.at items)))) (are : line ≡ kept seen)
+    (got : bytes ≡ kept_bytes (line ++ take n (take (old.end - old.at) (drop old.at items)))) (are : line ≡ kept_bytes seen)
     (piece : new.piece ≡ old.piece) (end : new.end ≡ old.end) (ended : new.has_ended ≡ old.has_ended) where
   at_here : n ≡ position_or_len (λ b. b == 10) (waiting old)
   at_here = at ∙ ap (λ xs. position_or_len (λ b. b == 10) (take (old.end - old.at) (drop old.at xs))) same
 
-  got_here : bytes ≡ kept (seen ++ take n (waiting old))
-  got_here = got ∙ (λ i. kept (are i ++ take n (take (old.end - old.at) (drop old.at (same i))))) ∙ kept_twice seen (take n (waiting old))
+  got_here : bytes ≡ kept_bytes (seen ++ take n (waiting old))
+  got_here = got ∙ (λ i. kept_bytes (are i ++ take n (take (old.end - old.at) (drop old.at (same i))))) ∙ kept_twice seen (take n (waiting old))
 
   pub took_whole : n < length (take (old.end - old.at) (drop old.at items)) → new.at ≡ old.at + (n + 1) → TakesPart old new seen bytes true
   took_whole there on =
@@ -176,7 +176,7 @@ module _ (old new : LineReader) (seen bytes line items : List ℕ) (n : ℕ) (sa
 pub record IsReading (told : Type 0) (old : LineReader) (before : List ℕ) (r : LineReader) (left bytes : List ℕ) (is_begun : Bool) : Type 0 where
   pub seen : List ℕ
   pub plain : IsPlain seen
-  pub bytes_are : bytes ≡ kept seen
+  pub bytes_are : bytes ≡ kept_bytes seen
   pub begun : is_begun ≡ true → 0 < length seen
   pub unbegun : is_begun ≡ false → seen ≡ []
   pub whole : told → KnowsEnd old before → lines_left old before ≡ lines_of (seen ++ (waiting r ++ left))
@@ -196,11 +196,11 @@ reading_first told r left bytes none = record {
 module _ (told : Type 0) (old : LineReader) (before : List ℕ) (r s : LineReader) (left now bytes : List ℕ) (is_begun : Bool)
     (so_far : IsReading told old before r left bytes is_begun) where
   -- more is held
-  held_on : (is_more : Bool) → (told → KnowsEnd r left → Holds s (waiting r ++ left) now is_more) → told → KnowsEnd old before
+  held_on : (is_more : Bool) → (told → KnowsEnd r left → HoldsBytes s (waiting r ++ left) now is_more) → told → KnowsEnd old before
       → lines_left old before ≡ lines_of (so_far.seen ++ (waiting s ++ now))
   held_on is_more h t knows = so_far.whole t knows ∙ ap (λ b. lines_of (so_far.seen ++ b)) (h t (so_far.ended t knows)).whole
 
-  module _ (u : LineReader) (after : List ℕ) (h : told → KnowsEnd r left → Holds s (waiting r ++ left) now true) where
+  module _ (u : LineReader) (after : List ℕ) (h : told → KnowsEnd r left → HoldsBytes s (waiting r ++ left) now true) where
     -- a part of it is taken that doesn't end the line
     pub reading_on : TakesPart s u so_far.seen after false → 0 < length (waiting s) → IsReading told old before u now after true
     reading_on taken some = record {
@@ -228,7 +228,7 @@ module _ (told : Type 0) (old : LineReader) (before : List ℕ) (r s : LineReade
       ended = λ t knows e. (h t (so_far.ended t knows)).ended (sym taken.ended ∙ e);
     }
 
-  module _ (h : told → KnowsEnd r left → Holds s (waiting r ++ left) now false) where
+  module _ (h : told → KnowsEnd r left → HoldsBytes s (waiting r ++ left) now false) where
     all_seen : told → KnowsEnd old before → lines_left old before ≡ lines_of so_far.seen
     all_seen t knows =
         let none = (h t (so_far.ended t knows)).none refl in

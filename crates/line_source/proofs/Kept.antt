@@ -7,7 +7,7 @@ use Rattle.std.proofs.lemmas.List.{length-take-le, take_all}
 use Rattle.script_lang.specs.Reading.{on_success, read, read_words, text_of}
 use Rattle.script_lang.specs.Lines.{words_of}
 use Rattle.script_lang.specs.declared.faults.LineFault.TheVariants as fault
-use Rattle.line_source.specs.Reader.{kept}
+use Rattle.line_source.specs.Reader.{kept_bytes}
 use Rattle.line_source.proofs.Cuts.{short_or_long}
 
 one_less : (b : Bool) (line : List ℕ) → length line ≤ length (if b then take (length line - 1) line else line) + 1
@@ -21,13 +21,13 @@ too_long line long =
     let above : nat_lt 4194304 (length (strip_carriage_return line)) ≡ true = grind (arith, nat_tests) in
     rw above refl
 
-pub kept_text : (line : List ℕ) → text_of (kept line) ≡ text_of line
-kept_text line = elim (short_or_long (length line) 4194306) as (λ _. text_of (kept line) ≡ text_of line) [
+pub kept_text : (line : List ℕ) → text_of (kept_bytes line) ≡ text_of line
+kept_text line = elim (short_or_long (length line) 4194306) as (λ _. text_of (kept_bytes line) ≡ text_of line) [
   | inl short ↦ ap text_of (take_all 4194306 line short)
-  | inr long ↦ too_long (kept line) (let all = length-take-le 4194306 line long in omega (arith, all)) ∙ sym (too_long line long)
+  | inr long ↦ too_long (kept_bytes line) (let all = length-take-le 4194306 line long in omega (arith, all)) ∙ sym (too_long line long)
 ]
 
 -- it is too long just where the line is, and else it is the line
-pub kept_reads : (dims : Option ℕ) (line : List ℕ) → read dims (kept line) ≡ read dims line
+pub kept_reads : (dims : Option ℕ) (line : List ℕ) → read dims (kept_bytes line) ≡ read dims line
 unfolding read
 kept_reads dims line = ap (λ text. on_success text (λ words. read_words dims (words_of words) words)) (kept_text line)

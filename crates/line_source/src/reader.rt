@@ -31,11 +31,11 @@ impl LineReader {
     ghost use Rattle.std.specs.Prelude.{◌∷◌, [], IsErrOf};
     ghost use Rattle.outer_io.specs.Faults.{HasCause};
     ghost use Rattle.line_source.specs.Faults.{HasReadCause};
-    ghost use Rattle.line_source.specs.Reader.{Gives, Holds, IsNew, KnowsEnd, TakesPart, kept, waiting};
+    ghost use Rattle.line_source.specs.Reader.{Gives, HoldsBytes, IsUnread, KnowsEnd, TakesPart, kept_bytes, waiting};
 
     /// A reader that has read nothing. It takes memory for one piece.
     pub fn new(alloc: Global) -> Result<LineReader, AllocError>
-        ensures { IfOk result IsNew }
+        ensures { IfOk result IsUnread }
     {
         Ok(LineReader {
             piece: vec![in alloc; 0; PIECE]?,
@@ -69,7 +69,7 @@ impl LineReader {
                 return Ok(is_begun);
             }
             is_begun = true;
-            if self.take(line)? {
+            if self.extend_line(line)? {
                 return Ok(true);
             }
         }
@@ -79,7 +79,7 @@ impl LineReader {
     /// Reads a piece where nothing is held. False at the end of the source.
     fn hold<S: Source>(&mut self, source: &mut S) -> Result<bool, Failed>
         ensures holds { IsTrue S.told → KnowsEnd self.old (S.left source.old)
-            → IfOk result (Holds self.new (waiting self.old ++ S.left source.old) (S.left source.new)) }
+            → IfOk result (HoldsBytes self.new (waiting self.old ++ S.left source.old) (S.left source.new)) }
         ensures some { IfOk result (λ is_more. is_more ≡ true → self.new.at < self.new.end) }
         ensures cause { HasCause (S.faults source.old) (S.faults source.new) result }
     {
@@ -98,10 +98,10 @@ impl LineReader {
 
     /// Takes what is held up to a byte 10 and with it, or all that is held, to the end of a line. True where a byte 10
     /// was there.
-    fn take(&mut self, line: &mut Vec<u8>) -> Result<bool, AllocError>
+    fn extend_line(&mut self, line: &mut Vec<u8>) -> Result<bool, AllocError>
         requires some { self.old.at < self.old.end }
         requires kept { length line.old.items ≤ 4194306 }
-        ensures takes { (seen : List ℕ) → line.old.items ≡ kept seen
+        ensures takes { (seen : List ℕ) → line.old.items ≡ kept_bytes seen
             → IfOk result (TakesPart self.old self.new seen line.new.items) }
         ensures kept { length line.new.items ≤ 4194306 }
     {

@@ -12,8 +12,8 @@ use Rattle.std.proofs.lemmas.List.Filters.{length-filter_both}
 use Rattle.std.proofs.lemmas.List.Folds.{list_any_at, list_any_none}
 use Rattle.std.proofs.lemmas.List.Kept.{AllPairs-from_increasing, IsStrictlyIncreasing-filter}
 use Rattle.std.proofs.lemmas.Map.Views.{any-filter_same}
-use Rattle.live_bits.specs.LiveSet.{LiveSet, is_live, without, IsLiveSet}
-use Rattle.live_bits.specs.LiveBody.{is_set, numbers_from, live_in, live_set, IsStored}
+use Rattle.live_bits.specs.LiveSet.{LiveSet, is_live, live_set_without, IsLiveSet}
+use Rattle.live_bits.specs.LiveBody.{is_set, numbers_from, live_in, live_set, AreCountedBits}
 
 -- ---- the numbers of a span
 
@@ -119,7 +119,7 @@ live_in-cleared base span doc bits new above cleared =
     cleared (n - base) ∙ ap (λ (x : Bool). is_set bits (n - base) && not x) same)
     ∙ sym (filter-filter (λ (n : ℕ). is_set bits (n - base)) (λ (n : ℕ). not (nat_eq n doc)) (numbers_from base span))
 
-pub is_live-without : (s : LiveSet) (doc n : ℕ) → is_live (without doc s) n ≡ (is_live s n && not (nat_eq n doc))
+pub is_live-without : (s : LiveSet) (doc n : ℕ) → is_live (live_set_without doc s) n ≡ (is_live s n && not (nat_eq n doc))
 unfolding is_live
 is_live-without s doc n =
     any-filter_same (λ (d : ℕ). nat_eq d n) (λ (m : ℕ). not (nat_eq m doc)) (not (nat_eq n doc)) (λ k t. ap (λ (m : ℕ). not (nat_eq m doc)) (eqb-true k n t))
@@ -144,7 +144,7 @@ once doc (x ∷ xs) rises has =
           ap (λ (b : Bool). length (cond b (x ∷ others) others)) (ne_eqb x doc ne) ∙ once doc xs rest_rises in_rest
     ]
 
-pub length-without : (s : LiveSet) (doc : ℕ) → IsLiveSet s → is_live s doc ≡ true → length (without doc s).live + 1 ≡ length s.live
+pub length-without : (s : LiveSet) (doc : ℕ) → IsLiveSet s → is_live s doc ≡ true → length (live_set_without doc s).live + 1 ≡ length s.live
 unfolding is_live
 length-without s doc h has =
     let one = once doc s.live (AllPairs-from_increasing s.live h.ascending) has in
@@ -158,11 +158,11 @@ all_kept doc (x ∷ xs) none =
     ap (λ (b : Bool). cond (not b) (x ∷ filter (λ (n : ℕ). not (nat_eq n doc)) xs) (filter (λ (n : ℕ). not (nat_eq n doc)) xs)) parts.0
     ∙ ap (λ (r : List ℕ). x ∷ r) (all_kept doc xs parts.1)
 
-pub without-dead : (s : LiveSet) (doc : ℕ) → is_live s doc ≡ false → without doc s ≡ s
+pub without-dead : (s : LiveSet) (doc : ℕ) → is_live s doc ≡ false → live_set_without doc s ≡ s
 unfolding is_live
 without-dead s doc dead = let kept = all_kept doc s.live dead in λ i. record { base = s.base; span = s.span; live = kept i }
 
-pub IsLiveSet-without : (s : LiveSet) (doc : ℕ) → IsLiveSet s → IsLiveSet (without doc s)
+pub IsLiveSet-without : (s : LiveSet) (doc : ℕ) → IsLiveSet s → IsLiveSet (live_set_without doc s)
 IsLiveSet-without s doc h = record {
   limit = h.limit;
   within = All-filter (λ (n : ℕ). not (nat_eq n doc)) (λ (n : ℕ). (s.base ≤ n) × (n < s.base + s.span)) s.live h.within;
@@ -200,12 +200,12 @@ pub record IsCleared (base doc : ℕ) (old new : List ℕ) : Type 0 where
   pub bits : (j : ℕ) → is_set new j ≡ (is_set old j && not (nat_eq j (doc - base)))
 
 pub cleared_view : (base span doc : ℕ) (old new : List ℕ) → base ≤ doc → IsCleared base doc old new
-    → live_set base span new ≡ without doc (live_set base span old)
+    → live_set base span new ≡ live_set_without doc (live_set base span old)
 cleared_view base span doc old new above h =
     let live = live_in-cleared base span doc old new above h.bits in λ i. record { base = base; span = span; live = live i }
 
-pub cleared_stored : (base span count doc : ℕ) (old new : List ℕ) → IsStored base span count old → is_live (live_set base span old) doc ≡ true
-    → IsCleared base doc old new → IsStored base span (count - 1) new
+pub cleared_stored : (base span count doc : ℕ) (old new : List ℕ) → AreCountedBits base span count old → is_live (live_set base span old) doc ≡ true
+    → IsCleared base doc old new → AreCountedBits base span (count - 1) new
 cleared_stored base span count doc old new stored live h =
     let bounds = live_bounds base span old doc live in
     let fewer = length-without (live_set base span old) doc (live_set_is base span old stored.are_bits.limit) live in
@@ -220,7 +220,7 @@ cleared_stored base span count doc old new stored live h =
       counted = omega (arith, fewer, ap length numbers);
     }
 
-pub stored_some : (base span count doc : ℕ) (bits : List ℕ) → IsStored base span count bits → is_live (live_set base span bits) doc ≡ true → 1 ≤ count
+pub stored_some : (base span count doc : ℕ) (bits : List ℕ) → AreCountedBits base span count bits → is_live (live_set base span bits) doc ≡ true → 1 ≤ count
 stored_some base span count doc bits stored live =
     let fewer = length-without (live_set base span bits) doc (live_set_is base span bits stored.are_bits.limit) live in
     let counted = stored.counted in

@@ -60,6 +60,6 @@ HasNoSet segment generation bytes = (s : LiveSet) → IsLiveBody segment generat
 abbrev pub live_set : ℕ → ℕ → List ℕ → LiveSet
 live_set base span bits = record { base = base; span = span; live = live_in base span bits }
 
-pub record IsStored (base span count : ℕ) (bits : List ℕ) : Type 0 where
+pub record AreCountedBits (base span count : ℕ) (bits : List ℕ) : Type 0 where
   pub are_bits : AreBits base span bits
   pub counted : count ≡ length (live_in base span bits)

@@ -14,8 +14,8 @@ unfoldable pub is_live : LiveSet → ℕ → Bool
 is_live s n = list_any (λ d. nat_eq d n) s.live
 
 -- the set without one number; base and span stay
-abbrev pub without : ℕ → LiveSet → LiveSet
-without doc s = record { base = s.base; span = s.span; live = filter (λ n. not (nat_eq n doc)) s.live }
+abbrev pub live_set_without : ℕ → LiveSet → LiveSet
+live_set_without doc s = record { base = s.base; span = s.span; live = filter (λ n. not (nat_eq n doc)) s.live }
 
 -- what each set keeps; there are at most 16,777,216 document numbers
 pub record IsLiveSet (s : LiveSet) : Type 0 where

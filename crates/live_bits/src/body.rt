@@ -4,7 +4,7 @@ ghost use Rattle.std.specs.Prelude.{◌≡◌, ◌≢◌, ◌<◌, ◌^◌, ◌+
 ghost use Rattle.std.specs.Bool.{OnTrue, OnFalse};
 ghost use Rattle.std.specs.Int.{w32, w64, to_be_bytes};
 ghost use Rattle.byte_cursor.specs.Cursor.{cursor_rest};
-ghost use Rattle.live_bits.specs.LiveBody.{head, live_set, IsLiveBody, IsStored, HasNoSet};
+ghost use Rattle.live_bits.specs.LiveBody.{head, live_set, IsLiveBody, AreCountedBits, HasNoSet};
 
 use crate::bits::{count_set, is_filled};
 use crate::fault::Memory;
@@ -32,7 +32,7 @@ pub(crate) struct Sizes {
 /// such body.
 pub(crate) fn parse(segment: u64, generation: u64, body: &[u8]) -> Option<(Sizes, &[u8])>
     ensures some { IfSome result (λ p. IsLiveBody segment generation (live_set p.0.base p.0.span p.1.now) body.now) }
-    ensures stored { IfSome result (λ p. IsStored p.0.base p.0.span p.0.count p.1.now) }
+    ensures stored { IfSome result (λ p. AreCountedBits p.0.base p.0.span p.0.count p.1.now) }
     ensures none { IfNone result (HasNoSet segment generation body.now) }
 {
     let (sizes, bits) = fields_of(segment, generation, body)?;
@@ -103,7 +103,7 @@ pub(crate) fn spell(
     sizes: Sizes,
     bits: &[u8],
 ) -> Result<Bytes, Memory>
-    requires { IsStored sizes.base sizes.span sizes.count bits.now }
+    requires { AreCountedBits sizes.base sizes.span sizes.count bits.now }
     ensures { IfOk result (IsLiveBody segment generation (live_set sizes.base sizes.span bits.now)) }
 {
     let mut out = Vec::with_capacity(alloc, HEAD_LEN.saturating_add(bits.len()))?;

@@ -1,7 +1,7 @@
 //! Laws of live sets and their bodies. Each function has an empty body: its contract is the law.
 
 ghost use Rattle.std.specs.Prelude.{◌≡◌, ◌+◌, ◌&&◌, ◌↔◌, ℕ, List, true, false, not, nat_eq, length};
-ghost use Rattle.live_bits.specs.LiveSet.{LiveSet, IsLiveSet, is_live, without};
+ghost use Rattle.live_bits.specs.LiveSet.{LiveSet, IsLiveSet, is_live, live_set_without};
 ghost use Rattle.live_bits.specs.LiveBody.{IsLiveBody};
 
 /// Bytes are the body of one set at most, and a set has one body at most, for a segment and a generation.
@@ -14,11 +14,12 @@ pub fn bodies_are_unique()
 
 /// The set without a number has all the others, and one fewer where the number was live.
 pub fn clearing_takes_one_out()
-    ensures others { (s : LiveSet) (doc n : ℕ) → is_live (without doc s) n ≡ (is_live s n && not (nat_eq n doc)) }
+    ensures others { (s : LiveSet) (doc n : ℕ)
+        → is_live (live_set_without doc s) n ≡ (is_live s n && not (nat_eq n doc)) }
     ensures count { (s : LiveSet) (doc : ℕ) → IsLiveSet s → is_live s doc ≡ true
-        → length (without doc s).live + 1 ≡ length s.live }
-    ensures dead { (s : LiveSet) (doc : ℕ) → is_live s doc ≡ false → without doc s ≡ s }
-    ensures set { (s : LiveSet) (doc : ℕ) → IsLiveSet s → IsLiveSet (without doc s) }
+        → length (live_set_without doc s).live + 1 ≡ length s.live }
+    ensures dead { (s : LiveSet) (doc : ℕ) → is_live s doc ≡ false → live_set_without doc s ≡ s }
+    ensures set { (s : LiveSet) (doc : ℕ) → IsLiveSet s → IsLiveSet (live_set_without doc s) }
 {}
 
 /// No number is live exactly where the count is zero.

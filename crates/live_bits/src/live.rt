@@ -3,7 +3,7 @@
 ghost use Rattle.std.specs.Prelude.{◌≡◌, ◌≤◌, ◌<◌, ◌+◌, ◌++◌, ℕ, All, IfOk, IfErr, length, nat_eq, IsTrue, true};
 ghost use Rattle.std.specs.Prelude.{take, drop, filter};
 ghost use Rattle.std.specs.List.{list_any};
-ghost use Rattle.live_bits.specs.LiveSet.{is_live, without, IsLiveSet, Spans};
+ghost use Rattle.live_bits.specs.LiveSet.{is_live, live_set_without, IsLiveSet, Spans};
 ghost use Rattle.live_bits.specs.LiveBody.{IsLiveBody, has_bit};
 ghost use Rattle.live_bits.specs.Refusal.{Refuses};
 
@@ -33,11 +33,11 @@ impl Model for LiveBits {
 
     ghost Value = { LiveSet };
 
-    ghost use Rattle.live_bits.specs.LiveBody.{IsStored, live_set};
+    ghost use Rattle.live_bits.specs.LiveBody.{AreCountedBits, live_set};
 
     ghost view = { λ b. live_set b.base b.span b.bits.items };
 
-    ghost invariant = { λ b. IsStored b.base b.span b.count b.bits.items };
+    ghost invariant = { λ b. AreCountedBits b.base b.span b.count b.bits.items };
 }
 
 impl LiveBits {
@@ -197,7 +197,7 @@ impl LiveBits {
     /// Takes the number out, and answers whether it was live.
     pub fn clear(&mut self, doc: u32) -> bool
         ensures answer { result ≡ is_live self.old doc }
-        ensures after { self.new ≡ without doc self.old }
+        ensures after { self.new ≡ live_set_without doc self.old }
     {
         if !self.is_live(doc) {
             return false;

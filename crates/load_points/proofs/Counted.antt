@@ -10,8 +10,8 @@ use Rattle.script_lang.specs.declared.faults.Refusal.TheVariants as why
 use Rattle.index_core.specs.Whole.{with_point, with_points}
 use Rattle.csv_load.specs.Loading.{points_of, records_of}
 use Rattle.csv_load.specs.declared.CsvFault.{CsvFault}
-use Rattle.load_points.specs.Loaded.{added, dims_text, full_text, given_of, left_by, load_answer, loaded_by}
-use Rattle.load_points.specs.Loaded.{loaded_text, matched, next_of, opened, refusal, with_document, with_documents}
+use Rattle.load_points.specs.Loaded.{points_answer, dims_text, full_text, given_of, left_by, load_answer, loaded_by}
+use Rattle.load_points.specs.Loaded.{loaded_text, columns_answer, next_of, opened_state, refusal, with_document, with_documents}
 
 some_inj : {X : Type 0} (x y : X) → Some x ≡ Some y → x ≡ y
 some_inj x y e = cc
@@ -41,11 +41,11 @@ rest_with i (p ∷ ps) = rest_with (with_point i p) ps
 
 -- ---- the index that is there, or a new one
 
-given_opened : (D : ℕ) (stored : State) (i : Index) → opened D stored ≡ Some i → given_of stored ≡ i.given
+given_opened : (D : ℕ) (stored : State) (i : Index) → opened_state D stored ≡ Some i → given_of stored ≡ i.given
 given_opened D None i e = ap (λ (j : Index). j.given) (some_inj _ _ e)
 given_opened D (Some j) i e = ap (λ (k : Index). k.given) (some_inj _ _ e)
 
-next_opened : (D : ℕ) (stored : State) (i : Index) → opened D stored ≡ Some i → next_of stored ≡ i.next
+next_opened : (D : ℕ) (stored : State) (i : Index) → opened_state D stored ≡ Some i → next_of stored ≡ i.next
 next_opened D None i e = ap (λ (j : Index). j.next) (some_inj _ _ e)
 next_opened D (Some j) i e = ap (λ (k : Index). k.next) (some_inj _ _ e)
 
@@ -53,22 +53,23 @@ same_dims : (m n : ℕ) → m ≡ n → not (m == n) ≡ false
 same_dims m n e = grind (arith, nat_tests)
 
 -- where it has as many dimensions as there are columns
-pub matched_is : (D : ℕ) (stored : State) (i : Index) (points : List (List ℤ)) → opened D stored ≡ Some i → i.dims ≡ D
-    → matched D stored points ≡ added D stored points
+pub matched_is : (D : ℕ) (stored : State) (i : Index) (points : List (List ℤ)) → opened_state D stored ≡ Some i → i.dims ≡ D
+    → columns_answer D stored points ≡ points_answer D stored points
 matched_is D None i points e dims = refl
 matched_is D (Some j) i points e dims =
-    ap (λ b. cond b (refusal (Some j) (dims_text j.dims)) (added D (Some j) points)) (same_dims j.dims D (ap (λ (k : Index). k.dims) (some_inj _ _ e) ∙ dims))
+    ap (λ b. cond b (refusal (Some j) (dims_text j.dims)) (points_answer D (Some j) points))
+        (same_dims j.dims D (ap (λ (k : Index). k.dims) (some_inj _ _ e) ∙ dims))
 
 -- and where it has others
-pub matched_not : (D : ℕ) (i : Index) (points : List (List ℤ)) → (D ≡ i.dims → ⊥) → matched D (Some i) points ≡ refusal (Some i) (dims_text i.dims)
-matched_not D i points other = ap (λ b. cond b (refusal (Some i) (dims_text i.dims)) (added D (Some i) points)) (other_dims i.dims D other)
+pub matched_not : (D : ℕ) (i : Index) (points : List (List ℤ)) → (D ≡ i.dims → ⊥) → columns_answer D (Some i) points ≡ refusal (Some i) (dims_text i.dims)
+matched_not D i points other = ap (λ b. cond b (refusal (Some i) (dims_text i.dims)) (points_answer D (Some i) points)) (other_dims i.dims D other)
   where
     other_dims : (m n : ℕ) → (n ≡ m → ⊥) → not (m == n) ≡ true
     other_dims m n h = grind (arith, nat_tests)
 
 -- where not all fit
-pub full_is : (D : ℕ) (stored : State) (i : Index) (points : List (List ℤ)) → opened D stored ≡ Some i → 2 ^ 24 + 1 ≤ i.given + length points
-    → added D stored points ≡ refusal stored full_text
+pub full_is : (D : ℕ) (stored : State) (i : Index) (points : List (List ℤ)) → opened_state D stored ≡ Some i → 2 ^ 24 + 1 ≤ i.given + length points
+    → points_answer D stored points ≡ refusal stored full_text
 full_is D stored i points e many =
     ap (λ b. cond b (refusal stored full_text)
     (record { state = with_documents D stored points; text = loaded_text (length points) (next_of stored + length points); refused = 0 }))
@@ -78,8 +79,8 @@ full_is D stored i points e many =
 abbrev pub done_answer : Index → List (List ℤ) → Answer
 done_answer i points = record { state = Some (with_points i points); text = loaded_text (length points) (i.next + length points); refused = 0 }
 
-pub added_is : (D : ℕ) (stored : State) (i : Index) (points : List (List ℤ)) → opened D stored ≡ Some i → i.given + length points ≤ 2 ^ 24
-    → added D stored points ≡ done_answer i points
+pub added_is : (D : ℕ) (stored : State) (i : Index) (points : List (List ℤ)) → opened_state D stored ≡ Some i → i.given + length points ≤ 2 ^ 24
+    → points_answer D stored points ≡ done_answer i points
 added_is D stored i points e fits =
     ap (λ b. cond b (refusal stored full_text)
     (record { state = with_documents D stored points; text = loaded_text (length points) (next_of stored + length points); refused = 0 }))
@@ -98,9 +99,9 @@ rest_done i points rests = rest_with i points ∙ ap (λ (j : Index). with_point
 
 pub loaded_points : (D : ℕ) (stored : State) (input : List ℕ) (names : List (List ℕ)) (points : List (List ℤ)) → length names ≡ D
     → points_of names (records_of input) ≡ Ok points
-    → load_answer stored input names ≡ matched D stored points
+    → load_answer stored input names ≡ columns_answer D stored points
 unfolding load_answer
-loaded_points D stored input names points named gives = ap (loaded_by names stored) gives ∙ ap (λ n. matched n stored points) named
+loaded_points D stored input names points named gives = ap (loaded_by names stored) gives ∙ ap (λ n. columns_answer n stored points) named
 
 pub loaded_fault : (stored : State) (input : List ℕ) (names : List (List ℕ)) (fault : CsvFault) → points_of names (records_of input) ≡ Err fault
     → load_answer stored input names ≡ loaded_by names stored (Err fault)

@@ -13,15 +13,15 @@ use Rattle.index_model.specs.State.{Index, State}
 use Rattle.index_model.specs.Script.{Answer}
 use Rattle.stored_index.specs.Stored.{IsStored}
 use Rattle.documents.proofs.Lists.{nil_none}
-use Rattle.segment_view.specs.Parts.{Part}
+use Rattle.segment_view.specs.LiveSegments.{LiveSegment}
 use Rattle.index_opening.specs.Evidence.{IsEvident, IsTwice}
 use Rattle.segment_set.specs.Faithful.{IsFaithful}
 use Rattle.index_opening.proofs.Evident.{on_commit_evident, on_evident_at, on_evident_less}
 use Rattle.index_core.specs.Sessions.{AreTraced, Guards, IsTraced, SessionData, Trusts}
 use Rattle.csv_load.specs.Loading.{points_of, records_of}
 use Rattle.csv_load.specs.declared.CsvFault.{CsvFault}
-use Rattle.load_points.specs.Loaded.{dims_text, load_answer, loaded_by, loaded_text, matched, refusal}
-use Rattle.load_points.specs.Loads.{HasDims, IsLoading, Loads, Place, StartsFrom, StartsNone}
+use Rattle.load_points.specs.Loaded.{dims_text, load_answer, loaded_by, loaded_text, columns_answer, refusal}
+use Rattle.load_points.specs.Loads.{HasIndexDims, IsLoading, Loads, LoadMoment, StartsFrom, StartsNone}
 use Rattle.load_points.proofs.Counted.{loaded_fault, loaded_points, matched_not}
 use Rattle.index_core.proofs.Brought.{commit_equal}
 use Rattle.index_core.proofs.Undone.{fault_kept, kept_equal}
@@ -47,7 +47,8 @@ file_refused told trusts Starts files faults before after input names fault r ke
     (loads_told told (Unit {0}) (IsStored files) _ _ _ r loads)
 
 -- the commit was not read
-pub unread_commit : {T : Type 0} (told : Type 0) (answer : State → Answer) (old new : Place) (fault : PageFault) (r : Result Bool PageFault) → r ≡ Err fault
+pub unread_commit : {T : Type 0} (told : Type 0) (answer : State → Answer) (old new : LoadMoment) (fault : PageFault) (r : Result Bool PageFault)
+    → r ≡ Err fault
     → (told → new.files ≡ old.files)
     → (told → (stored : State) → IsStored old.files stored → NotDamaged {T = T} (Err fault)) → HasPageCause {T = T} old.faults new.faults (Err fault)
     → (told → OnDamage {T = T} (Err fault) (IsCommitDamageOf old.files)) → OnDamage {T = T} (Err fault) IsCommitDamage
@@ -76,7 +77,7 @@ pub made_trusts : (D : ℕ) (files : Files) (s : SessionData) → (files Commit 
 made_trusts D files s guards faithful bare none = record {
   guards = guards none;
   faithful = faithful;
-  traced = λ p there. nil_none p (IsTraced D files p) (subst (λ (ps : List Part). Contains ps p) bare there);
+  traced = λ p there. nil_none p (IsTraced D files p) (subst (λ (ps : List LiveSegment). Contains ps p) bare there);
 }
 
 -- where the files are the same, a session that is trusted there is so still
@@ -92,7 +93,7 @@ pub starts_keeps : (old new : Files) (c : CommitData) (stored : State) → new �
 starts_keeps old new c stored same (says, (i, is, holds)) = subst (λ (f : Files). IsStored f stored) (sym same) (subst (IsStored old) (sym is) holds)
 
 -- the index that is there has the dimensions of the commit
-pub has_dims : (D : ℕ) (files : Files) (c : CommitData) (stored : State) → c.dims ≡ D → StartsFrom files c stored → HasDims files D stored
+pub has_dims : (D : ℕ) (files : Files) (c : CommitData) (stored : State) → c.dims ≡ D → StartsFrom files c stored → HasIndexDims files D stored
 has_dims D files c stored dims (says, (i, is, holds)) = (
   subst (IsStored files) (sym is) holds,
   (
@@ -108,15 +109,16 @@ stored_still_there old new stored same h = subst (λ (f : Files). IsStored f sto
 
 -- as many columns as the index that is there hasn't dimensions
 pub dims_refused : (files : Files) (dims : ℕ) (stored : State) (input : List ℕ) (names : List (List ℕ)) (points : List (List ℤ)) → (length names ≡ dims → ⊥)
-    → points_of names (records_of input) ≡ Ok points → HasDims files dims stored
+    → points_of names (records_of input) ≡ Ok points → HasIndexDims files dims stored
     → load_answer stored input names ≡ refusal stored (dims_text dims)
 dims_refused files dims stored input names points other gives (is_stored, (i, is, has)) =
     loaded_points (length names) stored input names points refl gives
-    ∙ ap (λ (o : State). matched (length names) o points) is
+    ∙ ap (λ (o : State). columns_answer (length names) o points) is
     ∙ matched_not (length names) i points (λ e. other (e ∙ has))
     ∙ (λ j. refusal (sym is j) (dims_text (has j)))
 
 -- where the files are the same, a session that loads into the index that is there does so still
-pub starts_still : (D : ℕ) (old new : Files) (c : CommitData) (s : SessionData) (stored : State) → new ≡ old → IsLoading D old s stored → HasDims old D stored
-    → IsLoading D new s stored × HasDims new D stored
-starts_still D old new c s stored same loading has = subst (λ (f : Files). IsLoading D f s stored × HasDims f D stored) (sym same) (loading, has)
+pub starts_still : (D : ℕ) (old new : Files) (c : CommitData) (s : SessionData) (stored : State) → new ≡ old → IsLoading D old s stored
+    → HasIndexDims old D stored
+    → IsLoading D new s stored × HasIndexDims new D stored
+starts_still D old new c s stored same loading has = subst (λ (f : Files). IsLoading D f s stored × HasIndexDims f D stored) (sym same) (loading, has)

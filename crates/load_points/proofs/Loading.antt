@@ -15,12 +15,12 @@ use Rattle.commit_list.proofs.CommitPages.{file_there}
 use Rattle.index_model.specs.State.{Index, State, at_rest, new_index}
 use Rattle.index_model.specs.Script.{Answer}
 use Rattle.script_lang.specs.Reading.{greatest_leaf}
-use Rattle.script_lang.specs.Replies.{ended}
+use Rattle.script_lang.specs.Replies.{text_line}
 use Rattle.stored_index.specs.Stored.{IsStored, index_of}
 use Rattle.stored_index.proofs.KeptFiles.{kept_itself, stored_still}
 use Rattle.stored_index.proofs.Whole.{held_for}
 use Rattle.documents.proofs.Lists.{nil_none}
-use Rattle.segment_view.specs.Parts.{Part}
+use Rattle.segment_view.specs.LiveSegments.{LiveSegment}
 use Rattle.segment_set.specs.Seen.{Sees}
 use Rattle.index_opening.specs.Evidence.{IsEvident}
 use Rattle.index_opening.proofs.Evident.{on_evident_less}
@@ -28,11 +28,11 @@ use Rattle.index_core.specs.Brought.{KeepsCommit}
 use Rattle.index_core.specs.Sessions.{Guards, IsUnchanged, SessionData, Trusts}
 use Rattle.index_core.specs.Light.{KeepsLevels}
 use Rattle.index_core.specs.Steps.{FaultKeeps, KeepsUndone}
-use Rattle.index_core.specs.Whole.{Adds, DoesWhole, HasNewCanonical, IsNewSegment, Moment, with_point, with_points}
+use Rattle.index_core.specs.Whole.{Adds, DoesWhole, HasNewCanonical, IsNewSegment, SessionMoment, with_point, with_points}
 use Rattle.index_core.proofs.Answering.{no_cause}
 use Rattle.index_core.proofs.FaultCauses.{cause_then, fault_to, memory_cause}
-use Rattle.load_points.specs.Loaded.{full_text, loaded_text, matched, opened, refusal}
-use Rattle.load_points.specs.Loads.{IsLoading, Loads, Place, StartsFrom, StartsNone}
+use Rattle.load_points.specs.Loaded.{full_text, loaded_text, columns_answer, opened_state, refusal}
+use Rattle.load_points.specs.Loads.{IsLoading, Loads, LoadMoment, StartsFrom, StartsNone}
 use Rattle.load_points.proofs.Counted.{added_is, done_answer, full_is, matched_is, rest_done}
 use Rattle.index_core.proofs.Bringing.{brings_then}
 use Rattle.index_core.proofs.Brought.{commit_after, commit_itself}
@@ -46,7 +46,7 @@ Starting = State → Type 0
 -- ---- faults
 
 -- a fault of a call after which what was stored, or what the answer leaves, is
-pub loads_fault : {T : Type 0} (told trusts : Type 0) (Starts : Starting) (answer : State → Answer) (old new : Place) (fault : PageFault)
+pub loads_fault : {T : Type 0} (told trusts : Type 0) (Starts : Starting) (answer : State → Answer) (old new : LoadMoment) (fault : PageFault)
     (r : Result Bool PageFault) → r ≡ Err fault
     → (told → (stored : State) → Starts stored → IsStored new.files stored ⊎ IsStored new.files (answer stored).state)
     → (told → (stored : State) → Starts stored → NotDamaged {T = T} (Err fault))
@@ -82,7 +82,7 @@ loads_no_memory told trusts Starts answer files faults before after r is keeps =
 -- ---- refusals
 
 pub loads_refused : (told trusts : Type 0) (Starts : Starting) (answer : State → Answer) (files : Files) (faults : ℕ) (before after cause : List ℕ)
-    → after ≡ before ++ ended cause
+    → after ≡ before ++ text_line cause
     → ((stored : State) → Starts stored → IsStored files stored) → ((stored : State) → Starts stored → answer stored ≡ refusal stored cause)
     → Loads told trusts Starts answer (record { files = files; faults = faults; text = before }) (record { files = files; faults = faults; text = after })
     (Ok true)
@@ -104,7 +104,7 @@ loads_refused told trusts Starts answer files faults before after cause grew kee
 -- ---- the same from elsewhere
 
 -- it starts so wherever it starts otherwise, the answers are the same, and the files are trusted so wherever they are otherwise
-pub loads_as : (told trusted trusts : Type 0) (From Starts : Starting) (other answer : State → Answer) (old new : Place) (r : Result Bool PageFault)
+pub loads_as : (told trusted trusts : Type 0) (From Starts : Starting) (other answer : State → Answer) (old new : LoadMoment) (r : Result Bool PageFault)
     → (trusted → trusts)
     → ((stored : State) → From stored → Starts stored) → ((stored : State) → From stored → other stored ≡ answer stored)
     → Loads told trusts Starts answer old new r → Loads told trusted From other old new r
@@ -120,7 +120,7 @@ loads_as told trusted trusts From Starts other answer old new r more starts same
 }
 
 -- what is said of files that tell themselves
-pub loads_told : (told trusts : Type 0) (Starts : Starting) (answer : State → Answer) (old new : Place) (r : Result Bool PageFault)
+pub loads_told : (told trusts : Type 0) (Starts : Starting) (answer : State → Answer) (old new : LoadMoment) (r : Result Bool PageFault)
     → Loads (Unit {0}) trusts Starts answer old new r → Loads told trusts Starts answer old new r
 loads_told told trusts Starts answer old new r loads = record {
   does = λ t. loads.does tt;
@@ -134,7 +134,7 @@ loads_told told trusts Starts answer old new r loads = record {
 }
 
 -- after a call that left the files
-pub loads_after : {U : Type 0} (told trusted trusts : Type 0) (From Starts : Starting) (answer : State → Answer) (old middle new : Place) (x : U)
+pub loads_after : {U : Type 0} (told trusted trusts : Type 0) (From Starts : Starting) (answer : State → Answer) (old middle new : LoadMoment) (x : U)
     (r : Result Bool PageFault) → (told → middle.files ≡ old.files)
     → middle.text ≡ old.text → HasPageCause old.faults middle.faults (Ok x) → (told → trusted → trusts)
     → (told → (stored : State) → From stored → Starts stored) → Loads told trusts Starts answer middle new r
@@ -170,8 +170,8 @@ made_loading D leaf files s stored is seen guards bare (none, absent) = record {
   seen = seen;
   guards = guards absent;
   keeps = subst (IsStored files) (sym none) absent;
-  is = ap (opened D) none ∙ ap (λ n. Some (new_index D n)) (sym is);
-  listed = λ p there apart. nil_none p ⊥ (subst (λ (ps : List Part). Contains ps p) bare there);
+  is = ap (opened_state D) none ∙ ap (λ n. Some (new_index D n)) (sym is);
+  listed = λ p there apart. nil_none p ⊥ (subst (λ (ps : List LiveSegment). Contains ps p) bare there);
 }
 
 pub attached_loading : (D : ℕ) (files : Files) (c : CommitData) (s : SessionData) (stored : State)
@@ -182,7 +182,7 @@ attached_loading D files c s stored seen guards unchanged (says, (i, is, holds))
   seen = seen i holds;
   guards = guards;
   keeps = subst (IsStored files) (sym is) holds;
-  is = ap (opened D) is;
+  is = ap (opened_state D) is;
   listed = attached_listed D files s guards unchanged;
 }
 
@@ -206,8 +206,8 @@ points_begun i (p ∷ ps) = points_begun (with_point i p) ps
 
 -- where not all fit
 pub loading_full : (D : ℕ) (told trusts : Type 0) (files : Files) (s : SessionData) (faults : ℕ) (points : List (List ℤ)) (before after : List ℕ)
-    → after ≡ before ++ ended full_text → 2 ^ 24 + 1 ≤ s.set.given + length points
-    → Loads told trusts (IsLoading D files s) (λ stored. matched D stored points) (record { files = files; faults = faults; text = before })
+    → after ≡ before ++ text_line full_text → 2 ^ 24 + 1 ≤ s.set.given + length points
+    → Loads told trusts (IsLoading D files s) (λ stored. columns_answer D stored points) (record { files = files; faults = faults; text = before })
     (record { files = files; faults = faults; text = after }) (Ok true)
 loading_full D told trusts files s faults points before after grew many =
     loads_refused told trusts (IsLoading D files s) _ files faults before after full_text grew (λ stored l. l.keeps)
@@ -217,19 +217,19 @@ loading_full D told trusts files s faults points before after grew many =
 -- the answer where all fit
 fitting : (D : ℕ) (files : Files) (s : SessionData) (stored : State) (points : List (List ℤ)) (l : IsLoading D files s stored)
     → s.set.given + length points ≤ 2 ^ 24
-    → matched D stored points ≡ done_answer l.index points
+    → columns_answer D stored points ≡ done_answer l.index points
 fitting D files s stored points l fits =
     matched_is D stored l.index points l.is l.seen.dims
     ∙ added_is D stored l.index points l.is (subst (λ n. n + length points ≤ 2 ^ 24) (sym l.seen.given) fits)
 
 -- the files are trusted then as they were
-adds_trusts : {T : Type 0} (D : ℕ) (told : Type 0) (points : List (List ℤ)) (a b : Moment) (r : Result T PageFault) → Adds D told points a b r → told
+adds_trusts : {T : Type 0} (D : ℕ) (told : Type 0) (points : List (List ℤ)) (a b : SessionMoment) (r : Result T PageFault) → Adds D told points a b r → told
     → Trusts D a.files a.session → Trusts D b.files b.session
 adds_trusts D told points a b r adds t trusts =
     record { guards = adds.guards t trusts.guards; faithful = adds.faithful t trusts.faithful; traced = adds.traced t trusts }
 
 -- a fault while they are added: what was stored is
-pub adding_stopped : {T : Type 0} (D : ℕ) (told : Type 0) (answer : State → Answer) (points : List (List ℤ)) (a b : Moment) (before after : List ℕ)
+pub adding_stopped : {T : Type 0} (D : ℕ) (told : Type 0) (answer : State → Answer) (points : List (List ℤ)) (a b : SessionMoment) (before after : List ℕ)
     (fault : PageFault) (r : Result Bool PageFault) → r ≡ Err fault
     → Adds {T = T} D told points a b (Err fault)
     → Loads told (Trusts D a.files a.session) (IsLoading D a.files a.session) answer (record { files = a.files; faults = a.faults; text = before })
@@ -241,11 +241,11 @@ adding_stopped {T = T} D told answer points a b before after fault r is adds =
     (λ t h. inl (adds.kept t h.guards))
 
 -- a fault of the commit after them: what was stored is, or all of it
-pub commit_stopped : {T U : Type 0} (D : ℕ) (told : Type 0) (points : List (List ℤ)) (a b c : Moment) (x : U) (before after : List ℕ) (fault : PageFault)
+pub commit_stopped : {T U : Type 0} (D : ℕ) (told : Type 0) (points : List (List ℤ)) (a b c : SessionMoment) (x : U) (before after : List ℕ) (fault : PageFault)
     (r : Result Bool PageFault) → r ≡ Err fault
     → a.session.set.given + length points ≤ 2 ^ 24 → Adds D told points a b (Ok x) → IsCommitted {T = T} D told b c (Err fault)
     → OnDamage {T = T} (Err fault) (IsEvident (told × Trusts D b.files b.session) c.files) → (told → Trusts D b.files b.session → KeepsCommit b.files c.files)
-    → Loads told (Trusts D a.files a.session) (IsLoading D a.files a.session) (λ stored. matched D stored points)
+    → Loads told (Trusts D a.files a.session) (IsLoading D a.files a.session) (λ stored. columns_answer D stored points)
     (record { files = a.files; faults = a.faults; text = before }) (record { files = c.files; faults = c.faults; text = after }) r
 commit_stopped {T = T} D told points a b c x before after fault r is fits adds commits evident lasting =
     loads_fault told (Trusts D a.files a.session) (IsLoading D a.files a.session) _ _ _ fault r is
@@ -262,10 +262,10 @@ commit_stopped {T = T} D told points a b c x before after fault r is fits adds c
     (λ t h. commit_after a.files b.files c.files (adds.kept t h.guards) (lasting t (adds_trusts D told points a b (Ok x) adds t h)))
 
 -- all came, and are stored
-pub all_loaded : {T U : Type 0} (D : ℕ) (told : Type 0) (points : List (List ℤ)) (a b c : Moment) (x : U) (y : T) (next : ℕ) (before after : List ℕ)
+pub all_loaded : {T U : Type 0} (D : ℕ) (told : Type 0) (points : List (List ℤ)) (a b c : SessionMoment) (x : U) (y : T) (next : ℕ) (before after : List ℕ)
     → a.session.set.given + length points ≤ 2 ^ 24 → next ≡ a.session.set.next → after ≡ before ++ loaded_text (length points) (next + length points)
     → Adds D told points a b (Ok x) → IsCommitted D told b c (Ok y) → (told → Trusts D b.files b.session → KeepsCommit b.files c.files)
-    → Loads told (Trusts D a.files a.session) (IsLoading D a.files a.session) (λ stored. matched D stored points)
+    → Loads told (Trusts D a.files a.session) (IsLoading D a.files a.session) (λ stored. columns_answer D stored points)
     (record { files = a.files; faults = a.faults; text = before }) (record { files = c.files; faults = c.faults; text = after }) (Ok false)
 all_loaded D told points a b c x y next before after fits first grew adds commits lasting = record {
   does = λ t stored l.

@@ -2,7 +2,7 @@
 use Rattle.std.specs.Prelude.{ℕ, ◌+◌, ◌^◌, ◌==◌, not, if◌then◌else◌, nat_lt, List, [], ◌∷◌, ◌++◌, length, fold}
 use Rattle.std.specs.Prelude.{slice_index_or, None, Some, Result, Ok, Err, codes, decimal, ℤ}
 use Rattle.script_lang.specs.Reading.{greatest_leaf}
-use Rattle.script_lang.specs.Replies.{ended}
+use Rattle.script_lang.specs.Replies.{text_line}
 use Rattle.script_lang.specs.Requests.{Add}
 use Rattle.index_model.specs.State.{State, new_index}
 use Rattle.index_model.specs.Step.{Outcome, Done, Refused, step}
@@ -22,13 +22,13 @@ abbrev pub with_document : State → List ℤ → State
 with_document state point = left_by state (step state (Add (point ∷ [])))
 
 -- where no index is there, one of so many dimensions is made first, with leaves as large as they may be
-abbrev pub opened : (dims : ℕ) → State → State
-opened dims None = Some (new_index dims (greatest_leaf dims))
-opened dims (Some i) = Some i
+abbrev pub opened_state : (dims : ℕ) → State → State
+opened_state dims None = Some (new_index dims (greatest_leaf dims))
+opened_state dims (Some i) = Some i
 
 -- one document after the other
 abbrev pub with_documents : (dims : ℕ) → State → List (List ℤ) → State
-with_documents dims state points = fold with_document (opened dims state) points
+with_documents dims state points = fold with_document (opened_state dims state) points
 
 abbrev pub next_of : State → ℕ
 next_of None = 0
@@ -59,17 +59,17 @@ full_text = codes "full"
 
 -- a refusal is one line, and leaves the state
 abbrev pub refusal : State → List ℕ → Answer
-refusal state cause = record { state = state; text = ended cause; refused = 1 }
+refusal state cause = record { state = state; text = text_line cause; refused = 1 }
 
 -- ---- the whole
 
 -- how many documents came, and the number of the next one
 abbrev pub loaded_text : (count next : ℕ) → List ℕ
-loaded_text count next = ended (codes "loaded " ++ decimal count) ++ ended (codes "next " ++ decimal next)
+loaded_text count next = text_line (codes "loaded " ++ decimal count) ++ text_line (codes "next " ++ decimal next)
 
 -- all points are added, where no more than 16,777,216 are given with them
-abbrev pub added : (dims : ℕ) → State → List (List ℤ) → Answer
-added dims state points =
+abbrev pub points_answer : (dims : ℕ) → State → List (List ℤ) → Answer
+points_answer dims state points =
     if nat_lt (2 ^ 24) (given_of state + length points) then refusal state full_text
     else record {
       state = with_documents dims state points;
@@ -79,13 +79,13 @@ added dims state points =
     }
 
 -- they have as many dimensions as the index that is there
-abbrev pub matched : (dims : ℕ) → State → List (List ℤ) → Answer
-matched dims None points = added dims None points
-matched dims (Some i) points =
-    if not (i.dims == dims) then refusal (Some i) (dims_text i.dims) else added dims (Some i) points
+abbrev pub columns_answer : (dims : ℕ) → State → List (List ℤ) → Answer
+columns_answer dims None points = points_answer dims None points
+columns_answer dims (Some i) points =
+    if not (i.dims == dims) then refusal (Some i) (dims_text i.dims) else points_answer dims (Some i) points
 
 abbrev pub loaded_by : List (List ℕ) → State → Result (List (List ℤ)) CsvFault → Answer
-loaded_by names state (Ok points) = matched (length names) state points
+loaded_by names state (Ok points) = columns_answer (length names) state points
 loaded_by names state (Err fault) = refusal state (csv_text names fault)
 
 -- The answer to loading a file by columns of these names. The first refusal counts: a fault of the file, another number

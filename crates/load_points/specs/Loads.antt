@@ -10,7 +10,7 @@ use Rattle.commit_list.specs.CommitFiles.{IsCommitFile}
 use Rattle.index_model.specs.State.{Index, State}
 use Rattle.index_model.specs.Script.{Answer}
 use Rattle.stored_index.specs.Stored.{IsStored}
-use Rattle.segment_view.specs.Parts.{Part}
+use Rattle.segment_view.specs.LiveSegments.{LiveSegment}
 use Rattle.segment_set.specs.Seen.{Sees}
 use Rattle.index_opening.specs.Evidence.{IsEvident}
 use Rattle.index_core.specs.Brought.{KeepsCommit}
@@ -18,10 +18,10 @@ use Rattle.index_core.specs.Sessions.{SessionData, Guards}
 use Rattle.index_core.specs.Light.{KeepsLevels}
 use Rattle.index_core.specs.Steps.{KeepsUndone}
 use Rattle.index_core.specs.Whole.{DoesWhole, HasNewCanonical, IsNewSegment}
-use Rattle.load_points.specs.Loaded.{opened}
+use Rattle.load_points.specs.Loaded.{opened_state}
 
 -- a folder's files, its faults, and the text of the answer
-pub record Place : Type 0 where
+pub record LoadMoment : Type 0 where
   pub files : Files
   pub faults : ℕ
   pub text : List ℕ
@@ -30,7 +30,7 @@ pub record Place : Type 0 where
 -- that is listed anew is canonical, few of each level are listed, what isn't done loses nothing that is kept by files
 -- that are trusted, a commit that takes its place is whole, and a damage is shown by what it carries, and is true of
 -- such files.
-pub record Loads (told trusts : Type 0) (Starts : State → Type 0) (answer : State → Answer) (old new : Place)
+pub record Loads (told trusts : Type 0) (Starts : State → Type 0) (answer : State → Answer) (old new : LoadMoment)
     (result : Result Bool PageFault) : Type 0 where
   pub does : told → (stored : State) → Starts stored
       → DoesWhole new.files stored (answer stored) old.text new.text result
@@ -54,8 +54,8 @@ StartsFrom files commit stored = IsCommitFile (bytes_of (files Commit)) commit
     × ((i : Index) × (stored ≡ Some i) × IsStored files (Some i))
 
 -- an index of so many dimensions is there
-abbrev pub HasDims : Files → (dims : ℕ) → State → Type 0
-HasDims files dims stored = IsStored files stored × ((i : Index) × (stored ≡ Some i) × (i.dims ≡ dims))
+abbrev pub HasIndexDims : Files → (dims : ℕ) → State → Type 0
+HasIndexDims files dims stored = IsStored files stored × ((i : Index) × (stored ≡ Some i) × (i.dims ≡ dims))
 
 -- A session is open: with these files it is seen as the index that is stored, or as a new one where none is, guards
 -- what is kept, and has no segment but those that are listed.
@@ -64,5 +64,5 @@ pub record IsLoading (D : ℕ) (files : Files) (s : SessionData) (stored : State
   pub seen : Sees D files s.set index
   pub guards : Guards D files s
   pub keeps : IsStored files stored
-  pub is : opened D stored ≡ Some index
-  pub listed : (p : Part) → Contains s.set.parts p → IsNewSegment files p.head.id → ⊥
+  pub is : opened_state D stored ≡ Some index
+  pub listed : (p : LiveSegment) → Contains s.set.parts p → IsNewSegment files p.head.id → ⊥

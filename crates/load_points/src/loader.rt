@@ -16,8 +16,8 @@ ghost use Rattle.index_core.specs.Sessions.{Trusts};
 ghost use Rattle.index_core.specs.Light.{KeepsLevels};
 ghost use Rattle.index_core.specs.Steps.{KeepsUndone};
 ghost use Rattle.index_core.specs.Whole.{DoesWhole, HasNewCanonical};
-ghost use Rattle.load_points.specs.Loaded.{load_answer, matched};
-ghost use Rattle.load_points.specs.Loads.{HasDims, IsLoading, Loads, StartsFrom, StartsNone};
+ghost use Rattle.load_points.specs.Loaded.{load_answer, columns_answer};
+ghost use Rattle.load_points.specs.Loads.{HasIndexDims, IsLoading, Loads, StartsFrom, StartsNone};
 
 use crate::refusals::{refuse_dims, refuse_file};
 use crate::texts::{put_full, put_loaded};
@@ -188,7 +188,7 @@ fn load_open<const D: usize, R: Threads + Sync, F: Folder, G: Gate>(
     requires some { 1 ≤ length columns.now }
     requires few { length columns.now ≤ 8 }
     ensures { Loads (IsTrue F.told) (Trusts D (F.files folder.old) session.old)
-        (λ stored. IsLoading D (F.files folder.old) session.old stored × HasDims (F.files folder.old) D stored)
+        (λ stored. IsLoading D (F.files folder.old) session.old stored × HasIndexDims (F.files folder.old) D stored)
         (λ stored. load_answer stored input.now columns.now)
         (record { files = F.files folder.old; faults = F.faults folder.old; text = text.old.items })
         (record { files = F.files folder.new; faults = F.faults folder.new; text = text.new.items }) result }
@@ -235,7 +235,7 @@ fn add_all<const D: usize, R: Threads + Sync, F: Folder, G: Gate>(
 ) -> Result<bool, PageFault>
     requires { D ≤ 8 }
     ensures { Loads (IsTrue F.told) (Trusts D (F.files folder.old) session.old)
-        (IsLoading D (F.files folder.old) session.old) (λ stored. matched D stored (coordinates_of points.now))
+        (IsLoading D (F.files folder.old) session.old) (λ stored. columns_answer D stored (coordinates_of points.now))
         (record { files = F.files folder.old; faults = F.faults folder.old; text = text.old.items })
         (record { files = F.files folder.new; faults = F.faults folder.new; text = text.new.items }) result }
 {
@@ -272,7 +272,7 @@ fn add_fitting<const D: usize, R: Threads + Sync, F: Folder, G: Gate>(
     requires counted { count ≡ length points.now }
     requires fits { session.old.set.given + length points.now ≤ 2 ^ 24 }
     ensures { Loads (IsTrue F.told) (Trusts D (F.files folder.old) session.old)
-        (IsLoading D (F.files folder.old) session.old) (λ stored. matched D stored (coordinates_of points.now))
+        (IsLoading D (F.files folder.old) session.old) (λ stored. columns_answer D stored (coordinates_of points.now))
         (record { files = F.files folder.old; faults = F.faults folder.old; text = text.old.items })
         (record { files = F.files folder.new; faults = F.faults folder.new; text = text.new.items }) result }
 {

@@ -6,7 +6,7 @@ ghost use Rattle.outer_io.specs.Files.{Files};
 ghost use Rattle.csv_load.specs.Loading.{points_of, records_of};
 ghost use Rattle.stored_index.specs.Stored.{IsStored};
 ghost use Rattle.load_points.specs.Loaded.{load_answer, loaded_by};
-ghost use Rattle.load_points.specs.Loads.{HasDims, Loads};
+ghost use Rattle.load_points.specs.Loads.{HasIndexDims, Loads};
 
 use crate::texts::{put_csv_fault, put_dims};
 use byte_cursor::Bytes;
@@ -26,7 +26,7 @@ pub(crate) fn refuse_dims(
     requires few { length columns.now ≤ 8 }
     requires other { length columns.now ≢ dims }
     ensures { (files : Files) (faults : ℕ)
-        → Loads (Unit {0}) (Unit {0}) (HasDims files dims) (λ stored. load_answer stored input.now columns.now)
+        → Loads (Unit {0}) (Unit {0}) (HasIndexDims files dims) (λ stored. load_answer stored input.now columns.now)
         (record { files = files; faults = faults; text = text.old.items })
         (record { files = files; faults = faults; text = text.new.items }) result }
 {

@@ -1,7 +1,7 @@
 //! What a load answers. For want of memory a part of it may be appended.
 
 ghost use Rattle.std.specs.Prelude.{◌≡◌, ◌≢◌, ◌++◌, [], OnOk, codes, decimal, slice_index_or};
-ghost use Rattle.script_lang.specs.Replies.{ended};
+ghost use Rattle.script_lang.specs.Replies.{text_line};
 ghost use Rattle.load_points.specs.Loaded.{csv_text, dims_text, full_text, loaded_text};
 
 use byte_cursor::Bytes;
@@ -24,14 +24,14 @@ pub fn put_loaded(text: &mut Vec<u8>, count: u32, next: u32) -> Result<(), Alloc
 
 /// Appends that not all numbers fit.
 pub fn put_full(text: &mut Vec<u8>) -> Result<(), AllocError>
-    ensures { OnOk result (text.new.items ≡ text.old.items ++ ended full_text) }
+    ensures { OnOk result (text.new.items ≡ text.old.items ++ text_line full_text) }
 {
     text.extend_from_slice(b"full\n")
 }
 
 /// Appends that the index has so many dimensions, and the columns are not as many.
 pub fn put_dims(text: &mut Vec<u8>, dims: u8) -> Result<(), AllocError>
-    ensures { OnOk result (text.new.items ≡ text.old.items ++ ended (dims_text dims)) }
+    ensures { OnOk result (text.new.items ≡ text.old.items ++ text_line (dims_text dims)) }
 {
     let mut digits = Buffer::new();
     text.extend_from_slice(b"columns do not match dims ")?;
@@ -47,7 +47,7 @@ pub fn put_csv_fault(
     fault: &CsvFault,
 ) -> Result<(), AllocError>
     requires { fault.now ≢ CsvFault.Memory }
-    ensures { OnOk result (text.new.items ≡ text.old.items ++ ended (csv_text columns.now fault.now)) }
+    ensures { OnOk result (text.new.items ≡ text.old.items ++ text_line (csv_text columns.now fault.now)) }
 {
     match fault {
         CsvFault::NoColumn { column } => put_no_column(text, name_of(columns, *column)),
@@ -59,7 +59,7 @@ pub fn put_csv_fault(
 
 /// Appends that no column has this name.
 fn put_no_column(text: &mut Vec<u8>, name: &[u8]) -> Result<(), AllocError>
-    ensures { OnOk result (text.new.items ≡ text.old.items ++ ended (codes "no column " ++ name.now)) }
+    ensures { OnOk result (text.new.items ≡ text.old.items ++ text_line (codes "no column " ++ name.now)) }
 {
     text.extend_from_slice(b"no column ")?;
     text.extend_from_slice(name)?;
@@ -70,7 +70,7 @@ fn put_no_column(text: &mut Vec<u8>, name: &[u8]) -> Result<(), AllocError>
 /// Appends that this record has not as many fields as the header.
 fn put_other_length(text: &mut Vec<u8>, row: u64) -> Result<(), AllocError>
     ensures { OnOk result
-        (text.new.items ≡ text.old.items ++ ended (codes "record " ++ decimal row ++ codes " has another length")) }
+        (text.new.items ≡ text.old.items ++ text_line (codes "record " ++ decimal row ++ codes " has another length")) }
 {
     put_record(text, row)?;
     text.extend_from_slice(b" has another length\n")
@@ -79,7 +79,7 @@ fn put_other_length(text: &mut Vec<u8>, row: u64) -> Result<(), AllocError>
 /// Appends that what this record has in the column of this name is no coordinate.
 fn put_no_number(text: &mut Vec<u8>, row: u64, name: &[u8]) -> Result<(), AllocError>
     ensures { OnOk result
-        (text.new.items ≡ text.old.items ++ ended
+        (text.new.items ≡ text.old.items ++ text_line
         (codes "record " ++ decimal row ++ codes " column " ++ name.now ++ codes " is not a whole number")) }
 {
     put_record(text, row)?;

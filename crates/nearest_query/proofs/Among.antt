@@ -12,10 +12,10 @@ use Rattle.std.specs.declared.cmp.Ordering.TheVariants.{Less}
 use Rattle.std.specs.List.{All, AllPairs, Contains}
 use Rattle.std.specs.Ordering.{is_lt}
 use Rattle.point_codec.specs.declared.entries.Near.{Near}
-use Rattle.documents.proofs.Lists.{pairs_append, pairs_head, pairs_tail}
+use Rattle.documents.proofs.Lists.{pairs_append, pairs_head, pairs_tail, cons_cases}
 use Rattle.documents.specs.NearestEntries.{ComesBefore, HasNumber, IsNearest}
-use Rattle.nearest_query.specs.Best.{near_cmp, IsPutAmong}
-use Rattle.nearest_query.proofs.Order.{behind, before_from_less, before_trans, cons_cases, cons_head, cons_tail}
+use Rattle.nearest_query.specs.Best.{near_cmp, IsInsertedAmong}
+use Rattle.nearest_query.proofs.Order.{behind, before_from_less, before_trans, cons_head, cons_tail}
 use Rattle.nearest_query.proofs.Offers.{nearest_same, nearest_after}
 
 -- ---- lists in two parts
@@ -101,7 +101,7 @@ stay_few k entries found n p was lt e near =
 
 -- ---- an entry that is put among the others
 
-module _ (k : ℕ) (entries old mid new : List Near) (n : Near) (was : IsNearest k entries old) (up : AllPairs ComesBefore mid) (put : IsPutAmong n mid new)
+module _ (k : ℕ) (entries old mid new : List Near) (n : Near) (was : IsNearest k entries old) (up : AllPairs ComesBefore mid) (put : IsInsertedAmong n mid new)
     (no : (a : Near) → Contains mid a → n.doc ≡ a.doc → ⊥) (sub : (a : Near) → Contains mid a → Contains old a) where
   mid_up : AllPairs ComesBefore (put.front ++ put.back)
   mid_up = subst (AllPairs ComesBefore) put.before up

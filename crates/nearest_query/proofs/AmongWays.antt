@@ -8,10 +8,10 @@ use Rattle.std.specs.declared.cmp.Ordering.TheVariants.{Less, Equal, Greater}
 use Rattle.std.specs.List.{All, AllPairs, Contains}
 use Rattle.std.specs.Ordering.{is_lt}
 use Rattle.point_codec.specs.declared.entries.Near.{Near}
-use Rattle.documents.proofs.Lists.{pairs_append, pairs_head, pairs_tail}
+use Rattle.documents.proofs.Lists.{pairs_append, pairs_head, pairs_tail, cons_cases}
 use Rattle.documents.specs.NearestEntries.{ComesBefore, IsNearest}
-use Rattle.nearest_query.specs.Best.{near_cmp, IsPutAmong}
-use Rattle.nearest_query.proofs.Order.{before_from_less, before_trans, cons_cases, cons_head, cons_tail}
+use Rattle.nearest_query.specs.Best.{near_cmp, IsInsertedAmong}
+use Rattle.nearest_query.proofs.Order.{before_from_less, before_trans, cons_head, cons_tail}
 use Rattle.nearest_query.proofs.Among.{pairs_left, pairs_right, pairs_across, parted, last_of, put_nearest}
 
 -- ---- the three ways
@@ -38,7 +38,7 @@ module _ (k : ℕ) (entries found : List Near) (n : Near) (was : IsNearest k ent
       (was.left_out x h)
 
 pub add_few : (k : ℕ) (entries old new : List Near) (n : Near) → 1 ≤ k → IsNearest k entries old → All (λ a. a.doc ≢ n.doc) old → length old < k
-    → IsPutAmong n old new → IsNearest k (n ∷ entries) new
+    → IsInsertedAmong n old new → IsNearest k (n ∷ entries) new
 add_few k entries old new n some was none short put =
     put_nearest k entries old old new n was was.rises put (λ a h e. All-contains (λ x. x.doc ≢ n.doc) old a none h (sym e)) (λ a h. h)
     (omega arith)
@@ -96,7 +96,7 @@ no_two k entries found a b was h g e before =
 
 pub improve_few : (k : ℕ) (entries old mid new : List Near) (n : Near) (p : ℕ) → IsNearest k entries old → p < length old → (get_or old p n).doc ≡ n.doc
     → n.dist2 < (get_or old p n).dist2 → Leads k old n
-    → mid ≡ take p old ++ drop (p + 1) old → IsPutAmong n mid new → IsNearest k (n ∷ entries) new
+    → mid ≡ take p old ++ drop (p + 1) old → IsInsertedAmong n mid new → IsNearest k (n ∷ entries) new
 improve_few k entries old mid new n p was lt e nearer lead without put =
     let w : Near = get_or old p n in
     let is : old ≡ take p old ++ w ∷ drop (p + 1) old = parted old p n lt in
@@ -118,7 +118,7 @@ improve_few k entries old mid new n p was lt e nearer lead without put =
 
 pub replace_few : (k : ℕ) (entries old mid new : List Near) (n : Near) → 1 ≤ k → IsNearest k entries old → All (λ a. a.doc ≢ n.doc) old → k ≤ length old
     → Leads k old n
-    → mid ≡ take (length old - 1) old → IsPutAmong n mid new → IsNearest k (n ∷ entries) new
+    → mid ≡ take (length old - 1) old → IsInsertedAmong n mid new → IsNearest k (n ∷ entries) new
 replace_few k entries old mid new n some was none full lead cut put =
     let w : Near = last_of old n in
     let p : ℕ = length old - 1 in

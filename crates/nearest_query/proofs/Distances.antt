@@ -20,7 +20,7 @@ use Rattle.segment_file.specs.Heads.{Head}
 use Rattle.segment_file.specs.Segments.{HoldsLeaf}
 use Rattle.documents.specs.NearestEntries.{near_of, nears_of}
 use Rattle.nearest_query.specs.Segments.{live_items, least_dist2}
-use Rattle.nearest_query.specs.Fronts.{span}
+use Rattle.nearest_query.specs.Fronts.{leaf_sum}
 use Rattle.nearest_query.specs.Search.{World, HasLeaves, nears_at, live_at}
 use Rattle.nearest_query.proofs.Turns.{span_split, span_one}
 
@@ -83,7 +83,7 @@ module _ (f : Near → ℕ) (d : ℕ) (none : (y : Near) → d ≤ y.dist2 → f
 
   zero_below : (w : World) (i first : ℕ) (s : Spot) (path : Region) (t : IndexTree) → length path.hi ≡ D → length path.lo ≡ D → HasCells D path t
       → HasLeaves D w i first s t → IsFar D w.at d path
-      → span (λ j n. sum_by f (nears_at w j n)) i first (leaf_count t) ≡ 0
+      → leaf_sum (λ j n. sum_by f (nears_at w j n)) i first (leaf_count t) ≡ 0
   zero_below w i first s path (Leaf len own) hi lo cells leaves far =
       span_one (λ j n. sum_by f (nears_at w j n)) i first
       ∙ zero_leaf _ _ first s len own w.at (live_at w i) (w.table i first) leaves.0 (far_within D w.at d own path cells.1 far)
@@ -100,7 +100,7 @@ module _ (f : Near → ℕ) (d : ℕ) (none : (y : Near) → d ≤ y.dist2 → f
   -- nothing that counts is below a node that is far
   pub zero_node : (w : World) (i first : ℕ) (s : Spot) (path : Region) (t : IndexTree) → length path.hi ≡ D → length path.lo ≡ D → HasCells D path t
       → HasLeaves D w i first s t → d ≤ least_dist2 w.at (cell_of path t)
-      → span (λ j n. sum_by f (nears_at w j n)) i first (leaf_count t) ≡ 0
+      → leaf_sum (λ j n. sum_by f (nears_at w j n)) i first (leaf_count t) ≡ 0
   zero_node w i first s path (Leaf len own) hi lo cells leaves h =
       span_one (λ j n. sum_by f (nears_at w j n)) i first
       ∙ zero_leaf _ _ first s len own w.at (live_at w i) (w.table i first) leaves.0 (far_cell D w.at d own h)

@@ -14,12 +14,13 @@ use Rattle.nearest_query.specs.declared.frontier.Waiting.{Waiting}
 use Rattle.documents.specs.NearestEntries.{ComesBefore, IsNearest}
 use Rattle.nearest_query.specs.Best.{found_of}
 use Rattle.nearest_query.specs.Segments.{is_within, bound_of, last_of}
-use Rattle.nearest_query.specs.Fronts.{span, spread}
+use Rattle.nearest_query.specs.Fronts.{leaf_sum, sum_below}
 use Rattle.nearest_query.specs.Search.{World, IsNode, IsSought, nears_at}
-use Rattle.nearest_query.proofs.Order.{same_near, cons_cases, cons_head, cons_tail, nil_none}
+use Rattle.nearest_query.proofs.Order.{same_near, cons_head, cons_tail, nil_none}
 use Rattle.nearest_query.proofs.Links.{by_test}
 use Rattle.nearest_query.proofs.Distances.{zero_node}
 use Rattle.nearest_query.proofs.Unique.{pairs_head, pairs_tail, nearest_unique, nearest_wider, nearest_narrower}
+use Rattle.documents.proofs.Lists.{cons_cases}
 
 -- ---- membership by totals
 
@@ -63,16 +64,16 @@ same_members xs ys h x k = let c = counts_some x xs k in let t = h (one_if x) in
 
 zero_turns : {D : ℕ} (w : World) (d : ℕ) (f : Near → ℕ) → ((y : Near) → d ≤ y.dist2 → f y ≡ 0) → (nodes : List (NodeAt D)) (turns : List Waiting)
     → All (IsNode D w nodes) turns → All (λ t. d ≤ t.dist2.0) turns
-    → sum_by (spread (λ i n. sum_by f (nears_at w i n))) turns ≡ 0
+    → sum_by (sum_below (λ i n. sum_by f (nears_at w i n))) turns ≡ 0
 zero_turns w d f none nodes [] all far = refl
 zero_turns {D} w d f none nodes (t ∷ ts) all far =
     let n = All-head (IsNode D w nodes) t ts all in
     let h = All-head (λ u. d ≤ u.dist2.0) t ts far in
     let e = n.dist in
     let z = zero_node f d none D w t.segment t.first n.spot n.path n.tree n.dims n.dims_too n.cells n.leaves (omega (arith, h, e)) in
-    let s : spread (λ i k. sum_by f (nears_at w i k)) t ≡ 0 = ap (λ k. span (λ i j. sum_by f (nears_at w i j)) t.segment t.first k) n.count ∙ z in
+    let s : sum_below (λ i k. sum_by f (nears_at w i k)) t ≡ 0 = ap (λ k. leaf_sum (λ i j. sum_by f (nears_at w i j)) t.segment t.first k) n.count ∙ z in
     let r = zero_turns w d f none nodes ts (All-tail (IsNode D w nodes) t ts all) (All-tail (λ u. d ≤ u.dist2.0) t ts far) in
-    let c = sum_by-cons (spread (λ i k. sum_by f (nears_at w i k))) t ts in
+    let c = sum_by-cons (sum_below (λ i k. sum_by f (nears_at w i k))) t ts in
     omega (arith, s, r, c)
 
 -- the last is the farthest
@@ -122,8 +123,8 @@ module _ {D : ℕ} (w : World) (all : List Near) (turns : List Waiting) (nodes :
   end_nearest e = nearest_wider found.many.room s.seen all (found_of found) s.best.nearest seen_in
       (λ x h. inl (let c = counts_some x all h in
       let t = s.totals (one_if x) in
-      let z : sum_by (spread (λ i n. sum_by (one_if x) (nears_at w i n))) turns ≡ 0 =
-      ap (λ ts. sum_by (spread (λ i n. sum_by (one_if x) (nears_at w i n))) ts) e in some_counted x s.seen (omega (arith, c, t, z))))
+      let z : sum_by (sum_below (λ i n. sum_by (one_if x) (nears_at w i n))) turns ≡ 0 =
+      ap (λ ts. sum_by (sum_below (λ i n. sum_by (one_if x) (nears_at w i n))) ts) e in some_counted x s.seen (omega (arith, c, t, z))))
 
   last_within : (d : ℕ) (nearest : List Near) → All (λ t. d ≤ t.dist2.0) turns → IsNearest found.many.room all nearest
       → (found.many.room ≤ length (found_of found) → (a : Near) × Contains (found_of found) a × (d ≤ a.dist2))

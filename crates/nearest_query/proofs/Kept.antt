@@ -13,7 +13,7 @@ use Rattle.std.specs.HashMap as hash
 use Rattle.point_codec.specs.declared.entries.Near.{Near}
 use Rattle.nearest_query.specs.declared.many.Many.{Many}
 use Rattle.documents.specs.NearestEntries.{ComesBefore, IsNearest}
-use Rattle.nearest_query.specs.Best.{near_cmp, AreLinked, AreKept, IsPut}
+use Rattle.nearest_query.specs.Best.{near_cmp, AreLinked, AreKept, IsInserted}
 use Rattle.nearest_query.proofs.Order.{near_total, near_exact, same_near, behind, before_from_less, before_trans, pairs_from_sorted}
 use Rattle.nearest_query.proofs.Offers.{none_nearest, nearest_same, nearest_after}
 use Rattle.nearest_query.proofs.Links.{Linked, LinkedBut, at_one, at_itself, by_test, link_put, but_none, was_in, but_improved, but_replaced}
@@ -106,7 +106,7 @@ added true h = cc
 added false h = refl
 
 module _ (entries : List Near) (old : BTreeSet Near) (mid new : Many) (n : Near) (some : 1 ≤ mid.room) (was : IsNearest mid.room entries old.keys)
-    (but : LinkedBut n (given mid) (has mid.in_order)) (put : IsPut n mid new) (sub : (a : Near) → has mid.in_order a ≡ true → has old a ≡ true) where
+    (but : LinkedBut n (given mid) (has mid.in_order)) (put : IsInserted n mid new) (sub : (a : Near) → has mid.in_order a ≡ true → has old a ≡ true) where
   no_number : has mid.in_order n ≡ false
   no_number = by_test _ (has mid.in_order n) (λ h. absurd (but.none n h refl)) (λ h. h)
 
@@ -168,7 +168,7 @@ pub improved_best : (entries : List Near) (old mid new : Many) (n : Near) (d : �
     → mid.room ≡ old.room → mid.distances ≡ old.distances
     → sorted.UpdatesBy near_cmp (near_cmp (record { dist2 = d; doc = n.doc })) old.in_order mid.in_order false
     → length mid.in_order.keys + cond (sorted.contains_by (near_cmp (record { dist2 = d; doc = n.doc })) old.in_order) 1 0 ≡ length old.in_order.keys
-    → IsPut n mid new → AreKept (n ∷ entries) new
+    → IsInserted n mid new → AreKept (n ∷ entries) new
 improved_best entries old mid new n d best e near room same gone len put =
     put_best entries old.in_order mid new n (let s = best.some in omega arith) (subst (λ k. IsNearest k entries old.in_order.keys) (sym room) best.nearest) but
     put sub
@@ -212,7 +212,7 @@ improved_best entries old mid new n d best e near room same gone len put =
 -- a number more, where there is a place
 pub added_best : (entries : List Near) (old new : Many) (n : Near) → AreKept entries old → hash.get eqb old.distances n.doc ≡ None
     → length old.in_order.keys < old.room
-    → IsPut n old new → AreKept (n ∷ entries) new
+    → IsInserted n old new → AreKept (n ∷ entries) new
 added_best entries old new n best e room put =
     put_best entries old.in_order old new n best.some best.nearest (but_none n (given old) (has old.in_order) is e) put (λ a h. h)
     (omega arith) low (λ a h. inl h) (λ f. omega arith) (λ x f all. absurd (omega arith))
@@ -232,7 +232,7 @@ pub replaced_best : (entries : List Near) (old mid new : Many) (n w : Near) → 
     → mid.room ≡ old.room → old.in_order.keys ≡ mid.in_order.keys ++ w ∷ [] → All (λ q. near_cmp q w ≡ Less) mid.in_order.keys
     → sorted.Updates near_cmp old.in_order mid.in_order w false
     → hash.UpdatesBy eqb (eqb w.doc) old.distances mid.distances None
-    → IsPut n mid new → AreKept (n ∷ entries) new
+    → IsInserted n mid new → AreKept (n ∷ entries) new
 replaced_best entries old mid new n w best e full after room cut below gone lost put =
     put_best entries old.in_order mid new n (let s = best.some in omega arith) (subst (λ k. IsNearest k entries old.in_order.keys) (sym room) best.nearest) but
     put sub

@@ -1,5 +1,5 @@
 -- The order by distance and number.
-use Rattle.std.proofs.Common.{◌≡◌, ℕ, ◌≤◌, ◌<◌, false, List, [], ◌∷◌, get_or, zero, suc, refl, ◌⊎◌, inl, inr, arith}
+use Rattle.std.proofs.Common.{◌≡◌, ℕ, ◌≤◌, ◌<◌, false, List, [], ◌∷◌, get_or, zero, suc, refl, arith}
 use Rattle.std.proofs.lemmas.Bool.Decides.{nat_tests}
 use Rattle.std.proofs.lemmas.Map.Keys.{Less-from_sorted}
 use Rattle.std.proofs.lemmas.Map.Lookups.{exact_unsigned, exact_pairs}
@@ -57,10 +57,6 @@ before_itself a h = let s : a.dist2 ≤ a.dist2 = omega arith in h.tie s
 
 pub pairs_from_sorted : (ks : List Near) → IsStrictlySortedBy near_cmp ks → AllPairs ComesBefore ks
 pairs_from_sorted ks up = λ i j d h k. before_from_less (get_or ks i d) (get_or ks j d) (Less-from_sorted near_cmp ks i j d up h k)
-
-pub cons_cases : {X : Type 0} (x : X) (xs : List X) (y : X) → Contains (x ∷ xs) y → (x ≡ y) ⊎ Contains xs y
-cons_cases x xs y (zero, h, e) = inl e
-cons_cases x xs y (suc k, h, e) = inr (k, omega arith, e)
 
 pub cons_head : {X : Type 0} (x : X) (xs : List X) → Contains (x ∷ xs) x
 cons_head x xs = (zero, omega arith, refl)

@@ -19,7 +19,7 @@ use Rattle.segment_file.specs.Damages.{IsLeafDamage}
 use Rattle.nearest_query.specs.declared.frontier.Waiting.{Waiting}
 use Rattle.nearest_query.specs.Segments.{IsSegmentDamage, no_head}
 use Rattle.nearest_query.specs.Fronts.{Front, IsWaiting}
-use Rattle.nearest_query.specs.Search.{IsPart}
+use Rattle.nearest_query.specs.Search.{IsNodeBelow}
 use Rattle.nearest_query.proofs.Turns.{turn_of, stands_new, stands_still}
 
 pub on_damage : {T : Type 0} (P Q : Damage → Type 0) (r : Result T PageFault) → ((d : Damage) → P d → Q d) → OnDamage r P → OnDamage r Q
@@ -60,11 +60,11 @@ pub parts_put : {D : ℕ} (heads : List Head) (trees : ℕ → IndexTree) (at : 
     (path : Region) (t : IndexTree) → IsWaiting at seg node old new
     → seg < length heads → IsAt node first s path t
     → ((number : ℕ) (at : Spot) (len : ℕ) (own : Region) → IsLeafOf first s t number at len own → IsLeafOf 0 front (trees seg) number at len own)
-    → All (IsPart heads trees old.nodes) old.turns → All (IsPart heads trees new.nodes) new.turns
+    → All (IsNodeBelow heads trees old.nodes) old.turns → All (IsNodeBelow heads trees new.nodes) new.turns
 parts_put heads trees at seg node old new first s path t put lt is part all =
     let e = (put.is first s path t is).1 in
-    All-permutation (IsPart heads trees new.nodes) (turn_of put.dist seg node (length old.nodes) ∷ old.turns) new.turns put.moved
-    (All-cons (IsPart heads trees new.nodes) (turn_of put.dist seg node (length old.nodes)) old.turns
+    All-permutation (IsNodeBelow heads trees new.nodes) (turn_of put.dist seg node (length old.nodes) ∷ old.turns) new.turns put.moved
+    (All-cons (IsNodeBelow heads trees new.nodes) (turn_of put.dist seg node (length old.nodes)) old.turns
     (record {
       inside = lt;
       node = node;
@@ -76,7 +76,7 @@ parts_put heads trees at seg node old new first s path t put lt is part all =
       part = subst (λ k. (number : ℕ) (at : Spot) (len : ℕ) (own : Region) → IsLeafOf k s t number at len own → IsLeafOf 0 front (trees seg) number at len own)
           (sym e) part;
     })
-    (All-weaker (IsPart heads trees old.nodes) (IsPart heads trees new.nodes)
+    (All-weaker (IsNodeBelow heads trees old.nodes) (IsNodeBelow heads trees new.nodes)
     (λ u k. record {
       inside = k.inside;
       node = k.node;
@@ -89,9 +89,9 @@ parts_put heads trees at seg node old new first s path t put lt is part all =
     }) old.turns all))
 
 pub parts_fork : {D : ℕ} (heads : List Head) (trees : ℕ → IndexTree) (at : List ℤ) (next : Waiting) (old mid new : Front D) (left right : NodeAt D)
-    → (n : IsPart heads trees old.nodes next)
+    → (n : IsNodeBelow heads trees old.nodes next)
     → AreChildren left right next.first n.spot n.path n.tree → IsWaiting at next.segment left old mid → IsWaiting at next.segment right mid new
-    → All (IsPart heads trees old.nodes) old.turns → All (IsPart heads trees new.nodes) new.turns
+    → All (IsNodeBelow heads trees old.nodes) old.turns → All (IsNodeBelow heads trees new.nodes) new.turns
 parts_fork heads trees at next old mid new left right n kids put_left put_right all =
     let part = subst
     (λ t. (number : ℕ) (at : Spot) (len : ℕ) (own : Region) → IsLeafOf next.first n.spot t number at len own
@@ -101,7 +101,7 @@ parts_fork heads trees at next old mid new left right n kids put_left put_right 
 
 -- what a leaf shows is shown of its segment
 pub leaf_shown : {D : ℕ} {T : Type 0} (heads : List Head) (trees : ℕ → IndexTree) (nodes : List (NodeAt D)) (next : Waiting) (node : NodeAt D)
-    (r : Result T PageFault) → (n : IsPart heads trees nodes next) → node ≡ n.node
+    (r : Result T PageFault) → (n : IsNodeBelow heads trees nodes next) → node ≡ n.node
     → ((first : ℕ) (s : Spot) (path : Region) (t : IndexTree) → IsAt node first s path t
     → OnDamage r (IsLeafDamage D (get_or heads next.segment no_head) first s t))
     → OnDamage r (IsSegmentDamage D heads trees)

@@ -22,7 +22,7 @@ use Rattle.segment_file.specs.Segments.{HoldsTree, HoldsLeaf}
 use Rattle.nearest_query.specs.declared.frontier.Waiting.{Waiting}
 use Rattle.documents.specs.NearestEntries.{near_of, nears_of}
 use Rattle.nearest_query.specs.Segments.{live_items, live_in, least_dist2, is_within, near_leaves, AreNearLeaves}
-use Rattle.nearest_query.specs.Fronts.{Front, IsWaiting, span, spread}
+use Rattle.nearest_query.specs.Fronts.{Front, IsWaiting, leaf_sum, sum_below}
 use Rattle.nearest_query.specs.Search.{World, IsNode, HasLeaves, HasRoots, head_at, live_at, nears_at, one_within, no_live}
 use Rattle.nearest_query.specs.Segments.{no_head}
 use Rattle.nearest_query.proofs.Turns.{span_split, span_one, waiting_sum}
@@ -44,34 +44,35 @@ root_nodes w at i node old new roots at_is lt walk put all =
 
 -- what the segments have up to one, and with it
 one_segment : (w : World) (g : ℕ → ℕ → ℕ) (i : ℕ)
-    → sum_by (λ j. span g j 0 (head_at w j).index.leaves) (range_with_len 0 (i + 1))
-    ≡ sum_by (λ j. span g j 0 (head_at w j).index.leaves) (range_with_len 0 i) + span g i 0 (head_at w i).index.leaves
+    → sum_by (λ j. leaf_sum g j 0 (head_at w j).index.leaves) (range_with_len 0 (i + 1))
+    ≡ sum_by (λ j. leaf_sum g j 0 (head_at w j).index.leaves) (range_with_len 0 i) + leaf_sum g i 0 (head_at w i).index.leaves
 one_segment w g i =
-    let q = span_split (λ j. span g j 0 (head_at w j).index.leaves) 0 i 1 in
+    let q = span_split (λ j. leaf_sum g j 0 (head_at w j).index.leaves) 0 i 1 in
     let z : zero + i ≡ i = omega arith in
-    let c = sum_by-cons (λ j. span g j 0 (head_at w j).index.leaves) (zero + i) [] in
-    let e : span g (zero + i) 0 (head_at w (zero + i)).index.leaves ≡ span g i 0 (head_at w i).index.leaves =
-    ap (λ k. span g k 0 (head_at w k).index.leaves) z in
+    let c = sum_by-cons (λ j. leaf_sum g j 0 (head_at w j).index.leaves) (zero + i) [] in
+    let e : leaf_sum g (zero + i) 0 (head_at w (zero + i)).index.leaves ≡ leaf_sum g i 0 (head_at w i).index.leaves =
+    ap (λ k. leaf_sum g k 0 (head_at w k).index.leaves) z in
     omega (arith, q, c, e)
 
 -- a root that waits adds what its segment has
 root_adds : {D : ℕ} (w : World) (at : List ℤ) (i : ℕ) (node : NodeAt D) (old new : Front D) → HasRoots D w → i < length w.heads
     → ((root : Region) (t : IndexTree) → HasTree D (head_at w i).index root t → IsAt node 0 front root t)
     → IsWaiting at i node old new → (g : ℕ → ℕ → ℕ)
-    → sum_by (spread g) new.turns ≡ span g i 0 (head_at w i).index.leaves + sum_by (spread g) old.turns
+    → sum_by (sum_below g) new.turns ≡ leaf_sum g i 0 (head_at w i).index.leaves + sum_by (sum_below g) old.turns
 root_adds w at i node old new roots lt walk put g =
     let r = roots i lt in
     let facts = put.is 0 front r.root r.tree (walk r.root r.tree r.has) in
     let count : node.leaves ≡ (head_at w i).index.leaves = facts.2 ∙ sym (shaped_count (head_at w i).index.leaves r.tree r.has.tree.shaped) in
     let s = waiting_sum at i node old new put g in
-    let p : span g i node.first node.leaves ≡ span g i 0 (head_at w i).index.leaves = ap (λ k. span g i k node.leaves) facts.1 ∙ ap (λ k. span g i 0 k) count in
+    let p : leaf_sum g i node.first node.leaves ≡ leaf_sum g i 0 (head_at w i).index.leaves =
+        ap (λ k. leaf_sum g i k node.leaves) facts.1 ∙ ap (λ k. leaf_sum g i 0 k) count in
     omega (arith, s, p)
 
 pub root_totals : {D : ℕ} (w : World) (at : List ℤ) (i : ℕ) (node : NodeAt D) (old new : Front D) → HasRoots D w → i < length w.heads
     → ((root : Region) (t : IndexTree) → HasTree D (head_at w i).index root t → IsAt node 0 front root t)
     → IsWaiting at i node old new → (g : ℕ → ℕ → ℕ)
-    → sum_by (spread g) old.turns ≡ sum_by (λ j. span g j 0 (head_at w j).index.leaves) (range_with_len 0 i)
-    → sum_by (spread g) new.turns ≡ sum_by (λ j. span g j 0 (head_at w j).index.leaves) (range_with_len 0 (i + 1))
+    → sum_by (sum_below g) old.turns ≡ sum_by (λ j. leaf_sum g j 0 (head_at w j).index.leaves) (range_with_len 0 i)
+    → sum_by (sum_below g) new.turns ≡ sum_by (λ j. leaf_sum g j 0 (head_at w j).index.leaves) (range_with_len 0 (i + 1))
 root_totals w at i node old new roots lt walk put g was =
     let a = root_adds w at i node old new roots lt walk put g in
     let b = one_segment w g i in
@@ -80,8 +81,8 @@ root_totals w at i node old new roots lt walk put g was =
 pub root_most : {D : ℕ} (w : World) (at : List ℤ) (i : ℕ) (node : NodeAt D) (old new : Front D) → HasRoots D w → i < length w.heads
     → ((root : Region) (t : IndexTree) → HasTree D (head_at w i).index root t → IsAt node 0 front root t)
     → IsWaiting at i node old new → (g : ℕ → ℕ → ℕ)
-    → sum_by (spread g) old.turns ≤ sum_by (λ j. span g j 0 (head_at w j).index.leaves) (range_with_len 0 i)
-    → sum_by (spread g) new.turns ≤ sum_by (λ j. span g j 0 (head_at w j).index.leaves) (range_with_len 0 (i + 1))
+    → sum_by (sum_below g) old.turns ≤ sum_by (λ j. leaf_sum g j 0 (head_at w j).index.leaves) (range_with_len 0 i)
+    → sum_by (sum_below g) new.turns ≤ sum_by (λ j. leaf_sum g j 0 (head_at w j).index.leaves) (range_with_len 0 (i + 1))
 root_most w at i node old new roots lt walk put g was =
     let a = root_adds w at i node old new roots lt walk put g in
     let b = one_segment w g i in
@@ -97,16 +98,16 @@ span_none h first (suc n) none =
     omega (arith, a, b, c)
 
 pub passed_totals : (w : World) (i : ℕ) (turns : List Waiting) (g : ℕ → ℕ → ℕ) → ((n : ℕ) → g i n ≡ 0)
-    → sum_by (spread g) turns ≡ sum_by (λ j. span g j 0 (head_at w j).index.leaves) (range_with_len 0 i)
-    → sum_by (spread g) turns ≡ sum_by (λ j. span g j 0 (head_at w j).index.leaves) (range_with_len 0 (i + 1))
+    → sum_by (sum_below g) turns ≡ sum_by (λ j. leaf_sum g j 0 (head_at w j).index.leaves) (range_with_len 0 i)
+    → sum_by (sum_below g) turns ≡ sum_by (λ j. leaf_sum g j 0 (head_at w j).index.leaves) (range_with_len 0 (i + 1))
 passed_totals w i turns g none was =
     let a = span_none (g i) 0 (head_at w i).index.leaves none in
     let b = one_segment w g i in
     omega (arith, a, b, was)
 
 pub passed_most : (w : World) (i : ℕ) (turns : List Waiting) (g : ℕ → ℕ → ℕ)
-    → sum_by (spread g) turns ≤ sum_by (λ j. span g j 0 (head_at w j).index.leaves) (range_with_len 0 i)
-    → sum_by (spread g) turns ≤ sum_by (λ j. span g j 0 (head_at w j).index.leaves) (range_with_len 0 (i + 1))
+    → sum_by (sum_below g) turns ≤ sum_by (λ j. leaf_sum g j 0 (head_at w j).index.leaves) (range_with_len 0 i)
+    → sum_by (sum_below g) turns ≤ sum_by (λ j. leaf_sum g j 0 (head_at w j).index.leaves) (range_with_len 0 (i + 1))
 passed_most w i turns g was = let b = one_segment w g i in omega (arith, b, was)
 
 -- where no number is live there is no live entry
@@ -175,7 +176,7 @@ module _ (D : ℕ) (w : World) (i : ℕ) (bytes : List ℕ) (bytes_are : bytes_o
   -- the live entries of all of them are those of the items
   pub leaf_totals : (f : Near → ℕ) (first : ℕ) (s : Spot) (t : IndexTree) (items : List Item) (h : HoldsTree D bytes (head_at w i) first s t items)
       → ((n : ℕ) → first ≤ n → n < first + leaf_count t → w.table i n ≡ leaves_of D bytes (head_at w i) first s t items h n)
-      → span (λ j n. sum_by f (nears_at w j n)) i first (leaf_count t) ≡ sum_by f (nears_of w.at (live_items (live_at w i) items))
+      → leaf_sum (λ j n. sum_by f (nears_at w j n)) i first (leaf_count t) ≡ sum_by f (nears_of w.at (live_items (live_at w i) items))
   leaf_totals f first s (Leaf len own) items h table =
       span_one (λ j n. sum_by f (nears_at w j n)) i first
       ∙ ap (λ xs. sum_by f (nears_of w.at (live_items (live_at w i) xs))) (table first (omega arith) (omega arith))
@@ -202,7 +203,7 @@ module _ (D : ℕ) (w : World) (i : ℕ) (bytes : List ℕ) (bytes_are : bytes_o
 -- how many of them are within a bound
 pub near_totals : (w : World) (i : ℕ) (bound : Option ℕ) (first : ℕ) (t : IndexTree)
     → ((n : ℕ) → first ≤ n → n < first + leaf_count t → w.least i n ≡ least_of w.at first t n)
-    → span (one_within w bound) i first (leaf_count t) ≡ near_leaves w.at bound t
+    → leaf_sum (one_within w bound) i first (leaf_count t) ≡ near_leaves w.at bound t
 unfolding near_leaves
 near_totals w i bound first (Leaf len own) least =
     span_one (one_within w bound) i first ∙ ap (λ d. cond (is_within bound d) 1 0) (least first (omega arith) (omega arith))

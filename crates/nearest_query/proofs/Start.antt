@@ -21,7 +21,7 @@ use Rattle.nearest_query.specs.declared.frontier.Waiting.{Waiting}
 use Rattle.documents.specs.NearestEntries.{near_of, nears_of}
 use Rattle.nearest_query.specs.Best.{AreAdded}
 use Rattle.nearest_query.specs.Segments.{live_items, live_in, AreSegments, AreNearLeaves}
-use Rattle.nearest_query.specs.Fronts.{span, spread}
+use Rattle.nearest_query.specs.Fronts.{leaf_sum, sum_below}
 use Rattle.nearest_query.specs.Search.{World, IsNode, IsSought, HasRoot, HasRoots, head_at, live_at, nears_at, one_within}
 use Rattle.nearest_query.specs.Segments.{no_head}
 use Rattle.nearest_query.proofs.Roots.{shaped_count, leaves_of, least_of, has_leaves, leaf_totals, near_totals, sum_in, near_in, HasNear, no_nears}
@@ -70,9 +70,9 @@ module _ (D : ℕ) (at : List ℤ) (heads : List Head) (lives : List LiveSet) (f
   record IsRoot (i : ℕ) : Type 0 where
     root : HasRoot D world i
     totals : (f : Near → ℕ)
-        → span (λ j n. sum_by f (nears_at world j n)) i 0 (head_of i).index.leaves
+        → leaf_sum (λ j n. sum_by f (nears_at world j n)) i 0 (head_of i).index.leaves
         ≡ sum_by f (nears_of at (live_items (live_at world i) (contents (head_of i).id)))
-    near : (bound : Option ℕ) → HasNear D at bound (head_of i) (span (one_within world bound) i 0 (head_of i).index.leaves)
+    near : (bound : Option ℕ) → HasNear D at bound (head_of i) (leaf_sum (one_within world bound) i 0 (head_of i).index.leaves)
 
   is_root : (i : ℕ) (c : (i < length heads) ⊎ (length heads ≤ i)) → i < length heads → world.table i ≡ table_of i c → world.least i ≡ leasts_of i c → IsRoot i
   is_root i (inr h) lt e f = absurd (omega arith)
@@ -87,13 +87,13 @@ module _ (D : ℕ) (at : List ℤ) (heads : List Head) (lives : List LiveSet) (f
           leaves =
               has_leaves D world i (bytes_at i) refl 0 front o.tree (contents (head_of i).id) o.holds (λ n a b. ap (λ t. t n) e) (λ n a b. ap (λ t. t n) f);
         };
-        totals = λ k. ap (λ m. span (λ j n. sum_by k (nears_at world j n)) i 0 m) count
+        totals = λ k. ap (λ m. leaf_sum (λ j n. sum_by k (nears_at world j n)) i 0 m) count
             ∙ leaf_totals D world i (bytes_at i) refl k 0 front o.tree (contents (head_of i).id) o.holds (λ n a b. ap (λ t. t n) e);
         near = λ bound. record {
           root = o.root;
           tree = o.tree;
           has = o.has;
-          is = ap (λ m. span (one_within world bound) i 0 m) count ∙ near_totals world i bound 0 o.tree (λ n a b. ap (λ t. t n) f);
+          is = ap (λ m. leaf_sum (one_within world bound) i 0 m) count ∙ near_totals world i bound 0 o.tree (λ n a b. ap (λ t. t n) f);
         };
       }
 
@@ -107,7 +107,7 @@ module _ (D : ℕ) (at : List ℤ) (heads : List Head) (lives : List LiveSet) (f
       → AreAdded [] (nears_of at buffer) found
       → All (IsNode D world nodes) turns
       → ((g : ℕ → ℕ → ℕ) → ((i n : ℕ) → (live_at world i).live ≡ [] → g i n ≡ 0)
-      → sum_by (spread g) turns ≡ sum_by (λ i. span g i 0 (head_at world i).index.leaves) (range_with_len 0 (length heads)))
+      → sum_by (sum_below g) turns ≡ sum_by (λ i. leaf_sum g i 0 (head_at world i).index.leaves) (range_with_len 0 (length heads)))
       → IsSought D world (nears_of at (live_in contents heads lives ++ buffer)) turns nodes found
   start buffer turns nodes found same added all totals = record {
     seen = added.after;
@@ -118,20 +118,20 @@ module _ (D : ℕ) (at : List ℤ) (heads : List Head) (lives : List LiveSet) (f
         let a = added.totals f in
         let z : sum_by f [] ≡ 0 = refl in
         let t = totals g (no_nears world f) in
-        let i = sum_in f at contents heads lives 0 (λ i. span g i 0 (head_at world i).index.leaves) same
-        (λ i lt. let e : zero + i ≡ i = omega arith in ap (λ k. span g k 0 (head_at world k).index.leaves) e ∙ (root_at i lt).totals f) in
+        let i = sum_in f at contents heads lives 0 (λ i. leaf_sum g i 0 (head_at world i).index.leaves) same
+        (λ i lt. let e : zero + i ≡ i = omega arith in ap (λ k. leaf_sum g k 0 (head_at world k).index.leaves) e ∙ (root_at i lt).totals f) in
         let j = ap (sum_by f) (map-append (near_of at) (live_in contents heads lives) buffer)
         ∙ sum_by-append f (nears_of at (live_in contents heads lives)) (nears_of at buffer) in
         omega (arith, a, z, t, i, j);
   }
 
   pub start_near : (bound : Option ℕ) (turns : List Waiting) (n : ℕ) → AreNearLeaves D at bound heads n
-      → ((g : ℕ → ℕ → ℕ) → sum_by (spread g) turns ≤ sum_by (λ i. span g i 0 (head_at world i).index.leaves) (range_with_len 0 (length heads)))
-      → sum_by (spread (one_within world bound)) turns ≤ n
+      → ((g : ℕ → ℕ → ℕ) → sum_by (sum_below g) turns ≤ sum_by (λ i. leaf_sum g i 0 (head_at world i).index.leaves) (range_with_len 0 (length heads)))
+      → sum_by (sum_below (one_within world bound)) turns ≤ n
   start_near bound turns n all most =
       let a = most (one_within world bound) in
-      let b = near_in D at bound heads 0 (λ i. span (one_within world bound) i 0 (head_at world i).index.leaves) n all
+      let b = near_in D at bound heads 0 (λ i. leaf_sum (one_within world bound) i 0 (head_at world i).index.leaves) n all
       (λ i lt.
       let e : zero + i ≡ i = omega arith in
-      subst (λ k. HasNear D at bound (head_of i) (span (one_within world bound) k 0 (head_at world k).index.leaves)) (sym e) ((root_at i lt).near bound)) in
+      subst (λ k. HasNear D at bound (head_of i) (leaf_sum (one_within world bound) k 0 (head_at world k).index.leaves)) (sym e) ((root_at i lt).near bound)) in
       omega (arith, a, b)

@@ -27,7 +27,7 @@ use Rattle.nearest_query.specs.declared.frontier.Waiting.{Waiting}
 use Rattle.documents.specs.NearestEntries.{nears_of}
 use Rattle.nearest_query.specs.Best.{AreBest, AreAdded}
 use Rattle.nearest_query.specs.Segments.{live_items, least_dist2, is_within}
-use Rattle.nearest_query.specs.Fronts.{Front, IsWaiting, span, spread}
+use Rattle.nearest_query.specs.Fronts.{Front, IsWaiting, leaf_sum, sum_below}
 use Rattle.nearest_query.specs.Search.{World, IsNode, IsSought, HasLeaves, head_at, live_at, nears_at, one_within}
 use Rattle.nearest_query.proofs.Results.{on_ok}
 use Rattle.nearest_query.proofs.Turns.{span_split, span_one, turn_of, waiting_sum, stands_new, stands_still}
@@ -90,16 +90,17 @@ pub children_span : {D : ℕ} (w : World) (nodes : List (NodeAt D)) (next : Wait
     → AreChildren left right next.first n.spot n.path n.tree
     → (leaves : (left.leaves ≡ left.leaves)) → (g : ℕ → ℕ → ℕ) → left.leaves + right.leaves ≡ n.node.leaves
     → ((first : ℕ) (s : Spot) (path : Region) (t : IndexTree) → IsAt left first s path t → left.leaves ≡ leaf_count t)
-    → span g next.segment left.first left.leaves + span g next.segment right.first right.leaves ≡ spread g next
+    → leaf_sum g next.segment left.first left.leaves + leaf_sum g next.segment right.first right.leaves ≡ sum_below g next
 children_span w nodes next n left right kids leaves g sum counted =
     let lc = counted next.first n.spot (left_of n.path kids.dimension kids.value) kids.l kids.left_is in
     let a : left.first ≡ next.first = kids.left_is.first_is in
     let b : right.first ≡ next.first + left.leaves = kids.right_is.first_is ∙ ap (λ k. next.first + k) (sym lc) in
     let c : next.leaves ≡ left.leaves + right.leaves = n.count ∙ sym n.node_count ∙ sym sum in
-    let p : span g next.segment left.first left.leaves ≡ span g next.segment next.first left.leaves = ap (λ k. span g next.segment k left.leaves) a in
-    let q : span g next.segment right.first right.leaves ≡ span g next.segment (next.first + left.leaves) right.leaves =
-    ap (λ k. span g next.segment k right.leaves) b in
-    let r : spread g next ≡ span g next.segment next.first (left.leaves + right.leaves) = ap (λ k. span g next.segment next.first k) c in
+    let p : leaf_sum g next.segment left.first left.leaves ≡ leaf_sum g next.segment next.first left.leaves =
+        ap (λ k. leaf_sum g next.segment k left.leaves) a in
+    let q : leaf_sum g next.segment right.first right.leaves ≡ leaf_sum g next.segment (next.first + left.leaves) right.leaves =
+    ap (λ k. leaf_sum g next.segment k right.leaves) b in
+    let r : sum_below g next ≡ leaf_sum g next.segment next.first (left.leaves + right.leaves) = ap (λ k. leaf_sum g next.segment next.first k) c in
     let s = span_split (g next.segment) next.first left.leaves right.leaves in
     omega (arith, p, q, r, s)
 
@@ -148,7 +149,7 @@ fork_step {D} w all at next old mid new left right found at_is s kids_of put_lef
   totals = λ f.
       let g : ℕ → ℕ → ℕ = λ i k. sum_by f (nears_at w i k) in
       let t = s.totals f in
-      let c = sum_by-cons (spread g) next old.turns in
+      let c = sum_by-cons (sum_below g) next old.turns in
       let a = waiting_sum at next.segment left old mid put_left g in
       let b = waiting_sum at next.segment right mid new put_right g in
       let d = children_span w old.nodes next n left right kids refl g (kids_of n).1 (λ first sp path tr is. (put_left.is first sp path tr is).2) in
@@ -199,18 +200,19 @@ leaf_step {D} w all next turns nodes node old new r s single node_is opens =
           let g : ℕ → ℕ → ℕ = λ i k. sum_by f (nears_at w i k) in
           let t = s.totals f in
           let a = added.totals f in
-          let c = sum_by-cons (spread g) next turns in
-          let e : spread g next ≡ g next.segment next.first =
-          ap (λ k. span g next.segment next.first k) (n.count ∙ is_one) ∙ span_one g next.segment next.first in
+          let c = sum_by-cons (sum_below g) next turns in
+          let e : sum_below g next ≡ g next.segment next.first =
+          ap (λ k. leaf_sum g next.segment next.first k) (n.count ∙ is_one) ∙ span_one g next.segment next.first in
           omega (arith, t, a, c, e);
     }
 
 -- a leaf within the bound counts as one
 pub leaf_counts : {D : ℕ} (w : World) (bound : Option ℕ) (nodes : List (NodeAt D)) (next : Waiting) → (n : IsNode D w nodes next) → n.node.leaves ≡ 1
     → is_within bound next.dist2.0 ≡ true
-    → spread (one_within w bound) next ≡ 1
+    → sum_below (one_within w bound) next ≡ 1
 leaf_counts {D} w bound nodes next n single in' =
-    ap (λ k. span (one_within w bound) next.segment next.first k) (n.count ∙ sym n.node_count ∙ single) ∙ span_one (one_within w bound) next.segment next.first
+    ap (λ k. leaf_sum (one_within w bound) next.segment next.first k) (n.count ∙ sym n.node_count ∙ single)
+        ∙ span_one (one_within w bound) next.segment next.first
     ∙ ap (λ b. cond b 1 0)
     (one_leaf_tree
     (λ t. HasLeaves D w next.segment next.first n.spot t → next.dist2.0 ≡ least_dist2 w.at (cell_of n.path t)
@@ -223,7 +225,7 @@ sought_moved {D} w all turns turns' nodes found moved s = record {
   seen = s.seen;
   best = s.best;
   nodes_are = All-permutation (IsNode D w nodes) turns turns' moved s.nodes_are;
-  totals = λ f. let t = s.totals f in let p = sum_by-IsPermutation (spread (λ i n. sum_by f (nears_at w i n))) turns turns' moved in omega (arith, t, p);
+  totals = λ f. let t = s.totals f in let p = sum_by-IsPermutation (sum_below (λ i n. sum_by f (nears_at w i n))) turns turns' moved in omega (arith, t, p);
 }
 
 -- what opening a leaf promises of damages

@@ -10,8 +10,8 @@ use Rattle.std.specs.List.{sum_by, All, range_with_len}
 use Rattle.std.specs.List.Sorted.{IsPermutation}
 use Rattle.inner_pack.specs.declared.node.NodeAt.{NodeAt}
 use Rattle.nearest_query.specs.declared.frontier.Waiting.{Waiting}
-use Rattle.nearest_query.specs.Fronts.{Front, IsWaiting, span, spread, work}
-use Rattle.nearest_query.specs.Search.{Stands, IsInside}
+use Rattle.nearest_query.specs.Fronts.{Front, IsWaiting, leaf_sum, sum_below, work}
+use Rattle.nearest_query.specs.Search.{IsNthNode, IsInside}
 
 pub span_split : (h : ℕ → ℕ) (a m n : ℕ) → sum_by h (range_with_len a (m + n)) ≡ sum_by h (range_with_len a m) + sum_by h (range_with_len (a + m) n)
 span_split h a zero n =
@@ -31,7 +31,7 @@ span_split h a (suc m) n =
     let i = span_split h (a + 1) m n in
     omega (arith, p, q, r, i)
 
-pub span_one : (g : ℕ → ℕ → ℕ) (i first : ℕ) → span g i first 1 ≡ g i first
+pub span_one : (g : ℕ → ℕ → ℕ) (i first : ℕ) → leaf_sum g i first 1 ≡ g i first
 span_one g i first = let p = sum_by-cons (g i) first [] in omega (arith, p)
 
 pub same_turn : (turns new : List Waiting) (d seg f f' l l' p p' : ℕ) → f ≡ f' → l ≡ l' → p ≡ p'
@@ -47,22 +47,22 @@ abbrev pub turn_of : {D : ℕ} → ℕ → ℕ → NodeAt D → ℕ → Waiting
 turn_of d seg node place = record { dist2 = record { 0 = d }; segment = seg; first = node.first; leaves = node.leaves; place = place }
 
 pub waiting_sum : {D : ℕ} (at : List ℤ) (seg : ℕ) (node : NodeAt D) (old new : Front D) → IsWaiting at seg node old new
-    → (g : ℕ → ℕ → ℕ) → sum_by (spread g) new.turns ≡ span g seg node.first node.leaves + sum_by (spread g) old.turns
-waiting_sum at seg node old new h g = sum_by_pushed (spread g) (turn_of h.dist seg node (length old.nodes)) old.turns new.turns h.moved
+    → (g : ℕ → ℕ → ℕ) → sum_by (sum_below g) new.turns ≡ leaf_sum g seg node.first node.leaves + sum_by (sum_below g) old.turns
+waiting_sum at seg node old new h g = sum_by_pushed (sum_below g) (turn_of h.dist seg node (length old.nodes)) old.turns new.turns h.moved
 
 pub waiting_work : {D : ℕ} (at : List ℤ) (seg : ℕ) (node : NodeAt D) (old new : Front D) → IsWaiting at seg node old new
     → sum_by work new.turns ≡ 2 * node.leaves - 1 + (1 - node.leaves) + sum_by work old.turns
 waiting_work at seg node old new h = sum_by_pushed work (turn_of h.dist seg node (length old.nodes)) old.turns new.turns h.moved
 
-pub stands_new : {D : ℕ} (nodes new : List (NodeAt D)) (node : NodeAt D) → new ≡ nodes ++ node ∷ [] → Stands new (length nodes) node
+pub stands_new : {D : ℕ} (nodes new : List (NodeAt D)) (node : NodeAt D) → new ≡ nodes ++ node ∷ [] → IsNthNode new (length nodes) node
 stands_new nodes new node e =
-    subst (λ ns. Stands ns (length nodes) node) (sym e)
+    subst (λ ns. IsNthNode ns (length nodes) node) (sym e)
     (record { within = (let l = length-append nodes (node ∷ []) in omega (arith, l)); is = λ d. get_or-append_seam nodes node [] d })
 
-pub stands_still : {D : ℕ} (nodes new : List (NodeAt D)) (more node : NodeAt D) (place : ℕ) → new ≡ nodes ++ more ∷ [] → Stands nodes place node
-    → Stands new place node
+pub stands_still : {D : ℕ} (nodes new : List (NodeAt D)) (more node : NodeAt D) (place : ℕ) → new ≡ nodes ++ more ∷ [] → IsNthNode nodes place node
+    → IsNthNode new place node
 stands_still nodes new more node place e h =
-    subst (λ ns. Stands ns place node) (sym e)
+    subst (λ ns. IsNthNode ns place node) (sym e)
     (record {
       within = (let l = length-append nodes (more ∷ []) in let w = h.within in omega (arith, l, w));
       is = λ d. get_or-append nodes (more ∷ []) d place h.within ∙ h.is d;

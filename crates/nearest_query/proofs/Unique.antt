@@ -1,5 +1,5 @@
 -- There is one list of the nearest numbers.
-use Rattle.std.proofs.Common.{◌≡◌, ℕ, ◌+◌, ◌≤◌, ◌<◌, zero, suc, Bool, true, false, List, [], ◌∷◌, ◌++◌}
+use Rattle.std.proofs.Common.{◌≡◌, ℕ, ◌+◌, ◌≤◌, ◌<◌, zero, suc, true, List, [], ◌∷◌, ◌++◌}
 use Rattle.std.proofs.Common.{length, length-append, get_or, refl, sym, subst, ◌∙◌, ◌⊎◌, inr, ⊎_elim, arith}
 use Rattle.std.proofs.lemmas.Map.Keys.{sorted_from_all_adjacent}
 use Rattle.std.proofs.lemmas.Map.Views.{Contains-from_any, list_any-from_Contains, tells_apart}
@@ -14,7 +14,9 @@ use Rattle.point_codec.specs.declared.entries.Near.{Near}
 use Rattle.documents.specs.NearestEntries.{ComesBefore, HasNumber, IsNearest}
 use Rattle.nearest_query.specs.Best.{near_cmp}
 use Rattle.nearest_query.proofs.Order.{near_total, near_exact, same_near, less_from_before, before_itself}
-use Rattle.nearest_query.proofs.Order.{before_trans, cons_cases, cons_head, cons_tail, nil_none}
+use Rattle.nearest_query.proofs.Order.{before_trans, cons_head, cons_tail, nil_none}
+use Rattle.documents.proofs.Lists.{cons_cases}
+use Rattle.documents.proofs.Kept.{same_tests}
 
 no_near : Near
 no_near = record { dist2 = 0; doc = 0 }
@@ -93,11 +95,6 @@ has_too k entries f g isf isg a h = ⊎_elim found (λ out. absurd (full out.0 o
         at_itself [] i d m = absurd (omega arith)
         at_itself (x ∷ xs) zero d m = refl
         at_itself (x ∷ xs) (suc i) d m = at_itself xs i d (omega arith)
-
-same_tests : (b c : Bool) → (b ≡ true → c ≡ true) → (c ≡ true → b ≡ true) → b ≡ c
-same_tests true c f g = sym (f refl)
-same_tests false true f g = g refl
-same_tests false false f g = refl
 
 any_of : (xs : List Near) (q : Near) → Contains xs q → list_any (eq_by_cmp near_cmp q) xs ≡ true
 any_of xs q h = list_any-from_Contains (eq_by_cmp_equiv near_total) q xs h

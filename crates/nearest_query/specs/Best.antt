@@ -27,7 +27,7 @@ pub record AreKept (entries : List Near) (c : Many) : Type 0 where
   pub nearest : IsNearest c.room entries c.in_order.keys
 
 -- the number was put in order and its distance kept
-pub record IsPut (n : Near) (old new : Many) : Type 0 where
+pub record IsInserted (n : Near) (old new : Many) : Type 0 where
   pub room : new.room ≡ old.room
   pub placed : sorted.Updates near_cmp old.in_order new.in_order n true
   pub counted : length new.in_order.keys ≡ length old.in_order.keys +
@@ -36,7 +36,7 @@ pub record IsPut (n : Near) (old new : Many) : Type 0 where
   pub kept : hash.Updates nat_eq old.distances new.distances n.doc (Some n.dist2)
 
 -- the entry was put behind those that come before it and in front of one that doesn't
-pub record IsPutAmong (n : Near) (old new : List Near) : Type 0 where
+pub record IsInsertedAmong (n : Near) (old new : List Near) : Type 0 where
   pub front : List Near
   pub back : List Near
   pub before : old ≡ front ++ back

@@ -17,8 +17,8 @@ abbrev pub wait_cmp : Waiting → Waiting → Ordering
 wait_cmp a b = nat_cmp b.dist2.0 a.dist2.0
 
 -- none of the turns is nearer
-abbrev pub IsLeast : Waiting → List Waiting → Type 0
-IsLeast t turns = All (λ u. t.dist2.0 ≤ u.dist2.0) turns
+abbrev pub IsNearestTurn : Waiting → List Waiting → Type 0
+IsNearestTurn t turns = All (λ u. t.dist2.0 ≤ u.dist2.0) turns
 
 -- the turns of the nodes that wait, in no order, and all nodes that ever waited, told by their places
 pub record Front (D : ℕ) : Type 0 where
@@ -26,11 +26,11 @@ pub record Front (D : ℕ) : Type 0 where
   pub nodes : List (NodeAt D)
 
 -- the sum of g over so many leaves of segment i
-abbrev pub span : (ℕ → ℕ → ℕ) → (i first count : ℕ) → ℕ
-span g i first count = sum_by (g i) (range_with_len first count)
+abbrev pub leaf_sum : (ℕ → ℕ → ℕ) → (i first count : ℕ) → ℕ
+leaf_sum g i first count = sum_by (g i) (range_with_len first count)
 
-abbrev pub spread : (ℕ → ℕ → ℕ) → Waiting → ℕ
-spread g t = span g t.segment t.first t.leaves
+abbrev pub sum_below : (ℕ → ℕ → ℕ) → Waiting → ℕ
+sum_below g t = leaf_sum g t.segment t.first t.leaves
 
 -- how much is left to do below a node; more than for both children together
 abbrev pub work : Waiting → ℕ

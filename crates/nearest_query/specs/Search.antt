@@ -16,7 +16,7 @@ use Rattle.nearest_query.specs.declared.candidates.Candidates.{Candidates}
 use Rattle.nearest_query.specs.declared.frontier.Waiting.{Waiting}
 use Rattle.documents.specs.NearestEntries.{nears_of}
 use Rattle.nearest_query.specs.Best.{AreBest}
-use Rattle.nearest_query.specs.Fronts.{spread}
+use Rattle.nearest_query.specs.Fronts.{sum_below}
 use Rattle.nearest_query.specs.Segments.{live_items, least_dist2, is_within, no_head}
 
 -- what is searched: a point and segments, told by position, with the entries and the least distance of each leaf
@@ -57,7 +57,7 @@ pub record IsOver (w : World) (at : List ℤ) (heads : List Head) (lives : List 
   pub files_are : w.files ≡ files
 
 -- the node stands at the place
-pub record Stands {D : ℕ} (nodes : List (NodeAt D)) (place : ℕ) (node : NodeAt D) : Type 0 where
+pub record IsNthNode {D : ℕ} (nodes : List (NodeAt D)) (place : ℕ) (node : NodeAt D) : Type 0 where
   pub within : place < length nodes
   pub is : (d : NodeAt D) → slice_index_or nodes place d ≡ node
 
@@ -65,15 +65,15 @@ pub record Stands {D : ℕ} (nodes : List (NodeAt D)) (place : ℕ) (node : Node
 pub record IsInside {D : ℕ} (segments : ℕ) (nodes : List (NodeAt D)) (t : Waiting) : Type 0 where
   pub inside : t.segment < segments
   pub node : NodeAt D
-  pub stands : Stands nodes t.place node
+  pub stands : IsNthNode nodes t.place node
   pub leaves_are : t.leaves ≡ node.leaves
 
 -- what waits is a node of its segment's tree, whose leaves are some of those of the tree
-pub record IsPart {D : ℕ} (heads : List Head) (trees : ℕ → IndexTree) (nodes : List (NodeAt D)) (t : Waiting)
+pub record IsNodeBelow {D : ℕ} (heads : List Head) (trees : ℕ → IndexTree) (nodes : List (NodeAt D)) (t : Waiting)
     : Type 0 where
   pub inside : t.segment < length heads
   pub node : NodeAt D
-  pub stands : Stands nodes t.place node
+  pub stands : IsNthNode nodes t.place node
   pub spot : Spot
   pub path : Region
   pub tree : IndexTree
@@ -85,7 +85,7 @@ pub record IsPart {D : ℕ} (heads : List Head) (trees : ℕ → IndexTree) (nod
 pub record IsNode (D : ℕ) (w : World) (nodes : List (NodeAt D)) (t : Waiting) : Type 0 where
   pub inside : t.segment < length w.heads
   pub node : NodeAt D
-  pub stands : Stands nodes t.place node
+  pub stands : IsNthNode nodes t.place node
   pub spot : Spot
   pub path : Region
   pub tree : IndexTree
@@ -104,7 +104,8 @@ pub record IsSought (D : ℕ) (w : World) (all : List Near) (turns : List Waitin
   pub seen : List Near
   pub best : AreBest seen found
   pub nodes_are : All (IsNode D w nodes) turns
-  pub totals : (f : Near → ℕ) → sum_by f seen + sum_by (spread (λ i n. sum_by f (nears_at w i n))) turns ≡ sum_by f all
+  pub totals : (f : Near → ℕ)
+      → sum_by f seen + sum_by (sum_below (λ i n. sum_by f (nears_at w i n))) turns ≡ sum_by f all
 
 -- a leaf counts where it is within the bound
 abbrev pub one_within : World → Option ℕ → ℕ → ℕ → ℕ

@@ -6,7 +6,7 @@ ghost use Rattle.std.specs.Ordering.{is_lt};
 ghost use Rattle.std.specs.declared.cmp.Ordering.TheVariants.{Less};
 ghost use Rattle.point_codec.specs.declared.entries.Near.{Near};
 ghost use Rattle.documents.specs.NearestEntries.{IsNearest};
-ghost use Rattle.nearest_query.specs.Best.{near_cmp, IsPutAmong};
+ghost use Rattle.nearest_query.specs.Best.{near_cmp, IsInsertedAmong};
 
 use point_codec::Near;
 use std::alloc::AllocError;
@@ -69,7 +69,7 @@ fn improve(nears: &mut Vec<Near>, place: usize, near: Near) -> Result<(), AllocE
         return Ok(());
     }
     nears.remove(place);
-    put(nears, near)
+    insert_near(nears, near)
 }
 
 /// Adds a number that isn't there, in place of the last where all places are taken.
@@ -81,15 +81,15 @@ fn add(nears: &mut Vec<Near>, room: usize, near: Near) -> Result<(), AllocError>
         → OnOk result (IsNearest room (near ∷ entries) nears.new.items) }
 {
     if nears.len() < room {
-        return put(nears, near);
+        return insert_near(nears, near);
     }
     nears.pop();
-    put(nears, near)
+    insert_near(nears, near)
 }
 
 /// Puts the entry behind those that come before it.
-fn put(nears: &mut Vec<Near>, near: Near) -> Result<(), AllocError>
-    ensures { OnOk result (IsPutAmong near nears.old.items nears.new.items) }
+fn insert_near(nears: &mut Vec<Near>, near: Near) -> Result<(), AllocError>
+    ensures { OnOk result (IsInsertedAmong near nears.old.items nears.new.items) }
 {
     let place = rank(nears.as_slice(), &near);
     nears.insert(place, near)?;

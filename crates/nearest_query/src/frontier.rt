@@ -49,7 +49,7 @@ impl<'a, const D: usize> Model for Frontier<'a, D> {
 }
 
 impl<'a, const D: usize> Frontier<'a, D> {
-    ghost use Rattle.nearest_query.specs.Fronts.{IsWaiting, span, spread};
+    ghost use Rattle.nearest_query.specs.Fronts.{IsWaiting, leaf_sum, sum_below};
 
     /// No node yet.
     pub fn new(alloc: Global) -> Frontier<'a, D>
@@ -63,7 +63,7 @@ impl<'a, const D: usize> Frontier<'a, D> {
     }
 
     /// Lets a node wait.
-    pub fn put(
+    pub fn push(
         &mut self,
         segment: usize,
         node: &NodeAt<'a, D>,
@@ -73,8 +73,8 @@ impl<'a, const D: usize> Frontier<'a, D> {
         ensures counted { (first : ℕ) (s : Spot) (path : Region) (t : IndexTree) → IsAt node.now first s path t
             → node.now.leaves ≡ leaf_count t }
         ensures most { (g : ℕ → ℕ → ℕ)
-            → sum_by (spread g) self.new.turns ≤ span g segment node.now.first node.now.leaves + sum_by
-            (spread g) self.old.turns }
+            → sum_by (sum_below g) self.new.turns ≤ leaf_sum g segment node.now.first node.now.leaves + sum_by
+            (sum_below g) self.old.turns }
     {
         let waiting = Waiting {
             dist2: Reverse(node.cell().least_dist2(at)),
@@ -84,7 +84,7 @@ impl<'a, const D: usize> Frontier<'a, D> {
             leaves: node.leaf_count(),
         };
         self.nodes.extend_from_slice(std::slice::from_ref(node))?;
-        self.queue.put(waiting)?;
+        self.queue.push(waiting)?;
         Ok(())
     }
 

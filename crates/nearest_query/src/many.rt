@@ -22,7 +22,7 @@ pub struct Many {
 }
 
 impl Many {
-    ghost use Rattle.nearest_query.specs.Best.{near_cmp, AreKept, IsPut};
+    ghost use Rattle.nearest_query.specs.Best.{near_cmp, AreKept, IsInserted};
 
     /// No number yet.
     pub fn new(alloc: Global, room: usize) -> Many
@@ -106,7 +106,7 @@ impl Many {
             dist2,
             doc: near.doc,
         });
-        self.put(near)
+        self.insert_near(near)
     }
 
     /// Adds a number that is no candidate, in place of the last where all places are taken.
@@ -119,19 +119,19 @@ impl Many {
             → OnOk result (AreKept (near ∷ entries) self.new) }
     {
         if self.in_order.len() < self.room {
-            return self.put(near);
+            return self.insert_near(near);
         }
         if let Some(last) = self.in_order.pop_last() {
             self.distances.remove(&last.doc);
-            return self.put(near);
+            return self.insert_near(near);
         }
         Ok(())
     }
 
     /// Puts the number where it belongs.
-    fn put(&mut self, near: Near) -> Result<(), AllocError>
+    fn insert_near(&mut self, near: Near) -> Result<(), AllocError>
         ensures room { self.new.room ≡ self.old.room }
-        ensures put { OnOk result (IsPut near self.old self.new) }
+        ensures put { OnOk result (IsInserted near self.old self.new) }
     {
         self.in_order.insert(near)?;
         self.distances.insert(near.doc, near.dist2)?;

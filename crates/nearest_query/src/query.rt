@@ -15,8 +15,8 @@ ghost use Rattle.segment_file.specs.Damages.{IsLeafDamageOf};
 ghost use Rattle.documents.specs.NearestEntries.{IsNearest, nears_of};
 ghost use Rattle.nearest_query.specs.Segments.{AreSegments, AreNearLeaves, HasId, HaveTrees, IsSegmentDamage, live_in};
 ghost use Rattle.nearest_query.specs.Segments.{bound_of};
-ghost use Rattle.nearest_query.specs.Fronts.{Front, span, spread};
-ghost use Rattle.nearest_query.specs.Search.{World, IsOver, IsInside, IsPart, IsNode, HasRoots, head_at, live_at};
+ghost use Rattle.nearest_query.specs.Fronts.{Front, leaf_sum, sum_below};
+ghost use Rattle.nearest_query.specs.Search.{World, IsOver, IsInside, IsNodeBelow, IsNode, HasRoots, head_at, live_at};
 
 use crate::candidates::Candidates;
 use crate::frontier::Frontier;
@@ -74,7 +74,7 @@ pub fn nearest<const D: usize, F: Pages>(
     let mut found = Candidates::new(alloc, usize::from(k));
     offer_all(buffer, at, &mut found)?;
     let mut frontier = Frontier::new(alloc);
-    put_roots(&mut frontier, heads, lives, at)?;
+    push_roots(&mut frontier, heads, lives, at)?;
     search(
         alloc,
         folder,
@@ -89,7 +89,7 @@ pub fn nearest<const D: usize, F: Pages>(
 }
 
 /// Lets the root of each segment wait that has a live number.
-fn put_roots<'a, const D: usize>(
+fn push_roots<'a, const D: usize>(
     frontier: &mut Frontier<'a, D>,
     heads: &'a [SegmentHead<D>],
     lives: &[LiveBits],
@@ -99,25 +99,25 @@ fn put_roots<'a, const D: usize>(
     requires lives { length lives.now ≡ length heads.now }
     ensures inside { OnOk result (All (IsInside (length heads.now) frontier.new.nodes) frontier.new.turns) }
     ensures parts { (trees : ℕ → IndexTree) → HaveTrees D heads.now trees
-        → OnOk result (All (IsPart heads.now trees frontier.new.nodes) frontier.new.turns) }
+        → OnOk result (All (IsNodeBelow heads.now trees frontier.new.nodes) frontier.new.turns) }
     ensures nodes { (w : World) → HasRoots D w → w.heads ≡ heads.now → w.at ≡ at.now.c
         → OnOk result (All (IsNode D w frontier.new.nodes) frontier.new.turns) }
     // together they have all that a segment with a live number has, and no more than all segments have
     ensures totals { (w : World) → HasRoots D w → w.heads ≡ heads.now → w.lives ≡ lives.now → (g : ℕ → ℕ → ℕ)
         → ((i n : ℕ) → (live_at w i).live ≡ [] → g i n ≡ 0)
         → OnOk result
-        (sum_by (spread g) frontier.new.turns ≡ sum_by (λ i. span g i 0 (head_at w i).index.leaves)
+        (sum_by (sum_below g) frontier.new.turns ≡ sum_by (λ i. leaf_sum g i 0 (head_at w i).index.leaves)
         (range_with_len 0 (length heads.now))) }
     ensures most { (w : World) → HasRoots D w → w.heads ≡ heads.now → (g : ℕ → ℕ → ℕ)
         → OnOk result
-        (sum_by (spread g) frontier.new.turns ≤ sum_by (λ i. span g i 0 (head_at w i).index.leaves)
+        (sum_by (sum_below g) frontier.new.turns ≤ sum_by (λ i. leaf_sum g i 0 (head_at w i).index.leaves)
         (range_with_len 0 (length heads.now))) }
 {
     for i in 0..heads.len() {
         if lives[i].live_count() == 0 {
             continue;
         }
-        frontier.put(i, &heads[i].index().walk(), at)?;
+        frontier.push(i, &heads[i].index().walk(), at)?;
     }
     Ok(())
 }

@@ -3,7 +3,7 @@
 ghost use Rattle.std.specs.Prelude.{◌≡◌, ◌∷◌, [], OnOk, OnErr, IfOk, IfSome, IfNone, IsTrue};
 ghost use Rattle.std.specs.List.Sorted.{IsPermutation};
 ghost use Rattle.std.specs.BinaryHeap.{heap_items, IsHeap};
-ghost use Rattle.nearest_query.specs.Fronts.{wait_cmp, IsLeast};
+ghost use Rattle.nearest_query.specs.Fronts.{wait_cmp, IsNearestTurn};
 
 use crate::frontier::Waiting;
 use std::alloc::{AllocError, Global};
@@ -22,14 +22,14 @@ impl Model for Queue {
     ghost use Rattle.std.specs.Prelude.{◌≡◌, ◌++◌, List, Some, option_to_list};
     ghost use Rattle.std.specs.BinaryHeap.{heap_items, IsHeap};
     ghost use Rattle.nearest_query.specs.declared.frontier.Waiting.{Waiting};
-    ghost use Rattle.nearest_query.specs.Fronts.{wait_cmp, IsLeast};
+    ghost use Rattle.nearest_query.specs.Fronts.{wait_cmp, IsNearestTurn};
 
     ghost Value = { List Waiting };
 
     ghost view = { λ q. option_to_list q.front ++ heap_items q.others };
 
     ghost invariant = { λ q. IsHeap wait_cmp (heap_items q.others)
-        × ((t : Waiting) → q.front ≡ Some t → IsLeast t (heap_items q.others)) };
+        × ((t : Waiting) → q.front ≡ Some t → IsNearestTurn t (heap_items q.others)) };
 }
 
 impl Queue {
@@ -44,12 +44,12 @@ impl Queue {
     }
 
     /// Adds a turn.
-    pub fn put(&mut self, turn: Waiting) -> Result<(), AllocError>
+    pub fn push(&mut self, turn: Waiting) -> Result<(), AllocError>
         ensures put { OnOk result (IsPermutation (turn ∷ self.old) self.new) }
         ensures same { OnErr result (self.new ≡ self.old) }
     {
         if let Some(front) = self.front {
-            self.front = Some(put_farther(&mut self.others, front, turn)?);
+            self.front = Some(push_farther(&mut self.others, front, turn)?);
             return Ok(());
         }
         if is_least(&turn, &self.others) {
@@ -63,7 +63,7 @@ impl Queue {
     /// Takes out a turn that none is nearer than.
     pub fn pop(&mut self) -> Option<Waiting>
         ensures some { IfSome result (λ t. IsPermutation self.old (t ∷ self.new)) }
-        ensures least { IfSome result (λ t. IsLeast t self.new) }
+        ensures least { IfSome result (λ t. IsNearestTurn t self.new) }
         ensures none { IfNone result (self.old ≡ []) }
     {
         if let Some(front) = self.front.take() {
@@ -74,15 +74,15 @@ impl Queue {
 }
 
 /// Puts the farther one of the two among the others, and answers with the nearer one.
-fn put_farther(
+fn push_farther(
     others: &mut BinaryHeap<Waiting>,
     front: Waiting,
     turn: Waiting,
 ) -> Result<Waiting, AllocError>
     requires heap { IsHeap wait_cmp (heap_items others.old) }
-    requires least { IsLeast front (heap_items others.old) }
+    requires least { IsNearestTurn front (heap_items others.old) }
     ensures heap { IsHeap wait_cmp (heap_items others.new) }
-    ensures least { IfOk result (λ t. IsLeast t (heap_items others.new)) }
+    ensures least { IfOk result (λ t. IsNearestTurn t (heap_items others.new)) }
     ensures put { IfOk result
         (λ t. IsPermutation (turn ∷ (front ∷ heap_items others.old)) (t ∷ heap_items others.new)) }
     ensures same { OnErr result (heap_items others.new ≡ heap_items others.old) }
@@ -98,7 +98,7 @@ fn put_farther(
 /// Whether none of the others is nearer.
 fn is_least(turn: &Waiting, others: &BinaryHeap<Waiting>) -> bool
     requires { IsHeap wait_cmp (heap_items others.now) }
-    ensures { IsTrue result → IsLeast turn.now (heap_items others.now) }
+    ensures { IsTrue result → IsNearestTurn turn.now (heap_items others.now) }
 {
     match others.peek() {
         Some(top) => turn.dist2.0 <= top.dist2.0,

@@ -14,8 +14,8 @@ ghost use Rattle.segment_file.specs.Damages.{IsLeafDamageOf};
 ghost use Rattle.documents.specs.NearestEntries.{IsNearest};
 ghost use Rattle.nearest_query.specs.Best.{found_of};
 ghost use Rattle.nearest_query.specs.Segments.{HasId, IsSegmentDamage, is_within, bound_of};
-ghost use Rattle.nearest_query.specs.Fronts.{Front, IsWaiting, span, spread, work};
-ghost use Rattle.nearest_query.specs.Search.{World, IsOver, IsInside, IsPart, IsNode, IsSought, one_within};
+ghost use Rattle.nearest_query.specs.Fronts.{Front, IsWaiting, leaf_sum, sum_below, work};
+ghost use Rattle.nearest_query.specs.Search.{World, IsOver, IsInside, IsNodeBelow, IsNode, IsSought, one_within};
 
 use crate::candidates::Candidates;
 use crate::frontier::{Frontier, Waiting};
@@ -41,12 +41,13 @@ fn fork<'a, const D: usize>(
         × IsWaiting at.now.c segment right.now mid frontier.new) }
     ensures counted { (first : ℕ) (s : Spot) (path : Region) (t : IndexTree) → IsAt left.now first s path t
         → left.now.leaves ≡ leaf_count t }
-    ensures most { (g : ℕ → ℕ → ℕ) → sum_by (spread g) frontier.new.turns
-        ≤ span g segment left.now.first left.now.leaves + span g segment right.now.first right.now.leaves + sum_by
-        (spread g) frontier.old.turns }
+    ensures most { (g : ℕ → ℕ → ℕ) → sum_by (sum_below g) frontier.new.turns
+        ≤ leaf_sum g segment left.now.first left.now.leaves + leaf_sum g segment right.now.first right.now.leaves +
+            sum_by
+        (sum_below g) frontier.old.turns }
 {
-    frontier.put(segment, left, at)?;
-    frontier.put(segment, right, at)?;
+    frontier.push(segment, left, at)?;
+    frontier.push(segment, right, at)?;
     Ok(())
 }
 
@@ -78,15 +79,15 @@ fn open<'a, const D: usize, F: Pages>(
         → OnOk result (IsSought D w all frontier.new.turns frontier.new.nodes found.new) }
     ensures reads { (w : World) (bound : Option ℕ) → IsNode D w frontier.old.nodes next → w.at ≡ at.now.c
         → is_within bound next.dist2.0 ≡ true
-        → F.reads folder.new + sum_by (spread (one_within w bound)) frontier.new.turns
-        ≤ F.reads folder.old + spread (one_within w bound) next + sum_by
-        (spread (one_within w bound)) frontier.old.turns }
+        → F.reads folder.new + sum_by (sum_below (one_within w bound)) frontier.new.turns
+        ≤ F.reads folder.old + sum_below (one_within w bound) next + sum_by
+        (sum_below (one_within w bound)) frontier.old.turns }
     ensures damage { IsTrue F.told → Agrees (F.files folder.old) cache.old
         → OnDamage result (IsLeafDamageOf (F.files folder.old)) }
     ensures parts { (trees : ℕ → IndexTree)
-        → All (IsPart heads.now trees frontier.old.nodes) (next ∷ frontier.old.turns)
-        → OnOk result (All (IsPart heads.now trees frontier.new.nodes) frontier.new.turns) }
-    ensures shown { (trees : ℕ → IndexTree) → IsPart heads.now trees frontier.old.nodes next
+        → All (IsNodeBelow heads.now trees frontier.old.nodes) (next ∷ frontier.old.turns)
+        → OnOk result (All (IsNodeBelow heads.now trees frontier.new.nodes) frontier.new.turns) }
+    ensures shown { (trees : ℕ → IndexTree) → IsNodeBelow heads.now trees frontier.old.nodes next
         → OnDamage result (IsSegmentDamage D heads.now trees) }
     ensures whole { IsTrue F.told → Agrees (F.files folder.old) cache.old → (w : World)
         → IsOver w at.now.c heads.now lives.now (F.files folder.old)
@@ -132,10 +133,10 @@ pub fn search<'a, const D: usize, F: Pages>(
         → IsOver w at.now.c heads.now lives.now (F.files folder.old)
         → IsSought D w all frontier.old.turns frontier.old.nodes found.old → IsNearest found.old.many.room all nearest
         → F.reads folder.new ≤ F.reads folder.old + sum_by
-        (spread (one_within w (bound_of found.old.many.room nearest))) frontier.old.turns }
+        (sum_below (one_within w (bound_of found.old.many.room nearest))) frontier.old.turns }
     ensures damage { IsTrue F.told → Agrees (F.files folder.old) cache.old
         → OnDamage result (IsLeafDamageOf (F.files folder.old)) }
-    ensures shown { (trees : ℕ → IndexTree) → All (IsPart heads.now trees frontier.old.nodes) frontier.old.turns
+    ensures shown { (trees : ℕ → IndexTree) → All (IsNodeBelow heads.now trees frontier.old.nodes) frontier.old.turns
         → OnDamage result (IsSegmentDamage D heads.now trees) }
     ensures whole { IsTrue F.told → Agrees (F.files folder.old) cache.old → (w : World) (all : List Near)
         → IsOver w at.now.c heads.now lives.now (F.files folder.old)

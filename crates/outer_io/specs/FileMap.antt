@@ -20,9 +20,9 @@ abbrev pub files_of : FileMap → Files
 files_of m = files_in m.entries.items
 
 -- the name after a file `from` was renamed to `to`
-abbrev pub renamed : FileName → FileName → FileName → FileName
-renamed from to name = cond (same_name name from) to name
+abbrev pub name_after_rename : FileName → FileName → FileName → FileName
+name_after_rename from to name = cond (same_name name from) to name
 
 -- the entry after that rename
 abbrev pub with_new_name : FileName → FileName → Entry → Entry
-with_new_name from to entry = record entry { name = renamed from to entry.name }
+with_new_name from to entry = record entry { name = name_after_rename from to entry.name }

@@ -3,7 +3,7 @@ use Rattle.std.specs.Prelude.{ℕ}
 use Rattle.outer_io.specs.declared.mem_folder.MemFolder.{MemFolder}
 use Rattle.outer_io.specs.Files.{Files}
 use Rattle.outer_io.specs.FileMap.{files_of}
-use Rattle.outer_io.specs.Plan.{Plan}
+use Rattle.outer_io.specs.Plan.{FaultPlan}
 use Rattle.outer_io.specs.Calls.{plan_of}
 
 -- its files
@@ -11,7 +11,7 @@ abbrev pub folder_files : MemFolder → Files
 folder_files f = files_of f.files
 
 -- which of its calls fail
-abbrev pub folder_plan : MemFolder → Plan
+abbrev pub folder_plan : MemFolder → FaultPlan
 folder_plan f = plan_of f.calls
 
 -- how many of its calls failed

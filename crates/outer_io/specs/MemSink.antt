@@ -1,7 +1,7 @@
 -- What contracts see of a sink in memory.
 use Rattle.std.specs.Prelude.{ℕ, ◌-◌, List, vec_len}
 use Rattle.outer_io.specs.declared.mem_sink.MemSink.{MemSink}
-use Rattle.outer_io.specs.Plan.{Plan}
+use Rattle.outer_io.specs.Plan.{FaultPlan}
 use Rattle.outer_io.specs.Calls.{plan_of}
 
 -- the bytes that it took
@@ -13,7 +13,7 @@ abbrev pub sink_room : MemSink → ℕ
 sink_room k = k.room - vec_len k.bytes
 
 -- which of its calls fail
-abbrev pub sink_plan : MemSink → Plan
+abbrev pub sink_plan : MemSink → FaultPlan
 sink_plan k = plan_of k.calls
 
 -- how many of its calls failed

@@ -4,23 +4,23 @@ use Rattle.std.specs.Prelude.{ℕ, ◌+◌, ◌-◌, ◌^◌, ◌≤◌, ◌⊎�
 
 -- the calls that fail by their numbers, the number from which on all fail and do nothing, and how many calls were
 -- made, which is the number of the next one
-pub record Plan : Type 0 where
+pub record FaultPlan : Type 0 where
   pub fail : List ℕ
   pub stop : Option ℕ
   pub made : ℕ
 
 -- a plan of which no call was made
-abbrev pub plan_from : List ℕ → Option ℕ → Plan
+abbrev pub plan_from : List ℕ → Option ℕ → FaultPlan
 plan_from fail stop = record { fail = fail; stop = stop; made = 0 }
 
 -- the next call fails and does nothing
-abbrev pub Stops : Plan → Type 0
-Stops plan = IsSomeAnd plan.stop (λ first. first ≤ plan.made)
+abbrev pub CallStops : FaultPlan → Type 0
+CallStops plan = IsSomeAnd plan.stop (λ first. first ≤ plan.made)
 
 -- the next call fails
-abbrev pub Fails : Plan → Type 0
-Fails plan = Contains plan.fail plan.made ⊎ Stops plan
+abbrev pub CallFails : FaultPlan → Type 0
+CallFails plan = Contains plan.fail plan.made ⊎ CallStops plan
 
 -- one more call was made; the count of calls stands still at the last value of u64
-abbrev pub after_call : Plan → Plan
+abbrev pub after_call : FaultPlan → FaultPlan
 after_call plan = record plan { made = min (plan.made + 1) (2 ^ 64 - 1) }

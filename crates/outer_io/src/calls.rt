@@ -2,7 +2,7 @@
 ghost use Rattle.std.specs.Prelude.{◌≡◌, ◌≤◌, ◌↔◌, None, MatchResult, IsErr, IsTrue};
 ghost use Rattle.outer_io.specs.Counts.{RisesByOne};
 ghost use Rattle.outer_io.specs.Faults.{HasCause};
-ghost use Rattle.outer_io.specs.Plan.{Fails, Stops, plan_from, after_call};
+ghost use Rattle.outer_io.specs.Plan.{CallFails, CallStops, plan_from, after_call};
 ghost use Rattle.outer_io.specs.Calls.{plan_of, IsFate};
 
 use crate::faults::{Failed, FaultCount};
@@ -52,7 +52,7 @@ impl Calls {
     }
 
     fn stops(&self) -> bool
-        ensures { IsTrue result ↔ Stops (plan_of self.now) }
+        ensures { IsTrue result ↔ CallStops (plan_of self.now) }
     {
         self.stop.is_some_and(|first| first <= self.made)
     }
@@ -82,7 +82,7 @@ impl Calls {
 
     /// Counts a call, and fails it where it is to fail.
     pub(crate) fn count(&mut self) -> Result<(), Failed>
-        ensures exact { IsErr result ↔ Fails (plan_of self.old) }
+        ensures exact { IsErr result ↔ CallFails (plan_of self.old) }
         ensures plan { plan_of self.new ≡ after_call (plan_of self.old) }
         ensures raised { MatchResult result (λ _. self.new.faults.raised ≡ self.old.faults.raised)
             (λ _. RisesByOne self.old.faults.raised self.new.faults.raised) }

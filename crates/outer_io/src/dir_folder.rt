@@ -99,7 +99,7 @@ where
     }
 
     /// Opens a file in this way and writes these bytes to it.
-    fn put(&mut self, how: &OpenOptions, n: &FileName, b: &[u8]) -> io::Result<()>
+    fn write_with(&mut self, how: &OpenOptions, n: &FileName, b: &[u8]) -> io::Result<()>
         ensures { StaysCounted self.old self.new }
     {
         self.opened.close(n);
@@ -150,7 +150,7 @@ where
     }
 
     /// Takes a file away where it is there.
-    fn take_away(&mut self, n: &FileName) -> io::Result<()>
+    fn remove_if_there(&mut self, n: &FileName) -> io::Result<()>
         ensures { StaysCounted self.old self.new }
     {
         self.opened.close(n);
@@ -203,7 +203,7 @@ where
     fn write_file(&mut self, n: &FileName, b: &[u8]) -> Result<(), WriteFault> {
         let mut how = OpenOptions::new();
         how.write(true).create(true).truncate(true);
-        match self.put(&how, n, b) {
+        match self.write_with(&how, n, b) {
             Ok(()) => Ok(()),
             Err(_) => Err(self.faults.raise().into()),
         }
@@ -212,7 +212,7 @@ where
     fn append(&mut self, n: &FileName, b: &[u8]) -> Result<(), WriteFault> {
         let mut how = OpenOptions::new();
         how.append(true).create(true);
-        match self.put(&how, n, b) {
+        match self.write_with(&how, n, b) {
             Ok(()) => Ok(()),
             Err(_) => Err(self.faults.raise().into()),
         }
@@ -227,7 +227,7 @@ where
     }
 
     fn remove(&mut self, n: &FileName) -> Result<(), Failed> {
-        match self.take_away(n) {
+        match self.remove_if_there(n) {
             Ok(()) => Ok(()),
             Err(_) => Err(self.faults.raise()),
         }

@@ -2,7 +2,7 @@
 ghost use Rattle.std.specs.Prelude.{◌≡◌, ◌++◌, ◌≤◌, None, Some, map, filter, position, not, option_map, vec_len};
 ghost use Rattle.std.specs.Prelude.{vec_capacity, OnOk, OnErr};
 ghost use Rattle.outer_io.specs.Files.{bytes_of, SameBut, SameButTwo, IsRenamed};
-ghost use Rattle.outer_io.specs.FileMap.{files_of, is_named, renamed, with_new_name};
+ghost use Rattle.outer_io.specs.FileMap.{files_of, is_named, name_after_rename, with_new_name};
 ghost use Rattle.outer_io.specs.Names.{same_name};
 
 use crate::file_name::FileName;
@@ -48,7 +48,7 @@ impl FileMap {
         ensures memory { OnErr result (files_of self.new ≡ files_of self.old) }
     {
         self.entries.reserve(1)?;
-        take_out(&mut self.entries, &n);
+        remove_all(&mut self.entries, &n);
         self.entries.push(Entry { name: n, bytes }).unwrap();
         Ok(())
     }
@@ -84,7 +84,7 @@ impl FileMap {
         ensures others { SameButTwo from.now to.now (files_of self.old) (files_of self.new) }
     {
         if !from.is(to) {
-            take_out(&mut self.entries, to);
+            remove_all(&mut self.entries, to);
             rename_all(&mut self.entries, from, to);
         }
     }
@@ -93,7 +93,7 @@ impl FileMap {
         ensures gone { files_of self.new n.now ≡ None }
         ensures others { SameBut n.now (files_of self.old) (files_of self.new) }
     {
-        take_out(&mut self.entries, n);
+        remove_all(&mut self.entries, n);
     }
 }
 
@@ -105,7 +105,7 @@ fn place(entries: &[Entry], n: &FileName) -> Option<usize>
 }
 
 /// Takes out all entries of a name.
-fn take_out(entries: &mut Vec<Entry>, n: &FileName)
+fn remove_all(entries: &mut Vec<Entry>, n: &FileName)
     ensures items { entries.new.items ≡ filter (λ entry. not (is_named n.now entry)) entries.old.items }
     ensures len { vec_len entries.new ≤ vec_len entries.old }
     ensures capacity { vec_capacity entries.new ≡ vec_capacity entries.old }
@@ -123,7 +123,7 @@ fn rename_all(entries: &mut Vec<Entry>, from: &FileName, to: &FileName)
 }
 
 fn rename_one(name: FileName, from: &FileName, to: &FileName) -> FileName
-    ensures { result ≡ renamed from.now to.now name }
+    ensures { result ≡ name_after_rename from.now to.now name }
 {
     if name.is(from) { *to } else { name }
 }

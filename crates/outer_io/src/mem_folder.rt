@@ -4,7 +4,7 @@ ghost use Rattle.std.specs.Prelude.{IfOk, OnOk, OnErr, IsErr, IsErrOf, IsTrue};
 ghost use Rattle.outer_io.specs.Counts.{RisesByOne};
 ghost use Rattle.outer_io.specs.Faults.{HasCause, HasWriteCause};
 ghost use Rattle.outer_io.specs.Files.{bytes_of, size_of, SameBut, SameButTwo, IsRenamed, IsReadAt};
-ghost use Rattle.outer_io.specs.Plan.{Fails, Stops, plan_from, after_call};
+ghost use Rattle.outer_io.specs.Plan.{CallFails, CallStops, plan_from, after_call};
 ghost use Rattle.outer_io.specs.MemFolder.{folder_files, folder_plan, folder_faults, folder_reads};
 
 use crate::calls::{Calls, Fate};
@@ -86,7 +86,7 @@ impl Pages for MemFolder {
         ensures reads { folder_reads self.new ≡ folder_reads self.old }
         ensures cause { HasCause (folder_faults self.old) (folder_faults self.new) result }
 
-        ensures exact { IsErr result ↔ Fails (folder_plan self.old) }
+        ensures exact { IsErr result ↔ CallFails (folder_plan self.old) }
         ensures plan { folder_plan self.new ≡ after_call (folder_plan self.old) }
         ensures raised { OnErr result (RisesByOne (folder_faults self.old) (folder_faults self.new)) }
     {
@@ -104,7 +104,7 @@ impl Pages for MemFolder {
         ensures reads { RisesByOne (folder_reads self.old) (folder_reads self.new) }
         ensures cause { HasCause (folder_faults self.old) (folder_faults self.new) result }
 
-        ensures exact { IsErr result ↔ Fails (folder_plan self.old) }
+        ensures exact { IsErr result ↔ CallFails (folder_plan self.old) }
         ensures plan { folder_plan self.new ≡ after_call (folder_plan self.old) }
         ensures raised { OnErr result (RisesByOne (folder_faults self.old) (folder_faults self.new)) }
         ensures kept { OnErr result (buf.new ≡ buf.old) }
@@ -124,15 +124,15 @@ impl Folder for MemFolder {
         ensures reads { folder_reads self.new ≡ folder_reads self.old }
         ensures cause { HasWriteCause (folder_faults self.old) (folder_faults self.new) result }
 
-        ensures fails { Fails (folder_plan self.old) → IsErr result }
-        ensures only { IsErrOf result WriteFault.Failed → Fails (folder_plan self.old) }
+        ensures fails { CallFails (folder_plan self.old) → IsErr result }
+        ensures only { IsErrOf result WriteFault.Failed → CallFails (folder_plan self.old) }
         ensures plan { folder_plan self.new ≡ after_call (folder_plan self.old) }
         ensures raised { IsErrOf result WriteFault.Failed
             → RisesByOne (folder_faults self.old) (folder_faults self.new) }
-        ensures half { IsErrOf result WriteFault.Failed → (¬ Stops (folder_plan self.old)) →
+        ensures half { IsErrOf result WriteFault.Failed → (¬ CallStops (folder_plan self.old)) →
             folder_files self.new n.now ≡ Some (take (length b.now / 2) b.now) }
-        ensures stopped { Stops (folder_plan self.old) → folder_files self.new ≡ folder_files self.old }
-        ensures halted { Stops (folder_plan self.old) → IsErrOf result WriteFault.Failed }
+        ensures stopped { CallStops (folder_plan self.old) → folder_files self.new ≡ folder_files self.old }
+        ensures halted { CallStops (folder_plan self.old) → IsErrOf result WriteFault.Failed }
         ensures memory { IsErrOf result WriteFault.Memory → folder_files self.new ≡ folder_files self.old }
     {
         match self.calls.next() {
@@ -157,16 +157,16 @@ impl Folder for MemFolder {
         ensures reads { folder_reads self.new ≡ folder_reads self.old }
         ensures cause { HasWriteCause (folder_faults self.old) (folder_faults self.new) result }
 
-        ensures fails { Fails (folder_plan self.old) → IsErr result }
-        ensures only { IsErrOf result WriteFault.Failed → Fails (folder_plan self.old) }
+        ensures fails { CallFails (folder_plan self.old) → IsErr result }
+        ensures only { IsErrOf result WriteFault.Failed → CallFails (folder_plan self.old) }
         ensures plan { folder_plan self.new ≡ after_call (folder_plan self.old) }
         ensures raised { IsErrOf result WriteFault.Failed
             → RisesByOne (folder_faults self.old) (folder_faults self.new) }
-        ensures half { IsErrOf result WriteFault.Failed → (¬ Stops (folder_plan self.old)) →
+        ensures half { IsErrOf result WriteFault.Failed → (¬ CallStops (folder_plan self.old)) →
             folder_files self.new n.now ≡ Some
             (bytes_of (folder_files self.old n.now) ++ take (length b.now / 2) b.now) }
-        ensures stopped { Stops (folder_plan self.old) → folder_files self.new ≡ folder_files self.old }
-        ensures halted { Stops (folder_plan self.old) → IsErrOf result WriteFault.Failed }
+        ensures stopped { CallStops (folder_plan self.old) → folder_files self.new ≡ folder_files self.old }
+        ensures halted { CallStops (folder_plan self.old) → IsErrOf result WriteFault.Failed }
         ensures memory { IsErrOf result WriteFault.Memory → folder_files self.new ≡ folder_files self.old }
     {
         match self.calls.next() {
@@ -194,7 +194,7 @@ impl Folder for MemFolder {
         ensures reads { folder_reads self.new ≡ folder_reads self.old }
         ensures cause { HasCause (folder_faults self.old) (folder_faults self.new) result }
 
-        ensures exact { IsErr result ↔ Fails (folder_plan self.old) }
+        ensures exact { IsErr result ↔ CallFails (folder_plan self.old) }
         ensures plan { folder_plan self.new ≡ after_call (folder_plan self.old) }
         ensures raised { OnErr result (RisesByOne (folder_faults self.old) (folder_faults self.new)) }
         ensures none { OnErr result (folder_files self.new ≡ folder_files self.old) }
@@ -213,7 +213,7 @@ impl Folder for MemFolder {
         ensures reads { folder_reads self.new ≡ folder_reads self.old }
         ensures cause { HasCause (folder_faults self.old) (folder_faults self.new) result }
 
-        ensures exact { IsErr result ↔ Fails (folder_plan self.old) }
+        ensures exact { IsErr result ↔ CallFails (folder_plan self.old) }
         ensures plan { folder_plan self.new ≡ after_call (folder_plan self.old) }
         ensures raised { OnErr result (RisesByOne (folder_faults self.old) (folder_faults self.new)) }
         ensures none { OnErr result (folder_files self.new ≡ folder_files self.old) }

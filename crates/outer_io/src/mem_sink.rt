@@ -4,7 +4,7 @@ ghost use Rattle.std.specs.Prelude.{vec_capacity, IfOk, OnErr, IsErr, IsTrue};
 ghost use Rattle.outer_io.specs.Counts.{RisesByOne};
 ghost use Rattle.outer_io.specs.Faults.{HasCause};
 ghost use Rattle.outer_io.specs.Parts.{WritesPart};
-ghost use Rattle.outer_io.specs.Plan.{Fails, plan_from, after_call};
+ghost use Rattle.outer_io.specs.Plan.{CallFails, plan_from, after_call};
 
 use crate::calls::Calls;
 use crate::faults::Failed;
@@ -65,7 +65,8 @@ impl Sink for MemSink {
         ensures torn { IsTrue true → OnErr result (WritesPart (sink_written self.old) (sink_written self.new) b.now) }
         ensures cause { HasCause (sink_faults self.old) (sink_faults self.new) result }
 
-        ensures exact { IsErr result ↔ (Fails (sink_plan self.old) ⊎ ((0 < length b.now) × (sink_room self.old ≡ 0))) }
+        ensures exact { IsErr result ↔
+            (CallFails (sink_plan self.old) ⊎ ((0 < length b.now) × (sink_room self.old ≡ 0))) }
         ensures plan { sink_plan self.new ≡ after_call (sink_plan self.old) }
         ensures most { IfOk result (λ n. n ≡ min (length b.now) (sink_room self.old)) }
         ensures room { IfOk result (λ n. sink_room self.new + n ≡ sink_room self.old) }

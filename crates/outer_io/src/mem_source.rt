@@ -3,7 +3,7 @@ ghost use Rattle.std.specs.Prelude.{◌≡◌, ◌≤◌, ◌<◌, ◌++◌, ◌
 ghost use Rattle.std.specs.Prelude.{IsErr, IsTrue};
 ghost use Rattle.outer_io.specs.Counts.{RisesByOne};
 ghost use Rattle.outer_io.specs.Faults.{HasCause};
-ghost use Rattle.outer_io.specs.Plan.{Fails, plan_from, after_call};
+ghost use Rattle.outer_io.specs.Plan.{CallFails, plan_from, after_call};
 
 use crate::calls::Calls;
 use crate::copy::copy_front;
@@ -54,7 +54,7 @@ impl Source for MemSource {
         ensures kept { IsTrue true → OnErr result (source_left self.new ≡ source_left self.old) }
         ensures cause { HasCause (source_faults self.old) (source_faults self.new) result }
 
-        ensures exact { IsErr result ↔ Fails (source_plan self.old) }
+        ensures exact { IsErr result ↔ CallFails (source_plan self.old) }
         ensures plan { source_plan self.new ≡ after_call (source_plan self.old) }
         ensures most { IfOk result (λ n. n ≡ min (length buf.new) (length (source_left self.old))) }
         ensures raised { OnErr result (RisesByOne (source_faults self.old) (source_faults self.new)) }

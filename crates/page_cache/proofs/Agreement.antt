@@ -6,7 +6,7 @@ use Rattle.outer_io.specs.declared.file_name.FileName.TheVariants.{Segment}
 use Rattle.outer_io.specs.Files.{Files, bytes_of}
 use Rattle.page_cache.specs.declared.cache.PageCache.{PageCache}
 use Rattle.page_cache.specs.FilePages.{page_at, payloads_of}
-use Rattle.page_cache.specs.Bodies.{pages_for, filled, IsBodyFile}
+use Rattle.page_cache.specs.Bodies.{pages_for, padded_body, IsBodyFile}
 use Rattle.page_cache.specs.Cache.{Keeps, IsKept, KeepsFile, Agrees}
 use Rattle.page_cache.specs.Evidence.{IsPageOf}
 
@@ -30,8 +30,8 @@ agrees_empty files c none id number bytes keeps = absurd (none id (number, (byte
 -- two bodies of one length that a file is are the same
 pub bodies_equal : (name : FileName) (bytes a b : List ℕ) → length a ≡ length b → IsBodyFile name bytes a → IsBodyFile name bytes b → a ≡ b
 bodies_equal name bytes a b len x y =
-    let same : filled a ≡ filled b = sym x.payload ∙ ap (λ (n : ℕ). payloads_of bytes 0 (pages_for n)) len ∙ y.payload in
+    let same : padded_body a ≡ padded_body b = sym x.payload ∙ ap (λ (n : ℕ). payloads_of bytes 0 (pages_for n)) len ∙ y.payload in
     sym (take-append_seam a (replicate (4064 * pages_for (length a) - length a) 0))
     ∙ ap (λ (l : List ℕ). take (length a) l) same
-    ∙ ap (λ (n : ℕ). take n (filled b)) len
+    ∙ ap (λ (n : ℕ). take n (padded_body b)) len
     ∙ take-append_seam b (replicate (4064 * pages_for (length b) - length b) 0)

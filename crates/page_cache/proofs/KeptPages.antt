@@ -17,7 +17,7 @@ use Rattle.std.specs.declared.boxed.Box.{Box}
 use Rattle.std.specs.declared.alloc.Global.{Global}
 use Rattle.page_file.specs.declared.page.PageBytes.{PageBytes}
 use Rattle.page_cache.specs.declared.key.PageKey.{PageKey}
-use Rattle.page_cache.specs.Keys.{Kept, same_key, without, HasKey, KeepsNoMore, KeepsOneMore}
+use Rattle.page_cache.specs.Keys.{Kept, same_key, keys_but, HasKey, KeepsNoMore, KeepsOneMore}
 
 -- ---- keys
 
@@ -90,10 +90,10 @@ module _ (key : PageKey) where
       ]) h
 
   -- the keys of what is left
-  pub keys_without : (es : Kept) → keys_of (remove_entry (same_key key) es) ≡ without key (keys_of es)
+  pub keys_without : (es : Kept) → keys_of (remove_entry (same_key key) es) ≡ keys_but key (keys_of es)
   keys_without [] = refl
   keys_without (f ∷ es) =
-      (elim (same_key key f.0) as (λ b. keys_of (cond b es (f ∷ remove_entry (same_key key) es)) ≡ cond b (keys_of es) (f.0 ∷ without key (keys_of es))) [
+      (elim (same_key key f.0) as (λ b. keys_of (cond b es (f ∷ remove_entry (same_key key) es)) ≡ cond b (keys_of es) (f.0 ∷ keys_but key (keys_of es))) [
         | true ↦ refl
         | false ↦ ap (λ (ks : List PageKey). f.0 ∷ ks) (keys_without es)
       ])
@@ -114,7 +114,7 @@ module _ (key : PageKey) where
   used_missing es (Some e) h = tt
 
   used_first : (es : Kept) (o : Option (PageKey × Box PageBytes Global)) → lookup_entry (same_key key) es ≡ o
-      → OnTrue (is_some o) (keys_of (used es o) ≡ key ∷ without key (keys_of es))
+      → OnTrue (is_some o) (keys_of (used es o) ≡ key ∷ keys_but key (keys_of es))
   used_first es None h = tt
   used_first es (Some e) h =
       let same : key ≡ e.0 = key_true key e.0 (Contains-lookup_entry (same_key key) es e h).1 in
@@ -137,11 +137,11 @@ module _ (key : PageKey) where
     pub touch_missing : OnFalse r (HasKey es key → ⊥)
     touch_missing = subst (λ (b : Bool). OnFalse b (HasKey es key → ⊥)) (sym by_entry) (used_missing es (lookup_entry (same_key key) es) refl)
 
-    pub touch_first : OnTrue r (keys_of ns ≡ key ∷ without key (keys_of es))
+    pub touch_first : OnTrue r (keys_of ns ≡ key ∷ keys_but key (keys_of es))
     touch_first =
-        let moved = subst (λ (b : Bool). OnTrue b (keys_of (promoted (same_key key) es) ≡ key ∷ without key (keys_of es))) (sym by_entry)
+        let moved = subst (λ (b : Bool). OnTrue b (keys_of (promoted (same_key key) es) ≡ key ∷ keys_but key (keys_of es))) (sym by_entry)
         (used_first es (lookup_entry (same_key key) es) refl) in
-        subst (λ (l : Kept). OnTrue r (keys_of l ≡ key ∷ without key (keys_of es))) (sym after) moved
+        subst (λ (l : Kept). OnTrue r (keys_of l ≡ key ∷ keys_but key (keys_of es))) (sym after) moved
 
     pub touch_same : OnFalse r (ns ≡ es)
     touch_same =

@@ -8,7 +8,7 @@ use Rattle.std.proofs.Math.ListN.{drop_of_length-le}
 use Rattle.outer_io.specs.declared.file_name.FileName.{FileName}
 use Rattle.page_file.specs.Page.{IsPage, payload_of}
 use Rattle.page_cache.specs.FilePages.{kind_of, number_of, page_at, payloads_of}
-use Rattle.page_cache.specs.Bodies.{pages_for, filled, AppendsPage, AppendsPages, IsBodyFile}
+use Rattle.page_cache.specs.Bodies.{pages_for, padded_body, AppendsPage, AppendsPages, IsBodyFile}
 use Rattle.page_cache.proofs.PageRuns.{page_at_front, page_at_back, page_at_only, payloads_front, payloads_more, pages_behind}
 
 -- the first i pages of the body were put behind what was there
@@ -17,9 +17,9 @@ pub record PutSoFar (name : FileName) (first : ℕ) (body : List ℕ) (i : ℕ) 
   pub grew : new ≡ old ++ bytes
   pub len : length bytes ≡ 4096 * i
   pub pages : (k : ℕ) → k < i → IsPage (kind_of name) (number_of name) (first + k) (page_at bytes k)
-  pub payload : payloads_of bytes 0 i ≡ take (4064 * i) (filled body)
+  pub payload : payloads_of bytes 0 i ≡ take (4064 * i) (padded_body body)
 
-pub length-filled : (body : List ℕ) → length (filled body) ≡ 4064 * pages_for (length body)
+pub length-filled : (body : List ℕ) → length (padded_body body) ≡ 4064 * pages_for (length body)
 length-filled body =
     let both = length-append body (replicate (4064 * pages_for (length body) - length body) 0) in
     let zeros = length-replicate {A = ℕ} (4064 * pages_for (length body) - length body) 0 in
@@ -27,11 +27,11 @@ length-filled body =
 
 -- the part of the body that page i holds, with the zeros of the page
 pub part_filled : (body rest part : List ℕ) (i : ℕ) → i < pages_for (length body) → rest ≡ drop (4064 * i) body → part ≡ take (min (length rest) 4064) rest
-    → part ++ replicate (4064 - length part) 0 ≡ take 4064 (drop (4064 * i) (filled body))
+    → part ++ replicate (4064 - length part) 0 ≡ take 4064 (drop (4064 * i) (padded_body body))
 part_filled body rest part i some e f =
     let begin : 4064 * i ≤ length body = omega arith in
     let left : length rest ≡ length body - 4064 * i = ap (λ (x : List ℕ). length x) e ∙ length-drop (4064 * i) body in
-    let behind : drop (4064 * i) (filled body) ≡ rest ++ replicate (4064 * pages_for (length body) - length body) 0 =
+    let behind : drop (4064 * i) (padded_body body) ≡ rest ++ replicate (4064 * pages_for (length body) - length body) 0 =
     drop-append-le (4064 * i) body (replicate (4064 * pages_for (length body) - length body) 0) begin
     ∙ ap (λ (x : List ℕ). x ++ replicate (4064 * pages_for (length body) - length body) 0) (sym e) in
     elim (cases_lt (length rest) 4064) [
@@ -96,9 +96,9 @@ put_more name first body rest part i old mid new some e f put page =
       payload =
           sym (payloads_more (put.bytes ++ page.bytes) [] (payloads_of (put.bytes ++ page.bytes) 0 i) (payload_of page.bytes) 0 i refl payload)
           ∙ ap (λ (x : List ℕ). x ++ payload_of page.bytes) (payloads_front put.bytes page.bytes 0 i before ∙ put.payload)
-          ∙ ap (λ (x : List ℕ). take (4064 * i) (filled body) ++ x) (page.payload ∙ part_filled body rest part i some e f)
-          ∙ sym (take-add (4064 * i) 4064 (filled body))
-          ∙ ap (λ (n : ℕ). take n (filled body)) grown;
+          ∙ ap (λ (x : List ℕ). take (4064 * i) (padded_body body) ++ x) (page.payload ∙ part_filled body rest part i some e f)
+          ∙ sym (take-add (4064 * i) 4064 (padded_body body))
+          ∙ ap (λ (n : ℕ). take n (padded_body body)) grown;
     }
 
 -- all pages were put
@@ -110,7 +110,8 @@ put_all name first body old new count all put = record {
   pages = record {
     len = put.len ∙ ap (λ (n : ℕ). 4096 * n) all;
     pages = λ k low. put.pages k (omega arith);
-    payload = ap (λ (n : ℕ). payloads_of put.bytes 0 n) (sym all) ∙ put.payload ∙ take_all (4064 * count) (filled body) (omega (arith, length-filled body));
+    payload =
+        ap (λ (n : ℕ). payloads_of put.bytes 0 n) (sym all) ∙ put.payload ∙ take_all (4064 * count) (padded_body body) (omega (arith, length-filled body));
   };
 }
 

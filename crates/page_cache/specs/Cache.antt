@@ -5,7 +5,7 @@ use Rattle.outer_io.specs.declared.file_name.FileName.TheVariants.{Commit, Commi
 use Rattle.outer_io.specs.Files.{Files}
 use Rattle.page_cache.specs.declared.key.PageKey.{PageKey}
 use Rattle.page_cache.specs.declared.cache.PageCache.{PageCache}
-use Rattle.page_cache.specs.Keys.{page_key, without, KeepsIn, is_of_other}
+use Rattle.page_cache.specs.Keys.{page_key, keys_but, KeepsIn, is_of_other}
 use Rattle.page_cache.specs.Evidence.{IsPageOf}
 
 -- the cache keeps this page of the segment's file, with these bytes
@@ -34,7 +34,7 @@ order_of c = map (λ e. e.0) c.pages.entries
 
 -- this page was used: it stands first; where it wasn't kept and the room is full, the one least lately used went
 pub record IsUsed (id number : ℕ) (old new : PageCache) : Type 0 where
-  pub kept : IsKept old id number → order_of new ≡ page_key id number ∷ without (page_key id number) (order_of old)
+  pub kept : IsKept old id number → order_of new ≡ page_key id number ∷ keys_but (page_key id number) (order_of old)
   pub read : (IsKept old id number → ⊥) → order_of new ≡ page_key id number ∷ take (room_of old - 1) (order_of old)
 
 -- the keys of other segments

@@ -43,6 +43,6 @@ abbrev pub is_of_other : ℕ → PageKey → Bool
 is_of_other id key = not (key.id == id)
 
 -- the keys without the first that is this one
-abbrev pub without : PageKey → List PageKey → List PageKey
-without key [] = []
-without key (k ∷ ks) = cond (same_key key k) ks (k ∷ without key ks)
+abbrev pub keys_but : PageKey → List PageKey → List PageKey
+keys_but key [] = []
+keys_but key (k ∷ ks) = cond (same_key key k) ks (k ∷ keys_but key ks)

@@ -3,7 +3,7 @@
 ghost use Rattle.page_cache.specs.Keys.{AllValid};
 
 use crate::faults::{Memory, PageFault};
-use crate::kept::{KeptPages, add_note, keep, kept_page, take_file_out, take_out, touch};
+use crate::kept::{KeptPages, add_note, keep, kept_page, remove_pages, remove_page, touch};
 use crate::key::PageKey;
 use crate::note::LeafNote;
 use crate::read::read_page;
@@ -33,7 +33,7 @@ impl PageCache {
     ghost use Rattle.page_cache.specs.FilePages.{kind_of, number_of, IsFilePage};
     ghost use Rattle.page_cache.specs.Evidence.{OnDamage, NotDamaged, IsPageOf, IsPageDamage, IsPageDamageOf};
     ghost use Rattle.page_cache.specs.Causes.{HasPageCause, IsSteady};
-    ghost use Rattle.page_cache.specs.Keys.{page_key, without};
+    ghost use Rattle.page_cache.specs.Keys.{page_key, keys_but};
     ghost use Rattle.page_cache.specs.Notes.{Fits};
     ghost use Rattle.page_cache.specs.Cache.{Keeps, IsKept, KeepsFile, Agrees, room_of, order_of, of_others, IsUsed};
     ghost use Rattle.page_cache.specs.Cache.{KeepsOf, IsKeptOf};
@@ -135,16 +135,16 @@ impl PageCache {
         add_note(&mut self.pages, PageKey { id, number }, note);
     }
 
-    /// Takes a page out, and leaves the others. None exactly where it isn't kept; then all stays as it was. Takes no
+    /// Removes a page, and leaves the others. None exactly where it isn't kept; then all stays as it was. Takes no
     /// memory.
     #[tactic(auto, unfolding(crate::specs::Cache::Keeps, crate::specs::Cache::IsKept, crate::specs::Cache::KeepsFile, crate::specs::Cache::Agrees, crate::specs::Cache::room_of, crate::specs::Cache::order_of))]
-    pub fn take(&mut self, file: &FileName, number: u32) -> Option<Box<PageBytes>>
+    pub fn remove(&mut self, file: &FileName, number: u32) -> Option<Box<PageBytes>>
         ensures none { IfNone result (IsKeptOf self.old file.now number → ⊥) }
         ensures some { IfSome result (λ p. KeepsOf self.old file.now number p.value.b) }
         ensures valid { IfSome result (λ p. IsPage (kind_of file.now) (number_of file.now) number p.value.b) }
         ensures gone { IsKeptOf self.new file.now number → ⊥ }
         ensures order { OnSome result
-            (order_of self.new ≡ without (page_key (number_of file.now) number) (order_of self.old)) }
+            (order_of self.new ≡ keys_but (page_key (number_of file.now) number) (order_of self.old)) }
         ensures refused { IfNone result (order_of self.new ≡ order_of self.old) }
         ensures stays { (i n : ℕ) (bytes : List ℕ) → Keeps self.old i n bytes
             → Keeps self.new i n bytes ⊎ ((file.now ≡ Segment i) × (number ≡ n)) }
@@ -156,7 +156,7 @@ impl PageCache {
         let FileName::Segment(id) = *file else {
             return None;
         };
-        take_out(&mut self.pages, PageKey { id, number })
+        remove_page(&mut self.pages, PageKey { id, number })
     }
 
     /// Takes all pages of a segment's file out, and leaves those of others as they are. Takes no memory.
@@ -169,6 +169,6 @@ impl PageCache {
         ensures agrees { (files : Files) → Agrees files self.old → Agrees files self.new }
         ensures room { room_of self.new ≡ room_of self.old }
     {
-        take_file_out(&mut self.pages, id);
+        remove_pages(&mut self.pages, id);
     }
 }

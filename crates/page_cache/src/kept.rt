@@ -9,7 +9,7 @@ ghost use Rattle.std.specs.declared.alloc.Global.{Global};
 ghost use Rattle.page_file.specs.declared.page.PageBytes.{PageBytes};
 ghost use Rattle.page_cache.specs.declared.key.PageKey.{PageKey};
 ghost use Rattle.page_cache.specs.Notes.{Fits};
-ghost use Rattle.page_cache.specs.Keys.{Kept, same_key, without, HasKey, KeepsIn, KeepsNoMore, KeepsOneMore};
+ghost use Rattle.page_cache.specs.Keys.{Kept, same_key, keys_but, HasKey, KeepsIn, KeepsNoMore, KeepsOneMore};
 ghost use Rattle.page_cache.specs.Keys.{is_of_other};
 
 use crate::faults::Memory;
@@ -27,7 +27,7 @@ pub(crate) fn touch(pages: &mut KeptPages, key: PageKey) -> bool
     ensures found { OnTrue result (HasKey pages.new.entries key) }
     ensures missing { OnFalse result (HasKey pages.old.entries key → ⊥) }
     ensures fewer { KeepsNoMore pages.old.entries pages.new.entries }
-    ensures first { OnTrue result (keys_of pages.new.entries ≡ key ∷ without key (keys_of pages.old.entries)) }
+    ensures first { OnTrue result (keys_of pages.new.entries ≡ key ∷ keys_but key (keys_of pages.old.entries)) }
     ensures same { OnFalse result (pages.new.entries ≡ pages.old.entries) }
     ensures room { pages.new.cap ≡ pages.old.cap }
 {
@@ -63,14 +63,14 @@ pub(crate) fn kept_page(pages: &KeptPages, key: PageKey) -> &KeptPage
 }
 
 /// Takes a page out, if it is kept.
-pub(crate) fn take_out(pages: &mut KeptPages, key: PageKey) -> Option<Box<PageBytes>>
+pub(crate) fn remove_page(pages: &mut KeptPages, key: PageKey) -> Option<Box<PageBytes>>
     ensures some { IfSome result (λ p. Contains pages.old.entries (key, p)) }
     ensures none { IfNone result (HasKey pages.old.entries key → ⊥) }
     ensures gone { HasKey pages.new.entries key → ⊥ }
     ensures fewer { KeepsNoMore pages.old.entries pages.new.entries }
     ensures stays { (e : PageKey × Box PageBytes Global) → Contains pages.old.entries e → Contains pages.new.entries e
         ⊎ (e.0 ≡ key) }
-    ensures order { keys_of pages.new.entries ≡ without key (keys_of pages.old.entries) }
+    ensures order { keys_of pages.new.entries ≡ keys_but key (keys_of pages.old.entries) }
     ensures same { IfNone result (pages.new.entries ≡ pages.old.entries) }
     ensures room { pages.new.cap ≡ pages.old.cap }
 {
@@ -100,7 +100,7 @@ pub(crate) fn add_note(pages: &mut KeptPages, key: PageKey, note: LeafNote)
 }
 
 /// Takes the last page out where it is of the segment's file, and else puts it first.
-fn turn(pages: &mut KeptPages, id: u64)
+fn rotate(pages: &mut KeptPages, id: u64)
     ensures turned { (front : Kept) (last : PageKey × Box PageBytes Global) → pages.old.entries ≡ front ++ last ∷ []
         → pages.new.entries ≡ cond (is_of_other id last.0) (last ∷ front) front }
     ensures room { pages.new.cap ≡ pages.old.cap }
@@ -119,12 +119,12 @@ fn turn(pages: &mut KeptPages, id: u64)
 }
 
 /// Takes all pages of the segment's file out. The others stay in their order.
-pub(crate) fn take_file_out(pages: &mut KeptPages, id: u64)
+pub(crate) fn remove_pages(pages: &mut KeptPages, id: u64)
     ensures others { pages.new.entries ≡ filter (λ e. is_of_other id e.0) pages.old.entries }
     ensures room { pages.new.cap ≡ pages.old.cap }
 {
     let kept = pages.len();
     'turns: for _ in 0..kept {
-        turn(pages, id);
+        rotate(pages, id);
     }
 }

@@ -117,7 +117,7 @@ by_dimension_step f (x ∷ xs) (y ∷ ys) (suc i) h k =
 
 -- ---- a corner moved in one dimension
 
-both_assoc : (a b c : Bool) → (a && (b && c)) ≡ ((a && b) && c)
+pub both_assoc : (a b c : Bool) → (a && (b && c)) ≡ ((a && b) && c)
 both_assoc true b c = refl
 both_assoc false b c = refl
 

@@ -41,10 +41,10 @@ twice true b = refl
 twice false b = refl
 
 -- as entries of a map with nothing at each key
-abbrev marked : {K : Type 0} → List K → List (K × Unit {0})
+abbrev pub marked : {K : Type 0} → List K → List (K × Unit {0})
 marked ps = map (λ p. (p, tt)) ps
 
-unmarked : {K : Type 0} (ps : List K) → map (λ e. e.0) (marked ps) ≡ ps
+pub unmarked : {K : Type 0} (ps : List K) → map (λ e. e.0) (marked ps) ≡ ps
 unmarked [] = refl
 unmarked (p ∷ ps) = ap (λ qs. p ∷ qs) (unmarked ps)
 

@@ -38,8 +38,8 @@ dist2 [] ys = 0
 dist2 (x ∷ xs) [] = 0
 
 -- the different ones among the points, ascending by their coordinates in order
-abbrev pub ordered : List (List ℤ) → List (List ℤ)
-ordered points = in_order (slice_cmp int_cmp) points
+abbrev pub ordered_points : List (List ℤ) → List (List ℤ)
+ordered_points points = in_order (slice_cmp int_cmp) points
 
 -- the points of a document: 1 to 16 different ones, ascending (Lucene's several values of one field; this project's
 -- limit)

@@ -56,14 +56,14 @@ impl<const D: usize> Model for Points<D> {
 }
 
 impl<const D: usize> Points<D> {
-    ghost use Rattle.point_codec.specs.Points.{ArePoints, ordered};
+    ghost use Rattle.point_codec.specs.Points.{ArePoints, ordered_points};
     ghost use Rattle.point_codec.specs.Seen.{coordinates_of};
 
     /// The different ones among 1 to 16 points, in ascending order of their coordinates.
     pub fn of(list: Vec<Point<D>>) -> Points<D>
         requires some { 1 ≤ length list.items }
         requires few { length list.items ≤ 16 }
-        ensures { result ≡ ordered (coordinates_of list.entry.items) }
+        ensures { result ≡ ordered_points (coordinates_of list.entry.items) }
     {
         let mut list = list;
         list.sort_unstable();

@@ -10,11 +10,11 @@ use Rattle.point_codec.specs.Points.{Region, all_le, in_box}
 use Rattle.point_codec.specs.Cells.{within}
 use Rattle.cell_relate.specs.Boxes.{crosses}
 use Rattle.cell_relate.specs.Relations.{IsUncrossed, is_outside}
-use Rattle.cell_relate.proofs.Corners.{both_true, all_le-refl, all_le-trans}
 use Rattle.cell_relate.proofs.RelationLemmas.{in_box-lo, is_outside-inside}
 use Rattle.point_counts.specs.Grids.{Plan, IsPlan, steps_between, coordinate, column_of, row_of, bucket_count}
 use Rattle.point_counts.specs.Costs.{has_two_buckets, is_parted}
 use Rattle.point_counts.specs.Tables.{place_in}
+use Rattle.point_codec.proofs.Corners.{both_true, all_le-refl, all_le-trans}
 
 -- ---- between the ends of a cell of the box
 

@@ -14,7 +14,7 @@ use Rattle.documents.proofs.Kept.{among_from, among_to}
 use Rattle.documents.proofs.Lists.{cons_head, cons_tail, pairs_head, pairs_tail}
 use Rattle.segment_file.specs.Heads.{Head}
 use Rattle.segment_file.proofs.Counted.{segment_counted}
-use Rattle.segment_view.specs.Parts.{Part, part_of, Contents, IsRead}
+use Rattle.segment_view.specs.LiveSegments.{LiveSegment, live_segment, Contents, IsRead}
 use Rattle.point_counts.specs.Costs.{is_clean}
 
 -- how many entries have the number, and how often an entry's number is among the numbers
@@ -141,7 +141,7 @@ all_ones_above f (x ∷ xs) all full =
 
 -- ---- of a segment
 
-module _ (D : ℕ) (files : Files) (c : Contents) (p : Part) (read : IsRead D files c p) (set : IsLiveSet p.live)
+module _ (D : ℕ) (files : Files) (c : Contents) (p : LiveSegment) (read : IsRead D files c p) (set : IsLiveSet p.live)
     (clean : is_clean p ≡ true) where
   as_many : length p.live.live ≡ length (c p.head.id)
   as_many = eqb-true (length p.live.live) p.head.entries clean
@@ -177,5 +177,5 @@ module _ (D : ℕ) (files : Files) (c : Contents) (p : Part) (read : IsRead D fi
 
 -- told by what is read of both
 pub clean_is : (live entries : ℕ) (head : Head) (set : LiveSet) → live ≡ length set.live → entries ≡ head.entries
-    → is_clean (part_of head set) ≡ eqb live entries
+    → is_clean (live_segment head set) ≡ eqb live entries
 clean_is live entries head set a b = ap (λ (n : ℕ). eqb n head.entries) (sym a) ∙ ap (eqb live) (sym b)

@@ -14,27 +14,27 @@ use Rattle.cell_relate.specs.Relations.{AllAnswer}
 use Rattle.bkd_reader.proofs.Beyond.{HasNone}
 use Rattle.bkd_reader.proofs.HitLemmas.{no_item}
 use Rattle.point_counts.specs.Grids.{number_in}
-use Rattle.point_counts.specs.Tables.{is_at, all_at, live_at, HasCounts, Adds}
+use Rattle.point_counts.specs.Tables.{is_at, all_at, live_at, HasCounts, AddsCounts}
 
 -- ---- tables
 
 counts_as : (m n : ℕ → ℕ) (table : List ℕ) → ((k : ℕ) → m k ≡ n k) → HasCounts m table → HasCounts n table
 counts_as m n table same h = record { each = λ k lt. let e = h.each k lt in let s = same k in omega (arith, e, s) }
 
-pub adds_as : (a b : ℕ → ℕ) (old new : List ℕ) → ((k : ℕ) → a k ≡ b k) → Adds a old new → Adds b old new
+pub adds_as : (a b : ℕ → ℕ) (old new : List ℕ) → ((k : ℕ) → a k ≡ b k) → AddsCounts a old new → AddsCounts b old new
 adds_as a b old new same h = record {
   counts = λ n was. counts_as (λ k. n k + a k) (λ k. n k + b k) new
       (λ k. ap (λ (m : ℕ). n k + m) (same k)) (h.counts n was);
 }
 
-pub adds_none : (more : ℕ → ℕ) (table : List ℕ) → ((k : ℕ) → more k ≡ 0) → Adds more table table
+pub adds_none : (more : ℕ → ℕ) (table : List ℕ) → ((k : ℕ) → more k ≡ 0) → AddsCounts more table table
 adds_none more table none = record {
   counts = λ n was. counts_as n (λ k. n k + more k) table
       (λ k. let z = none k in omega (arith, z)) was;
 }
 
-pub adds_then : (a b c : ℕ → ℕ) (old mid new : List ℕ) → ((k : ℕ) → c k ≡ a k + b k) → Adds a old mid → Adds b mid new
-    → Adds c old new
+pub adds_then : (a b c : ℕ → ℕ) (old mid new : List ℕ) → ((k : ℕ) → c k ≡ a k + b k) → AddsCounts a old mid → AddsCounts b mid new
+    → AddsCounts c old new
 adds_then a b c old mid new both p q = record {
   counts = λ n was.
       counts_as (λ k. n k + a k + b k) (λ k. n k + c k) new (λ k. let e = both k in omega (arith, e))
@@ -44,7 +44,7 @@ adds_then a b c old mid new both p q = record {
 -- a count that rises at one place and stands still at the greatest number
 pub add_here : (table : List ℕ) (place more sum : ℕ) → place < length table
     → sum ≡ min (get_or table place 0 + more) 18446744073709551615
-    → Adds (λ k. cond (eqb place k) more 0) table (set table place sum)
+    → AddsCounts (λ k. cond (eqb place k) more 0) table (set table place sum)
 add_here table place more sum within is = record {
   counts =
       λ n was. record { each = λ k lt. by n was k (omega (arith, lt, length-set table place sum)) (eqb place k) refl };
@@ -66,7 +66,7 @@ add_here table place more sum within is = record {
 
 -- behind the end nothing is counted
 pub add_past : (table : List ℕ) (place more : ℕ) → length table ≤ place
-    → Adds (λ k. cond (eqb place k) more 0) table table
+    → AddsCounts (λ k. cond (eqb place k) more 0) table table
 add_past table place more past = record { counts = λ n was. record { each = λ k lt. by n was k lt (eqb place k) refl } }
   where
     by : (n : ℕ → ℕ) → HasCounts n table → (k : ℕ) → k < length table → (b : Bool) → eqb place k ≡ b
@@ -79,7 +79,7 @@ pub no_counts : (table : List ℕ) → ((k : ℕ) → k < length table → get_o
 no_counts table none = record { each = λ k lt. let z = none k lt in omega (arith, z) }
 
 -- what such a table tells of entries that are counted in it
-pub counted : (more : ℕ → ℕ) (old new : List ℕ) → HasCounts (λ k. 0) old → Adds more old new → HasCounts more new
+pub counted : (more : ℕ → ℕ) (old new : List ℕ) → HasCounts (λ k. 0) old → AddsCounts more old new → HasCounts more new
 counted more old new none adds = counts_as (λ k. 0 + more k) more new (λ k. omega arith) (adds.counts (λ k. 0) none)
 
 -- ---- entries at places, one more entry at a time

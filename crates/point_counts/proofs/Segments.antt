@@ -10,24 +10,24 @@ use Rattle.live_bits.specs.LiveSet.{is_live}
 use Rattle.inner_pack.specs.Trees.{IndexTree}
 use Rattle.inner_pack.specs.Bodies.{HasTree}
 use Rattle.segment_file.proofs.Counted.{segment_counted, segment_ranges}
-use Rattle.segment_view.specs.Parts.{Part, Contents, IsRead, AreRead, live_in_parts}
+use Rattle.segment_view.specs.LiveSegments.{LiveSegment, Contents, IsRead, AreRead, live_in_parts}
 use Rattle.segment_view.proofs.Living.{live-append, live_of, parts_more}
 use Rattle.segment_view.proofs.Stepwise.{split_at}
 use Rattle.point_counts.specs.Tables.{all_at}
-use Rattle.point_counts.specs.Costs.{is_clean, opened_below, AreOpened}
+use Rattle.point_counts.specs.Costs.{is_clean, opened_below, OpensLeaves}
 use Rattle.point_counts.proofs.Counts.{all_join}
 
 -- ---- leaves
 
 -- those of two lists together
-pub record Halves (D : ℕ) (box : Region) (test : Region → Bool) (xs ys : List Part) (n : ℕ) : Type 0 where
+pub record Halves (D : ℕ) (box : Region) (test : Region → Bool) (xs ys : List LiveSegment) (n : ℕ) : Type 0 where
   pub left : ℕ
   pub right : ℕ
-  pub of_left : AreOpened D box test xs left
-  pub of_right : AreOpened D box test ys right
+  pub of_left : OpensLeaves D box test xs left
+  pub of_right : OpensLeaves D box test ys right
   pub sum : n ≡ left + right
 
-halves : (D : ℕ) (box : Region) (test : Region → Bool) (xs ys : List Part) (n : ℕ) → AreOpened D box test (xs ++ ys) n
+halves : (D : ℕ) (box : Region) (test : Region → Bool) (xs ys : List LiveSegment) (n : ℕ) → OpensLeaves D box test (xs ++ ys) n
     → Halves D box test xs ys n
 halves D box test [] ys n h = record { left = 0; right = n; of_left = refl; of_right = h; sum = omega arith }
 halves D box test (x ∷ xs) ys n h =
@@ -41,26 +41,26 @@ halves D box test (x ∷ xs) ys n h =
       sum = h.4 ∙ omega (arith, r.sum);
     }
 
-pub opened_more : (D : ℕ) (box : Region) (test : Region → Bool) (parts : List Part) (i : ℕ) (p : Part) (n : ℕ)
-    → slice_get parts i ≡ Some p → AreOpened D box test (take (i + 1) parts) n
+pub opened_more : (D : ℕ) (box : Region) (test : Region → Bool) (parts : List LiveSegment) (i : ℕ) (p : LiveSegment) (n : ℕ)
+    → slice_get parts i ≡ Some p → OpensLeaves D box test (take (i + 1) parts) n
     → Halves D box test (take i parts) (p ∷ []) n
 opened_more D box test parts i p n is all = halves D box test (take i parts) (p ∷ []) n
-    (subst (λ (ps : List Part). AreOpened D box test ps n) (parts_more parts i p is) all)
+    (subst (λ (ps : List LiveSegment). OpensLeaves D box test ps n) (parts_more parts i p is) all)
 
 -- those up to a segment are not more than those of all
-pub record Upto (D : ℕ) (box : Region) (test : Region → Bool) (parts : List Part) (i : ℕ) (p : Part) (n : ℕ) : Type 0
+pub record Upto (D : ℕ) (box : Region) (test : Region → Bool) (parts : List LiveSegment) (i : ℕ) (p : LiveSegment) (n : ℕ) : Type 0
   where
     pub before : ℕ
     pub here : ℕ
-    pub of_before : AreOpened D box test (take i parts) before
-    pub of_here : AreOpened D box test (p ∷ []) here
+    pub of_before : OpensLeaves D box test (take i parts) before
+    pub of_here : OpensLeaves D box test (p ∷ []) here
     pub within : before + here ≤ n
 
-pub opened_upto : (D : ℕ) (box : Region) (test : Region → Bool) (parts : List Part) (i : ℕ) (p : Part) (n : ℕ)
-    → slice_get parts i ≡ Some p → AreOpened D box test parts n → Upto D box test parts i p n
+pub opened_upto : (D : ℕ) (box : Region) (test : Region → Bool) (parts : List LiveSegment) (i : ℕ) (p : LiveSegment) (n : ℕ)
+    → slice_get parts i ≡ Some p → OpensLeaves D box test parts n → Upto D box test parts i p n
 opened_upto D box test parts i p n is all =
     let whole = halves D box test (take i parts ++ p ∷ []) (drop (i + 1) parts) n
-    (subst (λ (ps : List Part). AreOpened D box test ps n) (sym (split_at parts i p is)) all) in
+    (subst (λ (ps : List LiveSegment). OpensLeaves D box test ps n) (sym (split_at parts i p is)) all) in
     let two = halves D box test (take i parts) (p ∷ []) whole.left whole.of_left in
     record {
       before = two.left;
@@ -72,24 +72,24 @@ opened_upto D box test parts i p n is all =
     }
 
 -- those of one segment
-pub one_segment : (D : ℕ) (box : Region) (test : Region → Bool) (p : Part) (n : ℕ) (root : Region) (t : IndexTree)
-    → AreOpened D box test (p ∷ []) n → HasTree D p.head.index root t
+pub one_segment : (D : ℕ) (box : Region) (test : Region → Bool) (p : LiveSegment) (n : ℕ) (root : Region) (t : IndexTree)
+    → OpensLeaves D box test (p ∷ []) n → HasTree D p.head.index root t
     → n ≡ opened_below (is_clean p) box test t
 one_segment D box test p n root t c has = let e = c.2 root t has in omega (arith, e, c.3, c.4)
 
 -- ---- entries
 
-pub counted_more : (box : Region) (place : List ℤ → ℕ) (c : Contents) (parts : List Part) (i : ℕ) (p : Part)
+pub counted_more : (box : Region) (place : List ℤ → ℕ) (c : Contents) (parts : List LiveSegment) (i : ℕ) (p : LiveSegment)
     → slice_get parts i ≡ Some p → (k : ℕ)
     → all_at box place (live_in_parts c (take (i + 1) parts)) k ≡ all_at box place (live_in_parts c (take i parts)) k
     + all_at box place (live_in_parts c (p ∷ [])) k
 counted_more box place c parts i p is k =
-    ap (λ (ps : List Part). all_at box place (live_in_parts c ps) k) (parts_more parts i p is)
+    ap (λ (ps : List LiveSegment). all_at box place (live_in_parts c ps) k) (parts_more parts i p is)
     ∙ ap (λ (xs : List Item). all_at box place xs k) (live-append c (take i parts) (p ∷ []))
     ∙ all_join box place (live_in_parts c (take i parts)) (live_in_parts c (p ∷ [])) k
 
 -- no segment has more than 16,777,216
-pub few_live : (D : ℕ) (files : Files) (c : Contents) (parts : List Part) → AreRead D files c parts
+pub few_live : (D : ℕ) (files : Files) (c : Contents) (parts : List LiveSegment) → AreRead D files c parts
     → length (live_in_parts c parts) ≤ 16777216 * length parts
 few_live D files c [] all = omega arith
 few_live D files c (p ∷ ps) all =

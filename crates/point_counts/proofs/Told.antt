@@ -12,7 +12,7 @@ use Rattle.std.proofs.lemmas.List.Sums.{count_by-le-length, get_or-le-sum_by}
 use Rattle.documents.proofs.Lists.{cons_cases, cons_head, nil_none, pairs_none}
 use Rattle.point_codec.specs.Points.{Item, in_box}
 use Rattle.point_counts.specs.declared.plan.Bucket.{Bucket}
-use Rattle.point_counts.specs.Grids.{Plan, IsPlan, ComesBefore, IsGrid, column_of, row_of, bucket_count, is_in_bucket}
+use Rattle.point_counts.specs.Grids.{Plan, IsPlan, BucketComesBefore, IsGrid, column_of, row_of, bucket_count, is_in_bucket}
 use Rattle.point_counts.specs.Grids.{number_of}
 use Rattle.point_counts.specs.Tables.{is_at, all_at, place_in, HasCounts}
 use Rattle.point_counts.proofs.Buckets.{div_rises, place_below, row_below}
@@ -29,13 +29,13 @@ abbrev pub HasTold : (rows : ℕ) → List Bucket → ℕ → Type 0
 HasTold rows buckets k = (b : Bucket) × Contains buckets b × (b.x ≡ k / rows) × (b.y ≡ k % rows)
 
 pub record AreTold (rows : ℕ) (table : List ℕ) (upto : ℕ) (buckets : List Bucket) : Type 0 where
-  pub rises : AllPairs ComesBefore buckets
+  pub rises : AllPairs BucketComesBefore buckets
   pub each : (b : Bucket) → Contains buckets b → IsTold rows table upto b
   pub all : (k : ℕ) → k < upto → 1 ≤ get_or table k 0 → HasTold rows buckets k
 
 pub told_none : (rows : ℕ) (table : List ℕ) → AreTold rows table 0 []
 told_none rows table = record {
-  rises = pairs_none ComesBefore;
+  rises = pairs_none BucketComesBefore;
   each = λ b h. nil_none b (IsTold rows table 0 b) h;
   all = λ k lt some. absurd (omega (arith, lt));
 }
@@ -67,7 +67,7 @@ told_zero rows table k buckets was zero = record {
       (λ some. absurd (omega (arith, some, zero)));
 }
 
-before : (rows : ℕ) (a b : Bucket) → a.y < rows → b.y < rows → a.x * rows + a.y < b.x * rows + b.y → ComesBefore a b
+before : (rows : ℕ) (a b : Bucket) → a.y < rows → b.y < rows → a.x * rows + a.y < b.x * rows + b.y → BucketComesBefore a b
 before rows a b low high less = record {
   column =
       let le = div_rises rows (a.x * rows + a.y) (b.x * rows + b.y) (omega (arith, low)) (omega (arith, less)) in
@@ -92,7 +92,7 @@ told_more rows table k buckets b some was x y n filled =
     let at = divided k rows b.x b.y x y in
     let low : b.y < rows = (let less = mod-lt k some in omega (arith, less, y)) in
     record {
-      rises = all_pairs_push ComesBefore buckets b was.rises (λ j d lt.
+      rises = all_pairs_push BucketComesBefore buckets b was.rises (λ j d lt.
           let w = was.each (get_or buckets j d) (Contains-get_or buckets j d lt) in
           let p = w.place in
           before rows (get_or buckets j d) b w.low low (omega (arith, p, at)));

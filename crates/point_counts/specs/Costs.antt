@@ -5,13 +5,13 @@ use Rattle.point_codec.specs.Cells.{within}
 use Rattle.cell_relate.specs.Boxes.{crosses}
 use Rattle.inner_pack.specs.Trees.{IndexTree, Leaf, Split}
 use Rattle.inner_pack.specs.Bodies.{HasTree}
-use Rattle.bkd_reader.specs.Counts.{touched}
-use Rattle.segment_view.specs.Parts.{Part}
+use Rattle.bkd_reader.specs.Counts.{touched_leaves}
+use Rattle.segment_view.specs.LiveSegments.{LiveSegment}
 use Rattle.point_counts.specs.Grids.{Plan, column_of, row_of}
 
 -- as many numbers are live as the segment has entries: then each entry is live, and no number has two
 -- (`clean_segments_are_live`)
-abbrev pub is_clean : Part → Bool
+abbrev pub is_clean : LiveSegment → Bool
 is_clean p = length p.live.live == p.head.entries
 
 -- how many leaves have an own cell that passes the test
@@ -31,11 +31,11 @@ is_parted plan cell = crosses plan.bounds cell || (within cell plan.bounds && ha
 -- below a node of a clean segment the leaves whose own cell passes the test, of another segment those whose own cell
 -- isn't outside of the box
 abbrev pub opened_below : (clean : Bool) (box : Region) (test : Region → Bool) → IndexTree → ℕ
-opened_below clean box test t = if clean then leaves_with test t else touched (in_box box) (crosses box) t
+opened_below clean box test t = if clean then leaves_with test t else touched_leaves (in_box box) (crosses box) t
 
 -- so many leaves of the segments together
-abbrev pub AreOpened : (D : ℕ) (box : Region) (test : Region → Bool) → List Part → ℕ → Type 0
-AreOpened D box test [] n = n ≡ 0
-AreOpened D box test (p ∷ ps) n =
+abbrev pub OpensLeaves : (D : ℕ) (box : Region) (test : Region → Bool) → List LiveSegment → ℕ → Type 0
+OpensLeaves D box test [] n = n ≡ 0
+OpensLeaves D box test (p ∷ ps) n =
     (m : ℕ) × (rest : ℕ) × ((root : Region) (t : IndexTree) → HasTree D p.head.index root t
-    → m ≡ opened_below (is_clean p) box test t) × AreOpened D box test ps rest × (n ≡ m + rest)
+    → m ≡ opened_below (is_clean p) box test t) × OpensLeaves D box test ps rest × (n ≡ m + rest)

@@ -82,7 +82,7 @@ Judges D wanted (Err (TooMany buckets)) = IsMadeFor D wanted × (buckets ≡ buc
 -- ---- what a grid tells
 
 -- further to the left, or there further below
-pub record ComesBefore (a b : Bucket) : Type 0 where
+pub record BucketComesBefore (a b : Bucket) : Type 0 where
   pub column : a.x ≤ b.x
   pub tie : b.x ≤ a.x → a.y < b.y
 
@@ -93,7 +93,7 @@ HasBucketOf plan buckets at = (b : Bucket) × Contains buckets b × (b.x ≡ col
 -- Each bucket with at least one of the entries' points that the box has, with their number: ascending by x, then y. No
 -- other list is so.
 pub record IsGrid (plan : Plan) (entries : List Item) (buckets : List Bucket) : Type 0 where
-  pub rises : AllPairs ComesBefore buckets
+  pub rises : AllPairs BucketComesBefore buckets
   pub filled : All (λ b. 1 ≤ b.n) buckets
   pub counted : All (λ b. b.n ≡ number_of plan b.x b.y entries) buckets
   pub each : (e : Item) → Contains entries e → in_box plan.bounds e.at ≡ true → HasBucketOf plan buckets e.at

@@ -43,5 +43,5 @@ pub record HasCounts (n : ℕ → ℕ) (table : List ℕ) : Type 0 where
   pub each : (k : ℕ) → k < length table → slice_index table k ≡ min (n k) (2 ^ 64 - 1)
 
 -- the counts of the table rose by these
-pub record Adds (more : ℕ → ℕ) (old new : List ℕ) : Type 0 where
+pub record AddsCounts (more : ℕ → ℕ) (old new : List ℕ) : Type 0 where
   pub counts : (n : ℕ → ℕ) → HasCounts n old → HasCounts (λ k. n k + more k) new

@@ -12,7 +12,7 @@ ghost use Rattle.page_cache.specs.Causes.{HasPageCause};
 ghost use Rattle.page_cache.specs.Evidence.{OnDamage, NotDamaged};
 ghost use Rattle.segment_file.specs.Segments.{HoldsTree};
 ghost use Rattle.segment_file.specs.Damages.{IsLeafDamage, IsLeafDamageOf};
-ghost use Rattle.point_counts.specs.Tables.{Adds, live_at};
+ghost use Rattle.point_counts.specs.Tables.{AddsCounts, live_at};
 
 use crate::sorting::Sorting;
 use inner_pack::NodeAt;
@@ -38,7 +38,8 @@ pub(crate) fn count_leaf<const D: usize, S: Sorting<D>, F: Pages>(
     ensures counts { IsTrue F.told → Agrees (F.files folder.old) cache.old
         → (first : ℕ) (s : Spot) (path : Region) (t : IndexTree) (items : List Item) → IsAt node.now first s path t
         → HoldsTree D (bytes_of (F.files folder.old (Segment head.now.id))) head.now first s t items
-        → OnOk result (Adds (live_at (S.bounds sorting.now) (S.place sorting.now) live.now items) table.old table.new) }
+        → OnOk result
+        (AddsCounts (live_at (S.bounds sorting.now) (S.place sorting.now) live.now items) table.old table.new) }
     ensures reads { F.reads folder.new ≤ F.reads folder.old + 1 }
     ensures files { IsTrue F.told → F.files folder.new ≡ F.files folder.old }
     ensures others { (i : ℕ) → KeepsFile cache.new i → KeepsFile cache.old i ⊎ (i ≡ head.now.id) }
@@ -68,7 +69,7 @@ fn count_live<const D: usize, S: Sorting<D>>(
     live: &LiveBits,
     table: &mut [u64],
 )
-    ensures { Adds (live_at (S.bounds sorting.now) (S.place sorting.now) live.now leaf.now) table.old table.new }
+    ensures { AddsCounts (live_at (S.bounds sorting.now) (S.place sorting.now) live.now leaf.now) table.old table.new }
 {
     let d = leaf.sorted_dimension();
     let (low, high) = sorting.reach(d);
@@ -86,7 +87,7 @@ fn count_live<const D: usize, S: Sorting<D>>(
 
 /// Adds to the count at a place, where the table has it.
 pub(crate) fn add(table: &mut [u64], place: usize, more: u64)
-    ensures { Adds (λ k. if place == k then more else 0) table.old table.new }
+    ensures { AddsCounts (λ k. if place == k then more else 0) table.old table.new }
 {
     if place < table.len() {
         table[place] = table[place].saturating_add(more);

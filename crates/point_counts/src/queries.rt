@@ -8,12 +8,12 @@ ghost use Rattle.page_cache.specs.Cache.{Agrees};
 ghost use Rattle.page_cache.specs.Causes.{HasPageCause};
 ghost use Rattle.page_cache.specs.Evidence.{OnDamage, NotDamaged};
 ghost use Rattle.segment_file.specs.Damages.{IsLeafDamageOf};
-ghost use Rattle.segment_view.specs.Parts.{Contents, AreRead, ids_of, live_in_parts};
+ghost use Rattle.segment_view.specs.LiveSegments.{Contents, AreRead, ids_of, live_in_parts};
 ghost use Rattle.segment_view.specs.Calm.{IsCalm};
 ghost use Rattle.segment_view.specs.Damages.{IsPartDamage};
 ghost use Rattle.point_counts.specs.Grids.{number_in, bucket_count, IsGrid};
-ghost use Rattle.point_counts.specs.Tables.{HasCounts, Adds, all_at, place_in};
-ghost use Rattle.point_counts.specs.Costs.{AreOpened, is_parted};
+ghost use Rattle.point_counts.specs.Tables.{HasCounts, AddsCounts, all_at, place_in};
+ghost use Rattle.point_counts.specs.Costs.{OpensLeaves, is_parted};
 
 use crate::plan::{Bucket, GridPlan};
 use crate::sorting::{Sorting, WholeBox};
@@ -46,7 +46,7 @@ pub fn count<const D: usize, F: Pages>(
         → (c : Contents) → AreRead D (F.files folder.old) c segments.now
         → IfOk result (λ n. n ≡ number_in bounds (live_in_parts c segments.now ++ items_of buffer.now)) }
     ensures reads { let bounds : Region = record { lo = lo.now.c; hi = hi.now.c } in
-        (n : ℕ) → AreOpened D bounds (crosses bounds) segments.now n → F.reads folder.new ≤ F.reads folder.old + n }
+        (n : ℕ) → OpensLeaves D bounds (crosses bounds) segments.now n → F.reads folder.new ≤ F.reads folder.old + n }
     ensures calm { IsCalm F.told (F.files folder.old) (F.files folder.new) cache.old cache.new (ids_of segments.now) }
     // What an error says.
     ensures cause { HasPageCause (F.faults folder.old) (F.faults folder.new) result }
@@ -79,7 +79,7 @@ pub fn grid<const D: usize, F: Pages>(
     ensures exact { IsTrue F.told → Agrees (F.files folder.old) cache.old → (c : Contents)
         → AreRead D (F.files folder.old) c segments.now
         → IfOk result (λ v. IsGrid plan.now (live_in_parts c segments.now ++ items_of buffer.now) v.items) }
-    ensures reads { (n : ℕ) → AreOpened D plan.now.bounds (is_parted plan.now) segments.now n
+    ensures reads { (n : ℕ) → OpensLeaves D plan.now.bounds (is_parted plan.now) segments.now n
         → F.reads folder.new ≤ F.reads folder.old + n }
     ensures calm { IsCalm F.told (F.files folder.old) (F.files folder.new) cache.old cache.new (ids_of segments.now) }
     // What an error says.
@@ -116,11 +116,11 @@ fn count_all<const D: usize, S: Sorting<D>, F: Pages>(
 ) -> Result<(), PageFault>
     ensures counts { IsTrue F.told → Agrees (F.files folder.old) cache.old → (c : Contents)
         → AreRead D (F.files folder.old) c segments.now
-        → OnOk result (Adds (all_at (S.bounds sorting.now) (S.place sorting.now)
+        → OnOk result (AddsCounts (all_at (S.bounds sorting.now) (S.place sorting.now)
         (live_in_parts c segments.now ++ items_of buffer.now)) table.old table.new) }
     ensures few { IsTrue F.told → (c : Contents) → AreRead D (F.files folder.old) c segments.now
         → OnOk result (length (live_in_parts c segments.now ++ items_of buffer.now) < 2 ^ 64) }
-    ensures reads { (n : ℕ) → AreOpened D (S.bounds sorting.now) (S.parts sorting.now) segments.now n
+    ensures reads { (n : ℕ) → OpensLeaves D (S.bounds sorting.now) (S.parts sorting.now) segments.now n
         → F.reads folder.new ≤ F.reads folder.old + n }
     ensures calm { IsCalm F.told (F.files folder.old) (F.files folder.new) cache.old cache.new (ids_of segments.now) }
     ensures cause { HasPageCause (F.faults folder.old) (F.faults folder.new) result }

@@ -6,11 +6,11 @@ ghost use Rattle.page_cache.specs.Cache.{Agrees};
 ghost use Rattle.page_cache.specs.Causes.{HasPageCause};
 ghost use Rattle.page_cache.specs.Evidence.{OnDamage, NotDamaged};
 ghost use Rattle.segment_file.specs.Damages.{IsLeafDamageOf};
-ghost use Rattle.segment_view.specs.Parts.{Contents, IsRead, AreRead, part_of, ids_of, live_in_parts};
+ghost use Rattle.segment_view.specs.LiveSegments.{Contents, IsRead, AreRead, live_segment, ids_of, live_in_parts};
 ghost use Rattle.segment_view.specs.Calm.{IsCalm};
 ghost use Rattle.segment_view.specs.Damages.{IsPartDamage, IsReadDamage};
-ghost use Rattle.point_counts.specs.Tables.{Adds, all_at};
-ghost use Rattle.point_counts.specs.Costs.{AreOpened};
+ghost use Rattle.point_counts.specs.Tables.{AddsCounts, all_at};
+ghost use Rattle.point_counts.specs.Costs.{OpensLeaves};
 
 use crate::leaf::add;
 use crate::sorting::Sorting;
@@ -34,10 +34,10 @@ pub(crate) fn count_segments<const D: usize, S: Sorting<D>, F: Pages>(
 ) -> Result<(), PageFault>
     ensures counts { IsTrue F.told → Agrees (F.files folder.old) cache.old → (c : Contents)
         → AreRead D (F.files folder.old) c segments.now
-        → OnOk result (Adds (all_at (S.bounds sorting.now) (S.place sorting.now) (live_in_parts c segments.now))
+        → OnOk result (AddsCounts (all_at (S.bounds sorting.now) (S.place sorting.now) (live_in_parts c segments.now))
         table.old table.new) }
     ensures few { length segments.now ≤ 16777216 }
-    ensures reads { (n : ℕ) → AreOpened D (S.bounds sorting.now) (S.parts sorting.now) segments.now n
+    ensures reads { (n : ℕ) → OpensLeaves D (S.bounds sorting.now) (S.parts sorting.now) segments.now n
         → F.reads folder.new ≤ F.reads folder.old + n }
     ensures calm { IsCalm F.told (F.files folder.old) (F.files folder.new) cache.old cache.new (ids_of segments.now) }
     ensures cause { HasPageCause (F.faults folder.old) (F.faults folder.new) result }
@@ -65,10 +65,11 @@ fn count_one<const D: usize, S: Sorting<D>, F: Pages>(
     table: &mut [u64],
 ) -> Result<(), PageFault>
     ensures counts { IsTrue F.told → Agrees (F.files folder.old) cache.old → (c : Contents)
-        → IsRead D (F.files folder.old) c (part_of head.now live.now)
-        → OnOk result (Adds (all_at (S.bounds sorting.now) (S.place sorting.now)
-        (live_in_parts c (part_of head.now live.now ∷ []))) table.old table.new) }
-    ensures reads { (n : ℕ) → AreOpened D (S.bounds sorting.now) (S.parts sorting.now) (part_of head.now live.now ∷ [])
+        → IsRead D (F.files folder.old) c (live_segment head.now live.now)
+        → OnOk result (AddsCounts (all_at (S.bounds sorting.now) (S.place sorting.now)
+        (live_in_parts c (live_segment head.now live.now ∷ []))) table.old table.new) }
+    ensures reads { (n : ℕ)
+        → OpensLeaves D (S.bounds sorting.now) (S.parts sorting.now) (live_segment head.now live.now ∷ [])
         n → F.reads folder.new ≤ F.reads folder.old + n }
     ensures calm { IsCalm F.told (F.files folder.old) (F.files folder.new) cache.old cache.new (head.now.id ∷ []) }
     ensures cause { HasPageCause (F.faults folder.old) (F.faults folder.new) result }
@@ -76,7 +77,7 @@ fn count_one<const D: usize, S: Sorting<D>, F: Pages>(
     ensures damage { IsTrue F.told → Agrees (F.files folder.old) cache.old
         → OnDamage result (IsLeafDamageOf (F.files folder.old)) }
     ensures whole { IsTrue F.told → Agrees (F.files folder.old) cache.old → (c : Contents)
-        → IsRead D (F.files folder.old) c (part_of head.now live.now) → NotDamaged result }
+        → IsRead D (F.files folder.old) c (live_segment head.now live.now) → NotDamaged result }
 {
     let count = live.live_count();
     if count == 0 {
@@ -96,7 +97,8 @@ pub(crate) fn count_buffer<const D: usize, S: Sorting<D>>(
     sorting: &S,
     table: &mut [u64],
 )
-    ensures { Adds (all_at (S.bounds sorting.now) (S.place sorting.now) (items_of buffer.now)) table.old table.new }
+    ensures { AddsCounts
+        (all_at (S.bounds sorting.now) (S.place sorting.now) (items_of buffer.now)) table.old table.new }
 {
     for entry in buffer {
         let Some(place) = sorting.place_of(&entry.point) else {

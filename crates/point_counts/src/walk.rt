@@ -17,7 +17,7 @@ ghost use Rattle.page_cache.specs.Evidence.{OnDamage, NotDamaged};
 ghost use Rattle.segment_file.specs.Segments.{HoldsTree};
 ghost use Rattle.segment_file.specs.Damages.{IsLeafDamage, IsLeafDamageOf};
 ghost use Rattle.bkd_reader.specs.Below.{IsRoot};
-ghost use Rattle.point_counts.specs.Tables.{Adds, live_at};
+ghost use Rattle.point_counts.specs.Tables.{AddsCounts, live_at};
 ghost use Rattle.point_counts.specs.Costs.{opened_below};
 
 use crate::leaf::{add, count_leaf};
@@ -46,7 +46,8 @@ pub(crate) fn count_below<const D: usize, S: Sorting<D>, F: Pages>(
         → (first : ℕ) (s : Spot) (path : Region) (t : IndexTree) (items : List Item) → IsRoot node.now first s path t
         → HoldsTree D (bytes_of (F.files folder.old (Segment head.now.id))) head.now first s t items
         → (clean ≡ true → All (λ e. is_live live.now e.doc ≡ true) items)
-        → OnOk result (Adds (live_at (S.bounds sorting.now) (S.place sorting.now) live.now items) table.old table.new) }
+        → OnOk result
+        (AddsCounts (live_at (S.bounds sorting.now) (S.place sorting.now) live.now items) table.old table.new) }
     ensures reads { (first : ℕ) (s : Spot) (path : Region) (t : IndexTree) → IsRoot node.now first s path t
         → F.reads folder.new ≤ F.reads folder.old + opened_below clean (S.bounds sorting.now) (S.parts sorting.now) t }
     ensures files { IsTrue F.told → F.files folder.new ≡ F.files folder.old }
@@ -91,7 +92,8 @@ fn is_settled<const D: usize, S: Sorting<D>>(
         → IsRoot node.now first s path t
         → HoldsTree D bytes head.now first s t items → (live : LiveSet)
         → (clean ≡ true → All (λ e. is_live live e.doc ≡ true) items)
-        → OnTrue result (Adds (live_at (S.bounds sorting.now) (S.place sorting.now) live items) table.old table.new) }
+        → OnTrue result
+        (AddsCounts (live_at (S.bounds sorting.now) (S.place sorting.now) live items) table.old table.new) }
     ensures stays { OnFalse result (table.new ≡ table.old) }
     ensures parted { OnFalse result (clean ≡ true → (first : ℕ) (s : Spot) (path : Region) (t : IndexTree)
         → IsAt node.now first s path t → S.parts sorting.now (cell_of path t) ≡ true) }

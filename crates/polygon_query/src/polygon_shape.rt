@@ -26,9 +26,9 @@ pub struct PolygonShape {
 }
 
 impl Model for PolygonShape {
-    ghost use Rattle.polygon_query.specs.Shape.{Asked};
+    ghost use Rattle.polygon_query.specs.Shape.{CountedPolygon};
 
-    ghost Value = { Asked };
+    ghost Value = { CountedPolygon };
 
     ghost view = { λ s. record { edges = s.edges; tests = s.tests; compares = s.compares } };
 }

@@ -2,7 +2,7 @@
 //! whose two leaves stand on page 2. Each damage was reckoned by hand.
 
 ghost use Rattle.std.specs.Prelude.{◌≡◌, vec_len, IfOk};
-ghost use Rattle.bkd_build.specs.Parts.{AreEntries};
+ghost use Rattle.bkd_build.specs.Pieces.{AreEntries};
 
 use crate::answers::assert_said;
 use bkd_build::OpenGate;

@@ -10,10 +10,10 @@ use std::fmt::Write;
 use std::test::Fail;
 
 /// A point, of which the first coordinates are used.
-type Place = [u8; 4];
+type Coordinates = [u8; 4];
 
 /// A live point: the number of its document, and where it is.
-type Live = (u32, Place);
+type Live = (u32, Coordinates);
 
 /// Lines that change no document.
 const OTHERS: [&str; 4] = ["flush", "merge", "commit", "reopen"];
@@ -21,8 +21,8 @@ const OTHERS: [&str; 4] = ["flush", "merge", "commit", "reopen"];
 /// The least and the greatest corner of a box, both in it.
 #[derive(Clone, Copy)]
 struct Corners {
-    lo: Place,
-    hi: Place,
+    lo: Coordinates,
+    hi: Coordinates,
 }
 
 /// A script, lines about the folder that it leaves, and what a scan of the live points answers to them.
@@ -40,7 +40,7 @@ struct Story {
 
 impl Story {
     /// A point with coordinates from 0 to 15.
-    fn place(&mut self) -> Place {
+    fn place(&mut self) -> Coordinates {
         let mut place = [0; 4];
         for coordinate in &mut place {
             *coordinate = self.draws.byte() % 16;

@@ -20,7 +20,7 @@ use Rattle.std.proofs.lemmas.Map.Views.{Contains-from_any, list_any-from_Contain
 use mir.Syntax.{w32}
 use Rattle.number_text.specs.Number.{coordinate, number_up_to}
 use Rattle.point_codec.specs.Order.{in_order}
-use Rattle.point_codec.specs.Points.{ordered}
+use Rattle.point_codec.specs.Points.{ordered_points}
 use Rattle.point_codec.proofs.Corners.{both_true}
 use Rattle.point_codec.proofs.Ordered.{points_exact, points_total}
 use Rattle.script_lang.specs.Reading.{box_of, corners_of, onto_values, pieces, values_of}
@@ -140,7 +140,7 @@ module _ (ps : List (List ℤ)) (q : List ℤ) where
   unmarked [] = refl
   unmarked (x ∷ xs) = ap (λ ys. x ∷ ys) (unmarked xs)
 
-  any_before : list_any (same_point q) (ordered ps) ≡ list_any (same_point q) ps
+  any_before : list_any (same_point q) (ordered_points ps) ≡ list_any (same_point q) ps
   any_before =
       let m = finite.from_entries {R = slice_cmp int_cmp} marked in
       sym (sym (ap (list_any (same_point q)) (unmarked ps))
@@ -156,9 +156,10 @@ module _ (ps : List (List ℤ)) (q : List ℤ) where
   one_point : (x y : List ℤ) → same_point x y ≡ true → x ≡ y
   one_point x y e = points_exact x y (equal (slice_cmp int_cmp x y) e)
 
-  was_there : Contains (ordered ps) q → Contains ps q
-  was_there there = Contains-from_any one_point q ps (sym any_before ∙ list_any-from_Contains (eq_by_cmp_equiv points_total) q (ordered ps) there)
+  was_there : Contains (ordered_points ps) q → Contains ps q
+  was_there there = Contains-from_any one_point q ps (sym any_before ∙ list_any-from_Contains (eq_by_cmp_equiv points_total) q (ordered_points ps) there)
 
-pub all_ordered : (P : List ℤ → Type 0) (ps : List (List ℤ)) → All P ps → All P (ordered ps)
+pub all_ordered : (P : List ℤ → Type 0) (ps : List (List ℤ)) → All P ps → All P (ordered_points ps)
 all_ordered P ps all =
-    All-weaker (λ q. Contains (ordered ps) q) P (λ q there. All-contains P ps q all (was_there ps q there)) (ordered ps) (All-contains_itself (ordered ps))
+    All-weaker (λ q. Contains (ordered_points ps) q) P (λ q there. All-contains P ps q all (was_there ps q there)) (ordered_points ps)
+        (All-contains_itself (ordered_points ps))

@@ -9,7 +9,7 @@ use mir.Syntax.{w32}
 use Rattle.point_codec.specs.Points.{Region, all_le, in_box}
 use Rattle.point_codec.specs.Cells.{by_dimension}
 use Rattle.point_codec.proofs.Corners.{both_true, all_le-refl, all_le-trans, all_le_greatest, all_le_of_greatest}
-use Rattle.range_docs.specs.Ranges.{Decides, IsQuery, is_boxed, range_of, is_range, Has, Answers, HasAnswers, box_for, least, greatest}
+use Rattle.range_docs.specs.Ranges.{Decides, IsQuery, is_boxed, range_of, is_range, Has, AnswersOn, HasAnswers, box_for, least, greatest}
 use Rattle.range_docs.specs.declared.ranges.Question.{Question}
 use Rattle.range_docs.specs.declared.ranges.Question.TheVariants.{Intersects, Within, Contains}
 use Rattle.range_docs.proofs.Ends.{all_above, all_below, between, in_box-between}
@@ -38,7 +38,7 @@ module _ (r : ℕ) (query : Region) (a b : List ℤ) (lo : length query.lo ≡ r
   unfolding high
   below = rw (hi, ← upper) (all_below b b_fits)
 
-  in_both : all_le query.lo b ≡ true → all_le a query.hi ≡ true → Answers Intersects (record { lo = a; hi = b }) query
+  in_both : all_le query.lo b ≡ true → all_le a query.hi ≡ true → AnswersOn Intersects (record { lo = a; hi = b }) query
   in_both from to =
       let p : List ℤ = by_dimension int_max a query.lo in
       let same : length a ≡ length query.lo = omega arith in
@@ -48,7 +48,7 @@ module _ (r : ℕ) (query : Region) (a b : List ℤ) (lo : length query.lo ≡ r
         has query p over.1 (all_le_of_greatest query.hi a query.lo to asked),
       )
 
-  intersects : (in_box (record { lo = low ++ query.lo; hi = query.hi ++ high }) (a ++ b) ≡ true) ↔ Answers Intersects (record { lo = a; hi = b }) query
+  intersects : (in_box (record { lo = low ++ query.lo; hi = query.hi ++ high }) (a ++ b) ≡ true) ↔ AnswersOn Intersects (record { lo = a; hi = b }) query
   intersects = (
     (λ h. let n = between low query.lo query.hi high a b low_long (omega arith) h in in_both n.upper_from n.lower_to),
     (λ w.
@@ -62,7 +62,7 @@ module _ (r : ℕ) (query : Region) (a b : List ℤ) (lo : length query.lo ≡ r
         })),
   )
 
-  within : (in_box (record { lo = query.lo ++ query.lo; hi = query.hi ++ query.hi }) (a ++ b) ≡ true) ↔ Answers Within (record { lo = a; hi = b }) query
+  within : (in_box (record { lo = query.lo ++ query.lo; hi = query.hi ++ query.hi }) (a ++ b) ≡ true) ↔ AnswersOn Within (record { lo = a; hi = b }) query
   within = (
     (λ h p k.
         let n = between query.lo query.lo query.hi query.hi a b (omega arith) (omega arith) h in
@@ -77,7 +77,7 @@ module _ (r : ℕ) (query : Region) (a b : List ℤ) (lo : length query.lo ≡ r
         (record { lower_from = first.0; upper_from = last.0; lower_to = first.1; upper_to = last.1 })),
   )
 
-  contains : (in_box (record { lo = low ++ query.hi; hi = query.lo ++ high }) (a ++ b) ≡ true) ↔ Answers Contains (record { lo = a; hi = b }) query
+  contains : (in_box (record { lo = low ++ query.hi; hi = query.lo ++ high }) (a ++ b) ≡ true) ↔ AnswersOn Contains (record { lo = a; hi = b }) query
   contains = (
     (λ h p k.
         let n = between low query.hi query.lo high a b low_long (omega arith) h in
@@ -101,8 +101,8 @@ box_answers question r query lo hi asked ends e =
     let upper : length (drop r ends) ≡ r = omega (arith, length-drop r ends, e.long) in
     let a_fits = All-take (λ x. FitsSigned w32 x) r ends e.fits in
     let b_fits = All-drop (λ x. FitsSigned w32 x) r ends e.fits in
-    subst (λ c. (in_box (box_for question query) c ≡ true) ↔ Answers question (range_of r ends) query) (take-append-drop r ends)
-    (elim question as (λ q. (in_box (box_for q query) (take r ends ++ drop r ends) ≡ true) ↔ Answers q (range_of r ends) query) [
+    subst (λ c. (in_box (box_for question query) c ≡ true) ↔ AnswersOn question (range_of r ends) query) (take-append-drop r ends)
+    (elim question as (λ q. (in_box (box_for q query) (take r ends ++ drop r ends) ≡ true) ↔ AnswersOn q (range_of r ends) query) [
       | Intersects ↦ intersects r query (take r ends) (drop r ends) lo hi lower upper a_fits b_fits e.ordered asked
       | Within ↦ within r query (take r ends) (drop r ends) lo hi lower upper a_fits b_fits e.ordered asked
       | Contains ↦ contains r query (take r ends) (drop r ends) lo hi lower upper a_fits b_fits e.ordered asked
@@ -111,7 +111,7 @@ box_answers question r query lo hi asked ends e =
 -- to look into the box decides
 pub boxes_decide : Decides is_boxed
 boxes_decide question r ends query e asked =
-    subst (λ c. (in_box (box_for question query) c ≡ true) ↔ Answers question (range_of r ends) query) (sym (take-append-drop r ends))
+    subst (λ c. (in_box (box_for question query) c ≡ true) ↔ AnswersOn question (range_of r ends) query) (sym (take-append-drop r ends))
     (box_answers question r query asked.lo asked.hi asked.ordered ends e)
 
 pub found : (question : Question) (r : ℕ) (query bounds : Region) → bounds ≡ box_for question query → length query.lo ≡ r

@@ -1,16 +1,12 @@
 -- Ends that stand one after the other, dimension by dimension.
-use Rattle.std.proofs.Common.{◌≡◌, Bool, true, false, ◌&&◌, List, [], ◌∷◌, ◌++◌, length, replicate, ℤ, int_le, refl, ◌∙◌, arith, sym}
+use Rattle.std.proofs.Common.{◌≡◌, true, ◌&&◌, List, [], ◌∷◌, ◌++◌, length, replicate, ℤ, int_le, refl, ◌∙◌, arith, sym}
 use Rattle.std.specs.Prelude.{All, FitsSigned}
 use Rattle.std.proofs.lemmas.List.Elements.{All-head, All-tail}
 use Rattle.std.proofs.lemmas.Int.{ints}
 use mir.Syntax.{w32}
 use Rattle.point_codec.specs.Points.{all_le, in_box}
-use Rattle.point_codec.proofs.Corners.{both_true}
+use Rattle.point_codec.proofs.Corners.{both_true, both_assoc}
 use Rattle.range_docs.specs.Ranges.{least, greatest}
-
-both_assoc : (a b c : Bool) → (a && (b && c)) ≡ ((a && b) && c)
-both_assoc true b c = refl
-both_assoc false b c = refl
 
 pub all_le-append : (a b c d : List ℤ) → length a ≡ length c → all_le (a ++ b) (c ++ d) ≡ (all_le a c && all_le b d)
 all_le-append [] b [] d h = refl

@@ -10,11 +10,11 @@ use Rattle.std.proofs.Math.Nat.{div-mul-le_self, mod-eq-sub-div-mul}
 use Rattle.std.proofs.lemmas.Bool.Decides.{nat_tests}
 use Rattle.std.proofs.lemmas.List.Sums.{AllPass-from_list_all}
 use Rattle.number_text.specs.Number.{coordinate, number}
-use Rattle.point_codec.specs.Points.{Region, ordered}
+use Rattle.point_codec.specs.Points.{Region, ordered_points}
 use Rattle.script_lang.specs.Requests.{Request, Viewed}
 use Rattle.script_lang.specs.Requests as asks
 use Rattle.script_lang.specs.Reading.{Reading, Says, Fails, greatest_leaf, is_from_to, on_success, value_of}
-use Rattle.script_lang.specs.Reading.{values_of, onto_values, name_of, word_alone, created}
+use Rattle.script_lang.specs.Reading.{values_of, onto_values, name_of, word_alone, create_reading}
 use Rattle.script_lang.specs.Reading.{read_add, read_merge, query_of, box_of, pieces, points_of, text_of, read}
 use Rattle.script_lang.specs.Lines.{words_of}
 use Rattle.script_lang.specs.Seen.{IsWithinLimits, first_request_of}
@@ -104,7 +104,7 @@ alone_fine (w ∷ ws) request fine = wrong
 abbrev created_if : Bool → Bool → ℕ → ℕ → Reading
 created_if d l dims leaf = cond (not d) (Fails line.Dims) (cond (not l) (Fails line.LeafSize) (Says (asks.Create dims leaf)))
 
-created_fine : (dims leaf : ℕ) → IsFine (created dims leaf)
+created_fine : (dims leaf : ℕ) → IsFine (create_reading dims leaf)
 created_fine dims leaf =
     elim (is_from_to 1 8 dims) as (λ t. is_from_to 1 8 dims ≡ t → IsFine (created_if t (is_from_to 2 (greatest_leaf dims) leaf) dims leaf)) [
       | true ↦ λ d. elim (is_from_to 2 (greatest_leaf dims) leaf) as (λ t. is_from_to 2 (greatest_leaf dims) leaf ≡ t → IsFine (created_if true t dims leaf)) [
@@ -205,12 +205,12 @@ ranges_sound r points are =
 
 added_sound : (r count dims : ℕ) (read : Result (List ℤ) LineFault) → dims ≡ 2 * r
     → ((xs : List ℤ) → read ≡ Ok xs → (length xs ≡ count * dims) × All (λ x. FitsSigned w32 x) xs)
-    → IsSound r (if_ranges r (on_success (points_of count dims read) (λ points. Says (asks.Add (ordered points)))))
+    → IsSound r (if_ranges r (on_success (points_of count dims read) (λ points. Says (asks.Add (ordered_points points)))))
 added_sound r count dims (Err f) two are = refused r (fault.Line f)
 added_sound r count dims (Ok xs) two are =
     let all = are xs refl in
     let points = all_ordered (IsPoint dims) (pieces count dims xs) (pieces_are count dims xs all.0 all.1) in
-    ranges_sound r (ordered (pieces count dims xs)) (subst (λ (n : ℕ). All (IsPoint n) (ordered (pieces count dims xs))) two points)
+    ranges_sound r (ordered_points (pieces count dims xs)) (subst (λ (n : ℕ). All (IsPoint n) (ordered_points (pieces count dims xs))) two points)
 
 add_sound : (r dims : ℕ) (words : List (List ℕ)) → dims ≡ 2 * r → IsSound r (if_ranges r (read_add dims words))
 unfolding read_add
@@ -219,7 +219,8 @@ add_sound r dims words two =
   where
     by : (whole few : Bool) → (length words % dims == 0) ≡ whole
         → IsSound r (if_ranges r
-        (cond (whole && few) (on_success (points_of (length words / dims) dims (values_of coordinate 2 words)) (λ points. Says (asks.Add (ordered points))))
+        (cond (whole && few)
+            (on_success (points_of (length words / dims) dims (values_of coordinate 2 words)) (λ points. Says (asks.Add (ordered_points points))))
         (Fails line.Words)))
     by true true e = added_sound r (length words / dims) dims (values_of coordinate 2 words) two (λ xs is.
         let values = are_values 2 words xs is in

@@ -21,10 +21,10 @@ is_range range = all_le range.lo range.hi
 
 -- a stored range is an answer on the range of a query: some point is in both, each point of the stored one is in the
 -- query's, or each point of the query's is in the stored one
-abbrev pub Answers : Question → (stored query : Region) → Type 0
-Answers Intersects stored query = (p : List ℤ) × Has stored p × Has query p
-Answers Within stored query = (p : List ℤ) → Has stored p → Has query p
-Answers Contains stored query = (p : List ℤ) → Has query p → Has stored p
+abbrev pub AnswersOn : Question → (stored query : Region) → Type 0
+AnswersOn Intersects stored query = (p : List ℤ) × Has stored p × Has query p
+AnswersOn Within stored query = (p : List ℤ) → Has stored p → Has query p
+AnswersOn Contains stored query = (p : List ℤ) → Has query p → Has stored p
 
 -- the ends of a range of r dimensions, whole numbers of 32 bits
 pub record AreEnds (r : ℕ) (ends : List ℤ) : Type 0 where
@@ -42,13 +42,13 @@ pub record IsQuery (r : ℕ) (query : Region) : Type 0 where
 abbrev pub Decides : (Question → (stored query : Region) → Bool) → Type 0
 Decides test =
     (question : Question) (r : ℕ) (ends : List ℤ) (query : Region) → AreEnds r ends → IsQuery r query
-    → (test question (range_of r ends) query ≡ true) ↔ Answers question (range_of r ends) query
+    → (test question (range_of r ends) query ≡ true) ↔ AnswersOn question (range_of r ends) query
 
 -- where the query is a range, the box has, of the points that are ranges of r dimensions, just the answers on it
 abbrev pub HasAnswers : Question → ℕ → (query bounds : Region) → Type 0
 HasAnswers question r query bounds =
     is_range query ≡ true → (ends : List ℤ) → AreEnds r ends
-    → (in_box bounds ends ≡ true) ↔ Answers question (range_of r ends) query
+    → (in_box bounds ends ≡ true) ↔ AnswersOn question (range_of r ends) query
 
 -- the least and the greatest whole number of 32 bits
 abbrev pub least : ℤ

@@ -10,7 +10,8 @@ use Rattle.point_codec.specs.Points.{Region}
 use Rattle.script_lang.specs.Lines.{words_of}
 use Rattle.script_lang.specs.Requests.{Viewed, Request}
 use Rattle.script_lang.specs.Requests as asks
-use Rattle.script_lang.specs.Reading.{Reading, Says, Fails, on_success, value_of, created, greatest_leaf, query_of}
+use Rattle.script_lang.specs.Reading.{Reading, Says, Fails, on_success, value_of, create_reading, greatest_leaf}
+use Rattle.script_lang.specs.Reading.{query_of}
 use Rattle.script_lang.specs.Reading.{box_of}
 use Rattle.script_lang.specs.Reading.{name_of, word_alone, read_add, read_merge, text_of, read}
 use Rattle.script_lang.specs.declared.faults.LineFault.{LineFault}
@@ -45,11 +46,11 @@ from_part (Err f) next = Err (fault.Line f)
 -- `create R` or `create R leaf SIZE`, for ranges of R dimensions
 unfoldable pub read_create_ranges : List (List ℕ) → Reading
 read_create_ranges [] = Fails line.Words
-read_create_ranges (w ∷ []) = on_success (value_of number 2 w) (λ r. created (2 * r) (greatest_leaf (2 * r)))
+read_create_ranges (w ∷ []) = on_success (value_of number 2 w) (λ r. create_reading (2 * r) (greatest_leaf (2 * r)))
 read_create_ranges (w ∷ word ∷ []) = Fails line.Words
 read_create_ranges (w ∷ word ∷ s ∷ []) =
     if bytes_eq word (codes "leaf")
-    then on_success (value_of number 2 w) (λ r. on_success (value_of number 4 s) (λ leaf. created (2 * r) leaf))
+    then on_success (value_of number 2 w) (λ r. on_success (value_of number 4 s) (λ leaf. create_reading (2 * r) leaf))
     else Fails line.Words
 read_create_ranges (w ∷ word ∷ s ∷ v ∷ ws) = Fails line.Words
 

@@ -1,9 +1,9 @@
 //! The lines that change what is there.
 
 ghost use Rattle.std.specs.Prelude.{◌≡◌, ◌+◌, ◌*◌, ◌/◌, ◌%◌, ◌≤◌};
-ghost use Rattle.script_lang.specs.Parts.{left, first_reading_of};
-ghost use Rattle.script_lang.specs.Reading.{created, greatest_leaf, read_add};
-ghost use Rattle.script_lang.specs.Seen.{request_of, Agrees};
+ghost use Rattle.script_lang.specs.Parts.{words_left, first_reading_of};
+ghost use Rattle.script_lang.specs.Reading.{create_reading, greatest_leaf, read_add};
+ghost use Rattle.script_lang.specs.Seen.{request_of, IsReadAs};
 ghost use Rattle.range_docs.specs.Reading.{read_create_ranges, read_delete_number, if_ranges};
 ghost use Rattle.range_docs.specs.Seen.{AgreesOnRanges};
 
@@ -20,7 +20,7 @@ use std::alloc::Global;
 #[tactic(auto, unfolding(crate::specs::Reading::read_create_ranges))]
 pub(crate) fn create(mut words: Words<'_>) -> Result<First, LineFault>
     requires { words.place ≡ 2 }
-    ensures { first_reading_of result ≡ read_create_ranges (left words.entry) }
+    ensures { first_reading_of result ≡ read_create_ranges (words_left words.entry) }
 {
     let Some(dims) = words.next() else {
         return Err(LineFault::Words);
@@ -48,7 +48,7 @@ fn greatest_leaf(r: u32) -> u32
 }
 
 fn created(r: u32, leaf: u32) -> Result<First, LineFault>
-    ensures { first_reading_of result ≡ created (2 * r) leaf }
+    ensures { first_reading_of result ≡ create_reading (2 * r) leaf }
 {
     if !(1..=4).contains(&r) {
         return Err(LineFault::Dims);
@@ -69,7 +69,7 @@ pub(crate) fn add<const D: usize>(alloc: Global, words: Words<'_>) -> Result<Com
     requires few { D ≤ 8 }
     requires even { D % 2 ≡ 0 }
     requires second { words.place ≡ 2 }
-    ensures { AgreesOnRanges request_of result (if_ranges (D / 2) (read_add D (left words.entry))) }
+    ensures { AgreesOnRanges request_of result (if_ranges (D / 2) (read_add D (words_left words.entry))) }
 {
     let count = words.count();
     if count % D != 0 || count / D < 1 || count / D > 16 {
@@ -86,7 +86,7 @@ pub(crate) fn add<const D: usize>(alloc: Global, words: Words<'_>) -> Result<Com
 #[tactic(auto, unfolding(crate::specs::Reading::read_delete_number))]
 pub(crate) fn delete<const D: usize>(mut words: Words<'_>) -> Result<Command<D>, LineFault>
     requires { words.place ≡ 2 }
-    ensures { Agrees request_of result (read_delete_number (left words.entry)) }
+    ensures { IsReadAs request_of result (read_delete_number (words_left words.entry)) }
 {
     let Some(word) = words.next() else {
         return Err(LineFault::Words);

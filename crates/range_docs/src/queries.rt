@@ -1,7 +1,7 @@
 //! The lines that ask which ranges are there.
 
 ghost use Rattle.std.specs.Prelude.{◌≡◌, ◌*◌, ◌/◌, ◌%◌, ◌≤◌, take, drop, MatchResult, Ok, Err};
-ghost use Rattle.script_lang.specs.Parts.{left};
+ghost use Rattle.script_lang.specs.Parts.{words_left};
 ghost use Rattle.script_lang.specs.Seen.{request_of};
 ghost use Rattle.script_lang.specs.Reading.{box_of};
 ghost use Rattle.range_docs.specs.Reading.{read_question};
@@ -25,7 +25,7 @@ pub(crate) fn find<const D: usize>(
     requires few { D ≤ 8 }
     requires even { D % 2 ≡ 0 }
     requires second { words.place ≡ 2 }
-    ensures { AgreesOnRanges request_of result (read_question question (D / 2) (left words.entry)) }
+    ensures { AgreesOnRanges request_of result (read_question question (D / 2) (words_left words.entry)) }
 {
     let view = view_at(&mut words)?;
     let ends = ends_at(words)?;
@@ -41,7 +41,7 @@ fn ends_at<const D: usize>(mut words: Words<'_>) -> Result<Point<D>, LineFault>
     requires some { 1 ≤ D }
     requires few { D ≤ 8 }
     requires even { D % 2 ≡ 0 }
-    ensures { let read = box_of (D / 2) words.entry.place (left words.entry) in
+    ensures { let read = box_of (D / 2) words.entry.place (words_left words.entry) in
         MatchResult result (λ p. read ≡ Ok (take (D / 2) p.c, drop (D / 2) p.c)) (λ f. read ≡ Err f) }
 {
     if words.count() != D {

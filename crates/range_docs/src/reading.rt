@@ -1,9 +1,9 @@
 //! What a line of ranges says, or its first fault.
 
 ghost use Rattle.std.specs.Prelude.{◌≡◌, ◌≤◌, ◌≢◌, ◌/◌, ◌%◌, Some, None, Err, IfOk};
-ghost use Rattle.script_lang.specs.Parts.{left};
+ghost use Rattle.script_lang.specs.Parts.{words_left};
 ghost use Rattle.script_lang.specs.Reading.{read};
-ghost use Rattle.script_lang.specs.Seen.{request_of, first_request_of, Agrees, IsWithinLimits};
+ghost use Rattle.script_lang.specs.Seen.{request_of, first_request_of, IsReadAs, IsWithinLimits};
 ghost use Rattle.range_docs.specs.Reading.{range_read, read_range_command, read_without_ranges, if_blank};
 ghost use Rattle.range_docs.specs.Seen.{AgreesOnRanges, AddsRanges};
 
@@ -81,7 +81,7 @@ fn read_command<const D: usize>(
     requires few { D ≤ 8 }
     requires even { D % 2 ≡ 0 }
     requires second { words.place ≡ 2 }
-    ensures { AgreesOnRanges request_of result (read_range_command D verb.now (left words.entry)) }
+    ensures { AgreesOnRanges request_of result (read_range_command D verb.now (words_left words.entry)) }
 {
     if verb == "add" {
         return add(alloc, words);
@@ -106,7 +106,7 @@ fn without_ranges<const D: usize>(
     words: Words<'_>,
 ) -> Result<Command<D>, LineFault>
     requires { words.place ≡ 2 }
-    ensures { Agrees request_of result (read_without_ranges verb.now (left words.entry)) }
+    ensures { IsReadAs request_of result (read_without_ranges verb.now (words_left words.entry)) }
 {
     if verb == "create" {
         return Ok(create(words)?.into());

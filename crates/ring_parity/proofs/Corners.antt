@@ -4,7 +4,7 @@ use Rattle.std.specs.Prelude.{◌<ℤ◌, ◌≤ℤ◌, int_lt}
 use Rattle.std.specs.List.{list_all}
 use Rattle.std.proofs.lemmas.Int.{ints, by_lt_z}
 use Rattle.point_codec.specs.Points.{Region}
-use Rattle.ring_parity.specs.Edges.{Ends, x_of, y_of, side, is_left, is_right, corners}
+use Rattle.ring_parity.specs.Edges.{EdgeEnds, x_of, y_of, side, is_left, is_right, corners}
 
 positive_difference : (a b : ℤ) → int_lt (pos 0) (a -ℤ b) ≡ int_lt b a
 positive_difference a b =
@@ -34,20 +34,20 @@ four_across true false false d = refl
 four_across false b c d = refl
 
 -- the products of which the sides of the corners are the differences
-pub record AreProducts (e : Ends) (cell : Region) (south north west east : ℤ) : Type 0 where
+pub record AreProducts (e : EdgeEnds) (cell : Region) (south north west east : ℤ) : Type 0 where
   pub south_is : south ≡ (x_of e.1 -ℤ x_of e.0) *ℤ (y_of cell.lo -ℤ y_of e.0)
   pub north_is : north ≡ (x_of e.1 -ℤ x_of e.0) *ℤ (y_of cell.hi -ℤ y_of e.0)
   pub west_is : west ≡ (y_of e.1 -ℤ y_of e.0) *ℤ (x_of cell.lo -ℤ x_of e.0)
   pub east_is : east ≡ (y_of e.1 -ℤ y_of e.0) *ℤ (x_of cell.hi -ℤ x_of e.0)
 
-pub corners_left : (e : Ends) (cell : Region) (south north west east : ℤ) → AreProducts e cell south north west east
+pub corners_left : (e : EdgeEnds) (cell : Region) (south north west east : ℤ) → AreProducts e cell south north west east
     → (int_lt west south && int_lt west north && int_lt east south && int_lt east north) ≡ list_all (is_left e) (corners cell)
 unfolding side
 corners_left e cell south north west east h =
     four (int_lt west south) (int_lt west north) (int_lt east south) (int_lt east north)
     ∙ (rw (h.south_is, h.north_is, h.west_is, h.east_is) (simp positive_difference))
 
-pub corners_right : (e : Ends) (cell : Region) (south north west east : ℤ) → AreProducts e cell south north west east
+pub corners_right : (e : EdgeEnds) (cell : Region) (south north west east : ℤ) → AreProducts e cell south north west east
     → (int_lt south west && int_lt south east && int_lt north west && int_lt north east) ≡ list_all (is_right e) (corners cell)
 unfolding side
 corners_right e cell south north west east h =

@@ -10,7 +10,7 @@ use Rattle.std.proofs.lemmas.List.Elements.{All-nil, All-cons, All-weaker}
 use Rattle.std.proofs.lemmas.List.Folds.{list_any_none}
 use Rattle.std.proofs.lemmas.Int.{ints}
 use Rattle.point_codec.specs.Points.{Region, all_le, in_box}
-use Rattle.ring_parity.specs.Edges.{Ends, x_of, y_of, side, is_left, is_right, is_above, are_beyond, is_disjoint, on, counts, corners, misses}
+use Rattle.ring_parity.specs.Edges.{EdgeEnds, x_of, y_of, side, is_left, is_right, is_above, are_beyond, is_disjoint, on, counts, corners, misses}
 use Rattle.ring_parity.specs.Rings.{AreClosed, is_on_any, is_odd, is_within, any_meets, all_edges, in_polygon, rings_cross, IsClosed, IsLinearRing, ArePolygon}
 use Rattle.ring_parity.proofs.Signs.{turn, turn-turned, CornersLeft, left_of_line}
 use Rattle.ring_parity.proofs.Crossing.{xor, counts_at, InCell, Tells, tells_west, tells_east, tells_south, tells_north, tells_left, tells_right}
@@ -19,7 +19,7 @@ use Rattle.ring_parity.proofs.Parity.{oddly_xor, oddly_same, AreClosed-marks, Ar
 abbrev pub InRegion : Region → List ℤ → Type 0
 InRegion cell p = InCell (x_of cell.lo) (y_of cell.lo) (x_of cell.hi) (y_of cell.hi) (x_of p) (y_of p)
 
-abbrev TellsAt : Ends → Region → Bool → Type 0
+abbrev TellsAt : EdgeEnds → Region → Bool → Type 0
 TellsAt e cell bit = Tells (x_of e.0) (y_of e.0) (x_of e.1) (y_of e.1) (x_of cell.lo) (y_of cell.lo) (x_of cell.hi) (y_of cell.hi) bit
 
 x_least : (p q : List ℤ) → all_le p q ≡ true → x_of p ≤ℤ x_of q
@@ -40,7 +40,7 @@ in_region cell p h =
     record { west = x_least cell.lo p parts.0; east = x_least p cell.hi parts.1; south = y_least cell.lo p parts.0; north = y_least p cell.hi parts.1 }
 
 -- how an edge misses a cell
-pub data Misses (e : Ends) (cell : Region) : Type 0 where
+pub data Misses (e : EdgeEnds) (cell : Region) : Type 0 where
   is_west : x_of e.0 <ℤ x_of cell.lo → x_of e.1 <ℤ x_of cell.lo → Misses e cell
   is_east : x_of cell.hi <ℤ x_of e.0 → x_of cell.hi <ℤ x_of e.1 → Misses e cell
   is_south : y_of e.0 <ℤ y_of cell.lo → y_of e.1 <ℤ y_of cell.lo → Misses e cell
@@ -59,18 +59,18 @@ beyond a b lo hi h =
     inr (omega (arith, ints), omega (arith, ints)))
     (or_cases (int_lt a lo && int_lt b lo) (int_lt hi a && int_lt hi b) h)
 
-side_is : (e : Ends) (p : List ℤ) → side e p ≡ turn (x_of e.0) (y_of e.0) (x_of e.1) (y_of e.1) (x_of p) (y_of p)
+side_is : (e : EdgeEnds) (p : List ℤ) → side e p ≡ turn (x_of e.0) (y_of e.0) (x_of e.1) (y_of e.1) (x_of p) (y_of p)
 unfolding side turn
 side_is e p = refl
 
-pub counts_is : (e : Ends) (p : List ℤ) → counts e p ≡ counts_at (x_of e.0) (y_of e.0) (x_of e.1) (y_of e.1) (x_of p) (y_of p)
+pub counts_is : (e : EdgeEnds) (p : List ℤ) → counts e p ≡ counts_at (x_of e.0) (y_of e.0) (x_of e.1) (y_of e.1) (x_of p) (y_of p)
 unfolding counts side turn
 counts_is e p = refl
 
-left_at : (e : Ends) (p : List ℤ) → is_left e p ≡ true → pos 0 <ℤ turn (x_of e.0) (y_of e.0) (x_of e.1) (y_of e.1) (x_of p) (y_of p)
+left_at : (e : EdgeEnds) (p : List ℤ) → is_left e p ≡ true → pos 0 <ℤ turn (x_of e.0) (y_of e.0) (x_of e.1) (y_of e.1) (x_of p) (y_of p)
 left_at e p h = omega (arith, ints, side_is e p)
 
-right_at : (e : Ends) (p : List ℤ) → is_right e p ≡ true → pos 0 <ℤ turn (x_of e.1) (y_of e.1) (x_of e.0) (y_of e.0) (x_of p) (y_of p)
+right_at : (e : EdgeEnds) (p : List ℤ) → is_right e p ≡ true → pos 0 <ℤ turn (x_of e.1) (y_of e.1) (x_of e.0) (y_of e.0) (x_of p) (y_of p)
 right_at e p h = omega (arith, ints, side_is e p, turn-turned (x_of e.0) (y_of e.0) (x_of e.1) (y_of e.1) (x_of p) (y_of p))
 
 four_parts : (a b c d : Bool) → (a && (b && (c && (d && true)))) ≡ true → (a ≡ true) × (b ≡ true) × (c ≡ true) × (d ≡ true)
@@ -80,19 +80,19 @@ four_parts true true false d h = cc
 four_parts true false c d h = cc
 four_parts false b c d h = cc
 
-all_left : (e : Ends) (cell : Region) → list_all (is_left e) (corners cell) ≡ true
+all_left : (e : EdgeEnds) (cell : Region) → list_all (is_left e) (corners cell) ≡ true
     → CornersLeft (x_of e.0) (y_of e.0) (x_of e.1) (y_of e.1) (x_of cell.lo) (y_of cell.lo) (x_of cell.hi) (y_of cell.hi)
 all_left e cell h =
     let parts = four_parts _ _ _ _ h in
     record { low_low = left_at e _ parts.0; low_high = left_at e _ parts.1; high_low = left_at e _ parts.2; high_high = left_at e _ parts.3 }
 
-all_right : (e : Ends) (cell : Region) → list_all (is_right e) (corners cell) ≡ true
+all_right : (e : EdgeEnds) (cell : Region) → list_all (is_right e) (corners cell) ≡ true
     → CornersLeft (x_of e.1) (y_of e.1) (x_of e.0) (y_of e.0) (x_of cell.lo) (y_of cell.lo) (x_of cell.hi) (y_of cell.hi)
 all_right e cell h =
     let parts = four_parts _ _ _ _ h in
     record { low_low = right_at e _ parts.0; low_high = right_at e _ parts.1; high_low = right_at e _ parts.2; high_high = right_at e _ parts.3 }
 
-pub misses_by : (e : Ends) (cell : Region) → misses e cell ≡ true → Misses e cell
+pub misses_by : (e : EdgeEnds) (cell : Region) → misses e cell ≡ true → Misses e cell
 unfolding misses
 misses_by e cell h =
     ⊎_elim
@@ -110,7 +110,7 @@ misses_by e cell h =
     (λ (right : list_all (is_right e) (corners cell) ≡ true). is_right_of (all_right e cell right))
     (or_cases (is_disjoint e cell || list_all (is_left e) (corners cell)) (list_all (is_right e) (corners cell)) h)
 
-told : (e : Ends) (cell : Region) → Misses e cell → (bit : Bool) × TellsAt e cell bit
+told : (e : EdgeEnds) (cell : Region) → Misses e cell → (bit : Bool) × TellsAt e cell bit
 told e cell (is_west a b) = (false, tells_west _ _ _ _ _ _ _ _ a b)
 told e cell (is_east a b) = (true, tells_east _ _ _ _ _ _ _ _ a b)
 told e cell (is_south a b) = (false, tells_south _ _ _ _ _ _ _ _ a b)
@@ -139,7 +139,7 @@ exchanged : (a b c d s : Bool) → xor (xor a b && s) (xor c d && s) ≡ xor (xo
 exchanged a b c d s = grind arith
 
 -- an edge that misses the cell changes its count between two points of it where one of its ends is marked
-pub change : (e : Ends) (cell : Region) (p q : List ℤ) → misses e cell ≡ true → InRegion cell p → InRegion cell q
+pub change : (e : EdgeEnds) (cell : Region) (p q : List ℤ) → misses e cell ≡ true → InRegion cell p → InRegion cell q
     → xor (counts e p) (counts e q) ≡ xor (mark p q e.0) (mark p q e.1)
 change e cell p q h i j =
     let both : (bit : Bool) × TellsAt e cell bit = told e cell (misses_by e cell h) in
@@ -158,7 +158,7 @@ from_xor false true h = cc
 from_xor false false h = refl
 
 -- so the parity of closed edges that miss a cell is the same on the whole cell
-pub same_parity : (edges : List Ends) (cell : Region) (p q : List ℤ) → AreClosed edges → All (λ e. misses e cell ≡ true) edges
+pub same_parity : (edges : List EdgeEnds) (cell : Region) (p q : List ℤ) → AreClosed edges → All (λ e. misses e cell ≡ true) edges
     → in_box cell p ≡ true → in_box cell q ≡ true → is_odd edges p ≡ is_odd edges q
 same_parity edges cell p q closed miss i j =
     from_xor (is_odd edges p) (is_odd edges q)
@@ -167,12 +167,12 @@ same_parity edges cell p q closed miss i j =
     (λ k d l. change (get_or edges k d) cell p q (miss k d l) (in_region cell p i) (in_region cell q j))
     ∙ AreClosed-marks edges closed (mark p q))
 
-pub past : (e : Ends) (p : List ℤ) → is_disjoint e (record { lo = p; hi = p }) ≡ true → on e p ≡ false
+pub past : (e : EdgeEnds) (p : List ℤ) → is_disjoint e (record { lo = p; hi = p }) ≡ true → on e p ≡ false
 unfolding on
 past e p h =
     and_right (int_eq (side e p) (pos 0)) (not (is_disjoint e (record { lo = p; hi = p }))) (not_from_true (is_disjoint e (record { lo = p; hi = p })) h)
 
-beside : (e : Ends) (p : List ℤ) → (side e p ≡ pos 0 → ⊥) → on e p ≡ false
+beside : (e : EdgeEnds) (p : List ℤ) → (side e p ≡ pos 0 → ⊥) → on e p ≡ false
 unfolding on
 beside e p h =
     and_left (int_eq (side e p) (pos 0)) (not (is_disjoint e (record { lo = p; hi = p })))
@@ -187,7 +187,7 @@ both_above a b z p q =
     or_right (int_lt a z && int_lt b z) (int_lt z a && int_lt z b) (and_from (int_lt z a) (int_lt z b) (sym (omega (arith, ints))) (sym (omega (arith, ints))))
 
 -- no point of a cell is on an edge that misses it
-pub not_on : (e : Ends) (cell : Region) (p : List ℤ) → Misses e cell → InRegion cell p → on e p ≡ false
+pub not_on : (e : EdgeEnds) (cell : Region) (p : List ℤ) → Misses e cell → InRegion cell p → on e p ≡ false
 not_on e cell p (is_west a b) i = past e p (or_left _ _ (both_below (x_of e.0) (x_of e.1) (x_of p) (omega (arith, ints)) (omega (arith, ints))))
 not_on e cell p (is_east a b) i = past e p (or_left _ _ (both_above (x_of e.0) (x_of e.1) (x_of p) (omega (arith, ints)) (omega (arith, ints))))
 not_on e cell p (is_south a b) i = past e p (or_right _ _ (both_below (y_of e.0) (y_of e.1) (y_of p) (omega (arith, ints)) (omega (arith, ints))))
@@ -203,14 +203,14 @@ not_on e cell p (is_right_of c) i =
       left_of_line _ _ _ _ _ _ _ _ (x_of p) (y_of p) c i.west i.east i.south i.north,
     ))
 
-pub none_meets : (edges : List Ends) (cell : Region) → any_meets edges cell ≡ false → All (λ e. misses e cell ≡ true) edges
+pub none_meets : (edges : List EdgeEnds) (cell : Region) → any_meets edges cell ≡ false → All (λ e. misses e cell ≡ true) edges
 none_meets [] cell h = All-nil (λ e. misses e cell ≡ true)
 none_meets (e ∷ edges) cell h =
     let parts : (not (misses e cell) ≡ false) × (any_meets edges cell ≡ false) = or_parts (not (misses e cell)) (any_meets edges cell) h in
     All-cons (λ d. misses d cell ≡ true) e edges (not-false (misses e cell) parts.0) (none_meets edges cell parts.1)
 
 -- THE LAW OF THE EVEN-ODD RULE: a cell that no edge of closed edges meets lies whole within them or whole out of them
-pub one_answer : (edges : List Ends) (cell : Region) → AreClosed edges → any_meets edges cell ≡ false
+pub one_answer : (edges : List EdgeEnds) (cell : Region) → AreClosed edges → any_meets edges cell ≡ false
     → (p q : List ℤ) → in_box cell p ≡ true → in_box cell q ≡ true → is_within edges p ≡ is_within edges q
 one_answer edges cell closed none p q i j =
     let miss : All (λ e. misses e cell ≡ true) edges = none_meets edges cell none in

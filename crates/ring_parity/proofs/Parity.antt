@@ -5,7 +5,7 @@ use Rattle.std.specs.Bool.{beq}
 use Rattle.std.proofs.lemmas.Bool.Decides.{nat_tests}
 use Rattle.std.proofs.lemmas.List.Sums.{sum_by-cons}
 use Rattle.std.proofs.lemmas.List.Elements.{All-head, All-tail}
-use Rattle.ring_parity.specs.Edges.{Ends}
+use Rattle.ring_parity.specs.Edges.{EdgeEnds}
 use Rattle.ring_parity.specs.Rings.{edges_of, all_edges, IsClosed, AreClosed}
 use Rattle.ring_parity.proofs.Crossing.{xor}
 
@@ -65,7 +65,7 @@ differ_is true false = refl
 differ_is false true = refl
 differ_is false false = refl
 
-xor_self : (a : Bool) → xor a a ≡ false
+pub xor_self : (a : Bool) → xor a a ≡ false
 xor_self true = refl
 xor_self false = refl
 
@@ -79,14 +79,14 @@ xor_middle false false c = refl
 
 -- along a chain of edges the marks between its ends are met twice
 chain : (marked : List ℤ → Bool) (a : List ℤ) (rest : List (List ℤ))
-    → oddly (λ (e : Ends). xor (marked e.0) (marked e.1)) (zip (a ∷ rest) rest) ≡ xor (marked a) (marked (get_or (a ∷ rest) (length rest) []))
+    → oddly (λ (e : EdgeEnds). xor (marked e.0) (marked e.1)) (zip (a ∷ rest) rest) ≡ xor (marked a) (marked (get_or (a ∷ rest) (length rest) []))
 chain marked a [] = sym (xor_self (marked a))
 chain marked a (b ∷ rest) =
-    oddly-cons (λ (e : Ends). xor (marked e.0) (marked e.1)) (a, b) (zip (b ∷ rest) rest)
+    oddly-cons (λ (e : EdgeEnds). xor (marked e.0) (marked e.1)) (a, b) (zip (b ∷ rest) rest)
     ∙ ap (λ t. xor (xor (marked a) (marked b)) t) (chain marked b rest)
     ∙ xor_middle (marked a) (marked b) (marked (get_or (b ∷ rest) (length rest) []))
 
-closes : (marked : List ℤ → Bool) (ring : List (List ℤ)) → IsClosed ring → oddly (λ (e : Ends). xor (marked e.0) (marked e.1)) (edges_of ring) ≡ false
+closes : (marked : List ℤ → Bool) (ring : List (List ℤ)) → IsClosed ring → oddly (λ (e : EdgeEnds). xor (marked e.0) (marked e.1)) (edges_of ring) ≡ false
 closes marked [] h = refl
 closes marked (a ∷ rest) h =
     let e : suc (length rest) - 1 ≡ length rest = omega arith in
@@ -99,12 +99,14 @@ even n h = grind (arith, nat_tests)
 uneven : (n : ℕ) → n % 2 ≡ 0 → eqb (n % 2) 1 ≡ false
 uneven n h = grind (arith, nat_tests)
 
-pub AreClosed-from : (edges : List Ends) → ((marked : List ℤ → Bool) → oddly (λ (e : Ends). xor (marked e.0) (marked e.1)) edges ≡ false) → AreClosed edges
+pub AreClosed-from : (edges : List EdgeEnds) → ((marked : List ℤ → Bool) → oddly (λ (e : EdgeEnds). xor (marked e.0) (marked e.1)) edges ≡ false)
+    → AreClosed edges
 unfolding AreClosed
 AreClosed-from edges h = λ marked.
     even _ (oddly_same (λ e. not (beq (marked e.0) (marked e.1))) (λ e. xor (marked e.0) (marked e.1)) edges (λ k d l. differ_is _ _) ∙ h marked)
 
-pub AreClosed-marks : (edges : List Ends) → AreClosed edges → (marked : List ℤ → Bool) → oddly (λ (e : Ends). xor (marked e.0) (marked e.1)) edges ≡ false
+pub AreClosed-marks : (edges : List EdgeEnds) → AreClosed edges → (marked : List ℤ → Bool)
+    → oddly (λ (e : EdgeEnds). xor (marked e.0) (marked e.1)) edges ≡ false
 unfolding AreClosed
 AreClosed-marks edges h marked =
     oddly_same (λ e. xor (marked e.0) (marked e.1)) (λ e. not (beq (marked e.0) (marked e.1))) edges (λ k d l. sym (differ_is _ _)) ∙ uneven _ (h marked)
@@ -113,8 +115,8 @@ pub AreClosed-all_edges : (rings : List (List (List ℤ))) → All IsClosed ring
 AreClosed-all_edges rings h = AreClosed-from (all_edges rings) (λ marked. all_close marked rings h)
   where
     all_close : (marked : List ℤ → Bool) (rings : List (List (List ℤ))) → All IsClosed rings
-        → oddly (λ (e : Ends). xor (marked e.0) (marked e.1)) (all_edges rings) ≡ false
+        → oddly (λ (e : EdgeEnds). xor (marked e.0) (marked e.1)) (all_edges rings) ≡ false
     all_close marked [] h = refl
     all_close marked (ring ∷ rings) h =
-        oddly-append (λ (e : Ends). xor (marked e.0) (marked e.1)) (edges_of ring) (all_edges rings)
+        oddly-append (λ (e : EdgeEnds). xor (marked e.0) (marked e.1)) (edges_of ring) (all_edges rings)
         ∙ (rw (closes marked ring (All-head IsClosed ring rings h)) (all_close marked rings (All-tail IsClosed ring rings h)))

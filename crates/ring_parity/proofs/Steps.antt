@@ -16,7 +16,7 @@ use Rattle.ring_parity.proofs.Parity.{oddly-cons, oddly-append}
 use lib.Pointwise.{pointwise}
 use Rattle.point_codec.specs.Seen.{coordinates_of}
 use Rattle.point_codec.specs.declared.coordinates.Point.{Point}
-use Rattle.ring_parity.specs.Edges.{Ends, counts}
+use Rattle.ring_parity.specs.Edges.{EdgeEnds, counts}
 use Rattle.std.proofs.lemmas.List.Elements.{All-more}
 use Rattle.std.proofs.lemmas.List.Sums.{sum_by_more}
 use Rattle.ring_parity.specs.Rings.{edges_of, all_edges, is_odd, IsClosed, IsLinearRing}
@@ -51,7 +51,7 @@ pairs_more : (a : List ℤ) (rest : List (List ℤ)) (j : ℕ) (d : List ℤ) �
     → zip (a ∷ take (suc j) rest) (take (suc j) rest) ≡ zip (a ∷ take j rest) (take j rest) ++ (get_or (a ∷ rest) j d, get_or rest j d) ∷ []
 pairs_more a [] j d h = absurd (omega arith)
 pairs_more a (b ∷ rest) zero d h = refl
-pairs_more a (b ∷ rest) (suc j) d h = ap (λ (es : List Ends). (a, b) ∷ es) (pairs_more b rest j d (omega arith))
+pairs_more a (b ∷ rest) (suc j) d h = ap (λ (es : List EdgeEnds). (a, b) ∷ es) (pairs_more b rest j d (omega arith))
 
 ring_more : (ring : List (List ℤ)) (j : ℕ) (d : List ℤ) → suc j < length ring
     → edges_of (take (suc (suc j)) ring) ≡ edges_of (take (suc j) ring) ++ (get_or ring j d, get_or ring (suc j) d) ∷ []
@@ -80,10 +80,10 @@ pub rings_more : (rings : List (List (List ℤ))) (i : ℕ) (ring : List (List �
     → all_edges (take (i + 1) rings) ≡ all_edges (take i rings) ++ edges_of ring
 rings_more rings i ring there is =
     ap all_edges (take_more rings i ring there) ∙ flat_map-append edges_of (take i rings) (get_or rings i ring ∷ [])
-    ∙ ap (λ (es : List Ends). all_edges (take i rings) ++ es) (append-nil (edges_of (get_or rings i ring)) ∙ ap edges_of (sym is))
+    ∙ ap (λ (es : List EdgeEnds). all_edges (take i rings) ++ es) (append-nil (edges_of (get_or rings i ring)) ∙ ap edges_of (sym is))
 
 -- no edge passes a test so far, and the next one does not either
-pub none_more : (test : Ends → Bool) (at : List (Point 2)) (i : ℕ) (a b : Point 2) → 1 ≤ i → i < length at → a ≡ get_or at (i - 1) a → b ≡ get_or at i b
+pub none_more : (test : EdgeEnds → Bool) (at : List (Point 2)) (i : ℕ) (a b : Point 2) → 1 ≤ i → i < length at → a ≡ get_or at (i - 1) a → b ≡ get_or at i b
     → list_any test (edges_of (coordinates_of (take i at))) ≡ false → test (a.c, b.c) ≡ false
     → list_any test (edges_of (coordinates_of (take (i + 1) at))) ≡ false
 none_more test at i a b s h p q none e =
@@ -91,7 +91,7 @@ none_more test at i a b s h p q none e =
     ∙ or_from (list_any test (edges_of (coordinates_of (take i at)))) (test (a.c, b.c) || false) none (or_from (test (a.c, b.c)) false e refl)
 
 -- an edge that passes the test settles the answer
-pub some_at : (test : Ends → Bool) (at : List (Point 2)) (i : ℕ) (a b : Point 2) → 1 ≤ i → i < length at → a ≡ get_or at (i - 1) a → b ≡ get_or at i b
+pub some_at : (test : EdgeEnds → Bool) (at : List (Point 2)) (i : ℕ) (a b : Point 2) → 1 ≤ i → i < length at → a ≡ get_or at (i - 1) a → b ≡ get_or at i b
     → test (a.c, b.c) ≡ true → list_any test (edges_of (coordinates_of at)) ≡ true
 some_at test at i a b s h p q e =
     let ring : List (List ℤ) = coordinates_of at in
@@ -104,13 +104,13 @@ some_at test at i a b s h p q e =
     ∙ ap (λ (v : List ℤ). (v, get_or (drop 1 ring) (i - 1) [])) start ∙ ap (λ (v : List ℤ). (a.c, v)) (next ∙ end) in
     list_any_at test (edges_of ring) (i - 1) ([], []) (omega (arith, long, length-drop 1 ring, length-zip ring (drop 1 ring))) (ap test edge ∙ e)
 
-pub none_more_rings : (test : Ends → Bool) (rings : List (List (List ℤ))) (i : ℕ) (ring : List (List ℤ)) → i < length rings → ring ≡ get_or rings i ring
+pub none_more_rings : (test : EdgeEnds → Bool) (rings : List (List (List ℤ))) (i : ℕ) (ring : List (List ℤ)) → i < length rings → ring ≡ get_or rings i ring
     → list_any test (all_edges (take i rings)) ≡ false → list_any test (edges_of ring) ≡ false → list_any test (all_edges (take (i + 1) rings)) ≡ false
 none_more_rings test rings i ring there is none e =
     ap (list_any test) (rings_more rings i ring there is) ∙ list_any-append test (all_edges (take i rings)) (edges_of ring)
     ∙ or_from (list_any test (all_edges (take i rings))) (list_any test (edges_of ring)) none e
 
-pub some_in : (test : Ends → Bool) (rings : List (List (List ℤ))) (i : ℕ) (ring : List (List ℤ)) → i < length rings → ring ≡ get_or rings i ring
+pub some_in : (test : EdgeEnds → Bool) (rings : List (List (List ℤ))) (i : ℕ) (ring : List (List ℤ)) → i < length rings → ring ≡ get_or rings i ring
     → list_any test (edges_of ring) ≡ true → list_any test (all_edges rings) ≡ true
 some_in test rings i ring there is e =
     let parts : all_edges rings ≡ all_edges (take (i + 1) rings) ++ all_edges (drop (i + 1) rings) =
@@ -121,7 +121,7 @@ some_in test rings i ring there is e =
     ∙ or_right (list_any test (all_edges (take i rings))) (list_any test (edges_of ring)) e)
 
 -- the parity with one more edge, and with one more ring
-differ : (a b : Bool) → not (beq a b) ≡ xor a b
+pub differ : (a b : Bool) → not (beq a b) ≡ xor a b
 differ true true = refl
 differ true false = refl
 differ false true = refl
@@ -135,7 +135,7 @@ pub odd_more : (p : List ℤ) (at : List (Point 2)) (i : ℕ) (a b : Point 2) �
     → (o t : Bool) → o ≡ is_odd (edges_of (coordinates_of (take i at))) p → t ≡ counts (a.c, b.c) p
     → not (beq o t) ≡ is_odd (edges_of (coordinates_of (take (i + 1) at))) p
 odd_more p at i a b s h f g o t oo tt' =
-    let edges : List Ends = edges_of (coordinates_of (take i at)) in
+    let edges : List EdgeEnds = edges_of (coordinates_of (take i at)) in
     differ o t
     ∙ ap (λ x. xor x t) oo ∙ ap (λ x. xor (is_odd edges p) x) (tt' ∙ sym (oddly-cons (λ e. counts e p) (a.c, b.c) [] ∙ xor_false (counts (a.c, b.c) p)))
     ∙ sym (oddly-append (λ e. counts e p) edges ((a.c, b.c) ∷ [])) ∙ ap (λ es. is_odd es p) (sym (edges_more at i a b s h f g))

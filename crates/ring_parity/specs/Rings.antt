@@ -5,24 +5,24 @@ use Rattle.std.specs.Prelude.{sum_by, count_by, flat_map, zip, All}
 use Rattle.std.specs.List.{list_any}
 use Rattle.std.specs.Bool.{beq}
 use Rattle.point_codec.specs.Points.{Region}
-use Rattle.ring_parity.specs.Edges.{Ends, on, counts, misses}
+use Rattle.ring_parity.specs.Edges.{EdgeEnds, on, counts, misses}
 
 -- from each position to the next
-abbrev pub edges_of : List (List ℤ) → List Ends
+abbrev pub edges_of : List (List ℤ) → List EdgeEnds
 edges_of ring = zip ring (drop 1 ring)
 
-abbrev pub all_edges : List (List (List ℤ)) → List Ends
+abbrev pub all_edges : List (List (List ℤ)) → List EdgeEnds
 all_edges rings = flat_map edges_of rings
 
-abbrev pub is_on_any : List Ends → List ℤ → Bool
+abbrev pub is_on_any : List EdgeEnds → List ℤ → Bool
 is_on_any edges p = list_any (λ e. on e p) edges
 
 -- an odd number of the edges counts for p
-abbrev pub is_odd : List Ends → List ℤ → Bool
+abbrev pub is_odd : List EdgeEnds → List ℤ → Bool
 is_odd edges p = count_by (λ e. counts e p) edges % 2 == 1
 
 -- p is in the area that the edges bound, by the even-odd rule, the boundary within
-abbrev pub is_within : List Ends → List ℤ → Bool
+abbrev pub is_within : List EdgeEnds → List ℤ → Bool
 is_within edges p = is_on_any edges p || is_odd edges p
 
 -- p is on some edge of the rings, or an odd number of their edges counts
@@ -30,7 +30,7 @@ abbrev pub in_polygon : List (List (List ℤ)) → List ℤ → Bool
 in_polygon rings p = is_within (all_edges rings) p
 
 -- some edge does not miss the cell
-abbrev pub any_meets : List Ends → Region → Bool
+abbrev pub any_meets : List EdgeEnds → Region → Bool
 any_meets edges cell = list_any (λ e. not (misses e cell)) edges
 
 abbrev pub rings_cross : List (List (List ℤ)) → Region → Bool
@@ -51,5 +51,5 @@ pub record ArePolygon (rings : List (List (List ℤ))) : Type 0 where
 
 -- The edges close up: whichever points are marked, the number of edges with one marked end is even. Those of closed
 -- rings do, as each ring leaves the marked points as often as it comes to them.
-unfoldable pub AreClosed : List Ends → Type 0
+unfoldable pub AreClosed : List EdgeEnds → Type 0
 AreClosed edges = (marked : List ℤ → Bool) → count_by (λ e. not (beq (marked e.0) (marked e.1))) edges % 2 ≡ 0

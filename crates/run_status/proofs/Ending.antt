@@ -19,7 +19,7 @@ use Rattle.run_status.specs.declared.stop.Stop.TheVariants as stop
 abbrev pub counted : Bool → ℕ → Status
 counted b count = if b then status.Done else status.SomeRefused count
 
-does_some : (b : Bool) (count : ℕ) → DoesNothing (counted b count) → ⊥
+pub does_some : (b : Bool) (count : ℕ) → DoesNothing (counted b count) → ⊥
 does_some true count d = d
 does_some false count d = d
 
@@ -31,11 +31,11 @@ does_lines (Err stop.Memory) d = d
 does_lines (Err stop.SinkFault) d = d
 does_lines (Err (stop.Damaged damage)) d = d
 
-no_folder : (b : Bool) (count : ℕ) {P : Type 0} → counted b count ≡ status.FolderFault → P
+pub no_folder : (b : Bool) (count : ℕ) {P : Type 0} → counted b count ≡ status.FolderFault → P
 no_folder true count e = cc
 no_folder false count e = cc
 
-no_sink : (b : Bool) (count : ℕ) {P : Type 0} → counted b count ≡ status.SinkFault → P
+pub no_sink : (b : Bool) (count : ℕ) {P : Type 0} → counted b count ≡ status.SinkFault → P
 no_sink true count e = cc
 no_sink false count e = cc
 
@@ -75,7 +75,7 @@ page_none f x = record { later = omega arith; fine = refl; failed = λ e. absurd
 pub page_memory : {T : Type 0} (f : ℕ) → HasPageCause {T = T} f f (Err page.Memory)
 page_memory f = record { later = omega arith; fine = tt; failed = λ e. absurd cc }
 
-by_fault : {S T : Type 0} (f0 f1 k : ℕ) (fault : PageFault) → HasPageCause {T = S} f0 f1 (Err fault) → HasStopCause {T = T} f0 f1 k k (Err (stop_of fault))
+pub by_fault : {S T : Type 0} (f0 f1 k : ℕ) (fault : PageFault) → HasPageCause {T = S} f0 f1 (Err fault) → HasStopCause {T = T} f0 f1 k k (Err (stop_of fault))
 by_fault f0 f1 k page.Failed h = record { folder_later = h.later; sink_later = omega arith; folder = λ e. h.failed refl; sink = λ e. absurd cc }
 by_fault f0 f1 k page.Memory h = record { folder_later = h.later; sink_later = omega arith; folder = λ e. absurd cc; sink = λ e. absurd cc }
 by_fault f0 f1 k (page.Damaged damage) h = record { folder_later = h.later; sink_later = omega arith; folder = λ e. absurd cc; sink = λ e. absurd cc }
@@ -127,7 +127,7 @@ none_shows P (Err stop.FolderFault) h = tt
 none_shows P (Err stop.Memory) h = tt
 none_shows P (Err (stop.Damaged d)) h = absurd h
 
-stop_shows : (T : Type 0) (P : Damage → Type 0) (fault : PageFault) → FaultShows P fault → OnStopDamage {T = T} (Err (stop_of fault)) P
+pub stop_shows : (T : Type 0) (P : Damage → Type 0) (fault : PageFault) → FaultShows P fault → OnStopDamage {T = T} (Err (stop_of fault)) P
 stop_shows T P page.Failed h = tt
 stop_shows T P page.Memory h = tt
 stop_shows T P (page.Damaged d) h = h
@@ -144,7 +144,7 @@ same_stop S T P stop.FolderFault h = tt
 same_stop S T P stop.Memory h = tt
 same_stop S T P (stop.Damaged d) h = h
 
-counted_shows : (P : Damage → Type 0) (b : Bool) (count : ℕ) → OnStatusDamage (counted b count) P
+pub counted_shows : (P : Damage → Type 0) (b : Bool) (count : ℕ) → OnStatusDamage (counted b count) P
 counted_shows P true count = tt
 counted_shows P false count = tt
 

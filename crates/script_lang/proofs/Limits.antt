@@ -8,9 +8,9 @@ use Rattle.polygon_query.specs.declared.geo_json.GeoFault.{GeoFault}
 use Rattle.script_lang.specs.Requests.{Request}
 use Rattle.script_lang.specs.Requests as asks
 use Rattle.script_lang.specs.Reading.{Reading, Says, Fails, greatest_leaf, is_from_to, on_success, value_of, values_of, onto_values, points_of}
-use Rattle.script_lang.specs.Reading.{corners_of, box_of, query_of, name_of, word_alone, created, read_create, read_add, read_delete, read_box}
+use Rattle.script_lang.specs.Reading.{corners_of, box_of, query_of, name_of, word_alone, create_reading, read_create, read_add, read_delete, read_box}
 use Rattle.script_lang.specs.Reading.{nearest_of, read_nearest, behind_view, polygon_fault, rings_of, read_polygon, read_merge, read_command, text_of}
-use Rattle.script_lang.specs.Seen.{IsWithinLimits, Agrees, request_of, first_request_of}
+use Rattle.script_lang.specs.Seen.{IsWithinLimits, IsReadAs, request_of, first_request_of}
 use Rattle.script_lang.specs.Parts.{first_reading_of}
 use Rattle.script_lang.specs.declared.commands.Command.{Command}
 use Rattle.script_lang.specs.declared.commands.First.{First}
@@ -107,7 +107,7 @@ alone_fine (w ∷ ws) request fine = wrong
 abbrev created_if : Bool → Bool → ℕ → ℕ → Reading
 created_if d l dims leaf = cond (not d) (Fails fault.Dims) (cond (not l) (Fails fault.LeafSize) (Says (asks.Create dims leaf)))
 
-created_fine : (dims leaf : ℕ) → IsFine (created dims leaf)
+created_fine : (dims leaf : ℕ) → IsFine (create_reading dims leaf)
 created_fine dims leaf =
     elim (is_from_to 1 8 dims) as (λ t. is_from_to 1 8 dims ≡ t → IsFine (created_if t (is_from_to 2 (greatest_leaf dims) leaf) dims leaf)) [
       | true ↦ λ d. elim (is_from_to 2 (greatest_leaf dims) leaf) as (λ t. is_from_to 2 (greatest_leaf dims) leaf ≡ t → IsFine (created_if true t dims leaf)) [
@@ -185,7 +185,7 @@ command_fine dims verb words rest =
 
 -- what a command that was read asks is within the limits
 pub command_within : {D : ℕ} (result : Result (Command D) LineFault) (dims : ℕ) (verb : List ℕ) (words : List (List ℕ)) (rest : List ℕ)
-    → Agrees request_of result (read_command dims verb words rest) → IfOk result (λ command. IsWithinLimits (request_of command))
+    → IsReadAs request_of result (read_command dims verb words rest) → IfOk result (λ command. IsWithinLimits (request_of command))
 command_within (Ok command) dims verb words rest e = (subst IsFine e (command_fine dims verb words rest)).within
 command_within (Err f) dims verb words rest e = tt
 

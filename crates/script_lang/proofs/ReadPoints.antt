@@ -7,13 +7,13 @@ use Rattle.number_text.specs.Number.{coordinate}
 use Rattle.point_codec.specs.Seen.{coordinates_of}
 use Rattle.point_codec.specs.declared.coordinates.Point.{Point}
 use Rattle.script_lang.specs.Reading.{pieces}
-use Rattle.script_lang.specs.Parts.{Writes, joined, ReadsPoints}
+use Rattle.script_lang.specs.Parts.{Writes, joined_coordinates, ReadsPoints}
 use Rattle.script_lang.specs.declared.words.Words.{Words}
 use Rattle.script_lang.proofs.Values.{writes_both}
 
-joined-append : {D : ℕ} (ps : List (Point D)) (p : Point D) → joined (ps ++ p ∷ []) ≡ joined ps ++ p.c
+joined-append : {D : ℕ} (ps : List (Point D)) (p : Point D) → joined_coordinates (ps ++ p ∷ []) ≡ joined_coordinates ps ++ p.c
 joined-append [] p = append-nil p.c
-joined-append (q ∷ ps) p = ap (λ cs. q.c ++ cs) (joined-append ps p) ∙ sym (append_assoc q.c (joined ps) p.c)
+joined-append (q ∷ ps) p = ap (λ cs. q.c ++ cs) (joined-append ps p) ∙ sym (append_assoc q.c (joined_coordinates ps) p.c)
 
 coordinates-append : {D : ℕ} (ps : List (Point D)) (p : Point D) → coordinates_of (ps ++ p ∷ []) ≡ coordinates_of ps ++ p.c ∷ []
 coordinates-append [] p = refl
@@ -34,6 +34,6 @@ pub reads_more : {D : ℕ} (ps qs : List (Point D)) (p : Point D) (a b d : Words
 reads_more {D} ps qs p a b d r w whole is = rw is (record {
   writes = rw (joined-append ps p) (writes_both r.writes w);
   cut = rw (joined-append ps p, coordinates-append ps p, length-append ps (p ∷ []), add-one, ← r.cut)
-      (pieces-more (length ps) D (joined ps) p.c r.long whole);
-  long = rw (joined-append ps p, length-append (joined ps) p.c, length-append ps (p ∷ []), add-one, suc-mul (length ps) D) (omega (arith, r.long));
+      (pieces-more (length ps) D (joined_coordinates ps) p.c r.long whole);
+  long = rw (joined-append ps p, length-append (joined_coordinates ps) p.c, length-append ps (p ∷ []), add-one, suc-mul (length ps) D) (omega (arith, r.long));
 })

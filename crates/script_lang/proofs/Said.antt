@@ -3,7 +3,7 @@ use Rattle.std.proofs.Common.{◌≡◌, ℕ, ◌+◌, ◌<◌, List, [], ◌∷
 use Rattle.std.specs.List.{flat_map}
 use Rattle.std.specs.Prelude.{codes, decimal, OnOk, Result}
 use Rattle.std.proofs.Math.Seq.{drop-append_seam}
-use Rattle.script_lang.specs.Replies.{ended, found_text, found_of, refusal_text, polygon_text}
+use Rattle.script_lang.specs.Replies.{text_line, found_text, found_of, refusal_text, polygon_text}
 use Rattle.polygon_query.specs.declared.geo_json.GeoFault.{GeoFault}
 use Rattle.polygon_query.specs.declared.geo_json.GeoFault.TheVariants as geo
 use Rattle.point_codec.specs.declared.entries.Near.{Near}
@@ -27,20 +27,20 @@ line_ends n start before after ends written stays =
     from_start ∙ rw (written, stays) (drop-append_seam (decimal n) (10 ∷ []))
 
 pub line_said : (n start : ℕ) (before after : List ℕ) → drop start after ≡ decimal n ++ drop 10 before
-    → drop 10 before ≡ 10 ∷ [] → drop start after ≡ ended (decimal n)
+    → drop 10 before ≡ 10 ∷ [] → drop start after ≡ text_line (decimal n)
 line_said n start before after written stays = rw (written, stays) refl
 
 -- the text of one number more
 pub number_said : (docs : List ℕ) (i n start size : ℕ) (old now new before after : List ℕ) → i < length docs → n ≡ get_or docs i 0 → length after ≡ size
-    → now ≡ old ++ flat_map (λ doc. ended (decimal doc)) (take i docs)
+    → now ≡ old ++ flat_map (λ doc. text_line (decimal doc)) (take i docs)
     → drop start after ≡ decimal n ++ drop 10 before → drop 10 before ≡ 10 ∷ []
     → new ≡ now ++ take (size - start) (drop start after)
-    → new ≡ old ++ flat_map (λ doc. ended (decimal doc)) (take (i + 1) docs)
+    → new ≡ old ++ flat_map (λ doc. text_line (decimal doc)) (take (i + 1) docs)
 number_said docs i n start size old now new before after inside is long so_far written stays more =
-    said_more (λ doc. ended (decimal doc)) docs i 0 old now new inside so_far
+    said_more (λ doc. text_line (decimal doc)) docs i 0 old now new inside so_far
     (more ∙ rw (← long, take_rest after start, line_said n start before after written stays, is) refl)
 
-joined : (a b : List ℕ) → a ++ (codes " " ++ (b ++ (codes "\n" ++ []))) ≡ ended (a ++ codes " " ++ b)
+joined : (a b : List ℕ) → a ++ (codes " " ++ (b ++ (codes "\n" ++ []))) ≡ text_line (a ++ codes " " ++ b)
 joined a b = simp append_assoc
 
 -- the text of one found document more, put together from its parts

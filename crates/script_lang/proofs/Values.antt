@@ -7,7 +7,7 @@ use Rattle.std.proofs.lemmas.List.{append-nil}
 use Rattle.std.proofs.lemmas.Bool.Decides.{nat_tests}
 use Rattle.number_text.specs.Number.{coordinate}
 use Rattle.script_lang.specs.Reading.{value_of, values_of, onto_values, box_of}
-use Rattle.script_lang.specs.Parts.{left, before, Takes, Writes}
+use Rattle.script_lang.specs.Parts.{words_left, before, Takes, Writes}
 use Rattle.script_lang.specs.declared.faults.LineFault.{LineFault}
 use Rattle.script_lang.specs.declared.faults.LineFault.TheVariants as fault
 use Rattle.script_lang.specs.declared.words.Words.{Words}
@@ -26,7 +26,7 @@ before-one x (Err f) = refl
 
 -- nothing is read at first
 pub writes_none : {X : Type 0} (value : List ℕ → Option X) (w : Words) → Writes value [] w w
-writes_none value w = record { values = sym (before-nil (values_of value w.place (left w))); count = omega arith }
+writes_none value w = record { values = sym (before-nil (values_of value w.place (words_left w))); count = omega arith }
 
 -- what is read, and then what is read behind it
 pub writes_both : {X : Type 0} {value : List ℕ → Option X} {xs ys : List X} {a b c : Words}
@@ -46,12 +46,12 @@ writes_one value word x a b t is = record {
 
 -- a fault behind what is read is the fault of all
 pub fails_later : {X : Type 0} {value : List ℕ → Option X} {xs : List X} {a b : Words} (f : LineFault)
-    → Writes value xs a b → values_of value b.place (left b) ≡ Err f → values_of value a.place (left a) ≡ Err f
+    → Writes value xs a b → values_of value b.place (words_left b) ≡ Err f → values_of value a.place (words_left a) ≡ Err f
 fails_later {xs = xs} f w e = w.values ∙ ap (λ r. before xs r) e
 
 -- a word's fault is the fault of all from it on
 pub fails_here : {X : Type 0} (value : List ℕ → Option X) (word : List ℕ) (f : LineFault) (a b : Words)
-    → Takes word a b → Err f ≡ value_of value a.place word → values_of value a.place (left a) ≡ Err f
+    → Takes word a b → Err f ≡ value_of value a.place word → values_of value a.place (words_left a) ≡ Err f
 fails_here value word f a b t is = rw (t.words, ← is) refl
 
 -- one more coordinate, in its place
@@ -79,15 +79,15 @@ none_read value place [] none = refl
 none_read value place (w ∷ ws) none = absurd (omega arith)
 
 -- the values of all words that are left
-pub all_values : {X : Type 0} (value : List ℕ → Option X) (xs : List X) (a b : Words) → Writes value xs a b → length (left b) < 1
-    → values_of value a.place (left a) ≡ Ok xs
-all_values value xs a b w none = w.values ∙ ap (λ r. before xs r) (none_read value b.place (left b) none) ∙ ap Ok (append-nil xs)
+pub all_values : {X : Type 0} (value : List ℕ → Option X) (xs : List X) (a b : Words) → Writes value xs a b → length (words_left b) < 1
+    → values_of value a.place (words_left a) ≡ Ok xs
+all_values value xs a b w none = w.values ∙ ap (λ r. before xs r) (none_read value b.place (words_left b) none) ∙ ap Ok (append-nil xs)
 
-pub box_whole : (dims : ℕ) (lo hi : List ℤ) (a b d : Words) → length (left a) ≡ 2 * dims → length lo ≡ dims → length hi ≡ dims
-    → Writes coordinate lo a b → Writes coordinate hi b d → box_of dims a.place (left a) ≡ Ok (lo, hi)
+pub box_whole : (dims : ℕ) (lo hi : List ℤ) (a b d : Words) → length (words_left a) ≡ 2 * dims → length lo ≡ dims → length hi ≡ dims
+    → Writes coordinate lo a b → Writes coordinate hi b d → box_of dims a.place (words_left a) ≡ Ok (lo, hi)
 unfolding box_of
 box_whole dims lo hi a b d two long high w v =
-    let all : values_of coordinate a.place (left a) ≡ Ok (lo ++ hi) = all_values coordinate (lo ++ hi) a d (writes_both w v) (omega arith) in
+    let all : values_of coordinate a.place (words_left a) ≡ Ok (lo ++ hi) = all_values coordinate (lo ++ hi) a d (writes_both w v) (omega arith) in
     let front : take dims (lo ++ hi) ≡ lo = rw (← long) (take-append_seam lo hi) in
     let back : drop dims (lo ++ hi) ≡ hi = rw (← long) (drop-append_seam lo hi) in
     rw all (grind (arith, nat_tests, front, back))

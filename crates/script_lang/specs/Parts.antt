@@ -13,12 +13,12 @@ use Rattle.script_lang.specs.declared.faults.LineFault.TheVariants as fault
 use Rattle.script_lang.specs.declared.words.Words.{Words}
 
 -- the words that are not read yet
-abbrev pub left : Words → List (List ℕ)
-left some = words_of some.text.now
+abbrev pub words_left : Words → List (List ℕ)
+words_left some = words_of some.text.now
 
 -- a word is taken off: later is what is left of first behind it
 pub record Takes (word : List ℕ) (first later : Words) : Type 0 where
-  pub words : left first ≡ word ∷ left later
+  pub words : words_left first ≡ word ∷ words_left later
   pub place : later.place ≡ first.place + 1
   pub text : later.text.now ≡ after_word first.text.now
 
@@ -29,24 +29,25 @@ before xs (Err f) = Err f
 
 -- these values are written by the words that are left at first and no more later
 pub record Writes {X : Type 0} (value : List ℕ → Option X) (xs : List X) (first later : Words) : Type 0 where
-  pub values : values_of value first.place (left first) ≡ before xs (values_of value later.place (left later))
-  pub count : length (left first) ≡ length xs + length (left later)
+  pub values : values_of value first.place (words_left first) ≡ before xs
+      (values_of value later.place (words_left later))
+  pub count : length (words_left first) ≡ length xs + length (words_left later)
 
 -- a result is what is read, as it is seen, but for want of memory, which says nothing
-abbrev pub IsRead : {C X : Type 0} → (C → X) → Result C LineFault → Result X LineFault → Type 0
-IsRead seen (Ok c) read = read ≡ Ok (seen c)
-IsRead seen (Err fault.Memory) read = Unit {0}
-IsRead seen (Err f) read = read ≡ Err f
+abbrev pub ReadsAs : {C X : Type 0} → (C → X) → Result C LineFault → Result X LineFault → Type 0
+ReadsAs seen (Ok c) read = read ≡ Ok (seen c)
+ReadsAs seen (Err fault.Memory) read = Unit {0}
+ReadsAs seen (Err f) read = read ≡ Err f
 
 -- the coordinates of points, one after the other
-abbrev pub joined : {D : ℕ} → List (Point D) → List ℤ
-joined points = flat_map (λ p. p.c) points
+abbrev pub joined_coordinates : {D : ℕ} → List (Point D) → List ℤ
+joined_coordinates points = flat_map (λ p. p.c) points
 
 -- points that were read from words, of which later are left
 pub record ReadsPoints (D : ℕ) (points : List (Point D)) (first later : Words) : Type 0 where
-  pub writes : Writes coordinate (joined points) first later
-  pub cut : pieces (length points) D (joined points) ≡ coordinates_of points
-  pub long : length (joined points) ≡ length points * D
+  pub writes : Writes coordinate (joined_coordinates points) first later
+  pub cut : pieces (length points) D (joined_coordinates points) ≡ coordinates_of points
+  pub long : length (joined_coordinates points) ≡ length points * D
 
 -- what was read of a line where no index is there
 abbrev pub first_reading_of : Result First LineFault → Reading

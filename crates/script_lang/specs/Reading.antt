@@ -7,7 +7,7 @@ use Rattle.std.specs.Prelude.{ok_or, ℤ, codes}
 use Rattle.std.specs.Str.{is_utf8, bytes_eq}
 use Rattle.std.specs.Str.Lines.{strip_carriage_return}
 use Rattle.number_text.specs.Number.{number, coordinate}
-use Rattle.point_codec.specs.Points.{ordered}
+use Rattle.point_codec.specs.Points.{ordered_points}
 use Rattle.point_codec.specs.Names.{is_name}
 use Rattle.polygon_query.specs.GeoJson.{polygon_of}
 use Rattle.polygon_query.specs.declared.geo_json.GeoFault.{GeoFault}
@@ -94,8 +94,8 @@ abbrev pub word_alone : List (List ℕ) → Request → Reading
 word_alone [] request = Says request
 word_alone (w ∷ ws) request = Fails fault.Words
 
-abbrev pub created : ℕ → ℕ → Reading
-created dims leaf =
+abbrev pub create_reading : ℕ → ℕ → Reading
+create_reading dims leaf =
     if not (is_from_to 1 8 dims) then Fails fault.Dims
     else if not (is_from_to 2 (greatest_leaf dims) leaf) then Fails fault.LeafSize
     else Says (asks.Create dims leaf)
@@ -103,11 +103,11 @@ created dims leaf =
 -- `create DIMS` or `create DIMS leaf SIZE`
 unfoldable pub read_create : List (List ℕ) → Reading
 read_create [] = Fails fault.Words
-read_create (d ∷ []) = on_success (value_of number 2 d) (λ dims. created dims (greatest_leaf dims))
+read_create (d ∷ []) = on_success (value_of number 2 d) (λ dims. create_reading dims (greatest_leaf dims))
 read_create (d ∷ word ∷ []) = Fails fault.Words
 read_create (d ∷ word ∷ s ∷ []) =
     if bytes_eq word (codes "leaf")
-    then on_success (value_of number 2 d) (λ dims. on_success (value_of number 4 s) (λ leaf. created dims leaf))
+    then on_success (value_of number 2 d) (λ dims. on_success (value_of number 4 s) (λ leaf. create_reading dims leaf))
     else Fails fault.Words
 read_create (d ∷ word ∷ s ∷ w ∷ ws) = Fails fault.Words
 
@@ -116,7 +116,7 @@ unfoldable pub read_add : ℕ → List (List ℕ) → Reading
 read_add dims words =
     if length words % dims == 0 && is_from_to 1 16 (length words / dims)
     then on_success (points_of (length words / dims) dims (values_of coordinate 2 words))
-    (λ points. Says (asks.Add (ordered points)))
+    (λ points. Says (asks.Add (ordered_points points)))
     else Fails fault.Words
 
 -- `delete NUMBER` or `delete box LO HI`: the word `box` is never a number

@@ -9,36 +9,36 @@ use Rattle.script_lang.specs.declared.faults.LineFault.TheVariants as fault
 use Rattle.script_lang.specs.declared.faults.Refusal.{Refusal}
 use Rattle.script_lang.specs.declared.faults.Refusal.TheVariants as why
 
-abbrev pub ended : List ℕ → List ℕ
-ended text = text ++ codes "\n"
+abbrev pub text_line : List ℕ → List ℕ
+text_line text = text ++ codes "\n"
 
 unfoldable pub ok_text : List ℕ
-ok_text = ended (codes "ok")
+ok_text = text_line (codes "ok")
 
 unfoldable pub doc_text : ℕ → List ℕ
-doc_text doc = ended (codes "doc " ++ decimal doc)
+doc_text doc = text_line (codes "doc " ++ decimal doc)
 
 unfoldable pub deleted_text : ℕ → List ℕ
-deleted_text count = ended (codes "deleted " ++ decimal count)
+deleted_text count = text_line (codes "deleted " ++ decimal count)
 
 -- how many documents were found, and then each one's number
 unfoldable pub hits_text : List ℕ → List ℕ
-hits_text docs = ended (codes "hits " ++ decimal (length docs)) ++ flat_map (λ doc. ended (decimal doc)) docs
+hits_text docs = text_line (codes "hits " ++ decimal (length docs)) ++ flat_map (λ doc. text_line (decimal doc)) docs
 
 abbrev pub found_of : List Near → List (ℕ × ℕ)
 found_of near = map (λ n. (n.doc, n.dist2)) near
 
 abbrev pub found_text : ℕ × ℕ → List ℕ
-found_text found = ended (decimal found.0 ++ codes " " ++ decimal found.1)
+found_text found = text_line (decimal found.0 ++ codes " " ++ decimal found.1)
 
 -- how many documents were found, and then each one's number and its squared distance
 unfoldable pub near_text : List (ℕ × ℕ) → List ℕ
 near_text found =
-    ended (codes "near " ++ decimal (length found)) ++ flat_map found_text found
+    text_line (codes "near " ++ decimal (length found)) ++ flat_map found_text found
 
 -- the answer to a line that is refused: the line's number, counted from 1, and why
 abbrev pub refusal_text : ℕ → List ℕ → List ℕ
-refusal_text line cause = ended (codes "line " ++ decimal line ++ codes ": " ++ cause)
+refusal_text line cause = text_line (codes "line " ++ decimal line ++ codes ": " ++ cause)
 
 abbrev pub polygon_text : GeoFault → List ℕ
 polygon_text geo.NotJson = codes "polygon is not json"

@@ -12,9 +12,9 @@ use Rattle.script_lang.specs.declared.commands.Command.TheVariants as command
 use Rattle.script_lang.specs.declared.commands.First.{First}
 use Rattle.script_lang.specs.declared.commands.First.TheVariants as first
 
-abbrev pub viewed : View → Viewed
-viewed Now = None
-viewed (Named name) = Some name
+abbrev pub view_name : View → Viewed
+view_name Now = None
+view_name (Named name) = Some name
 
 -- what a command asks
 abbrev pub request_of : {D : ℕ} → Command D → Request
@@ -23,9 +23,9 @@ request_of (command.Create dims leaf) = asks.Create dims leaf
 request_of (command.Add points) = asks.Add points
 request_of (command.Delete doc) = asks.Delete doc
 request_of (command.DeleteBox lo hi) = asks.DeleteBox lo.c hi.c
-request_of (command.InBox view lo hi) = asks.InBox (viewed view) lo.c hi.c
-request_of (command.Polygon view rings) = asks.InPolygon (viewed view) rings
-request_of (command.Nearest view k target) = asks.Nearest (viewed view) k target.c
+request_of (command.InBox view lo hi) = asks.InBox (view_name view) lo.c hi.c
+request_of (command.Polygon view rings) = asks.InPolygon (view_name view) rings
+request_of (command.Nearest view k target) = asks.Nearest (view_name view) k target.c
 request_of command.Flush = asks.Flush
 request_of command.Merge = asks.Merge
 request_of (command.MergeBegin positions) = asks.MergeBegin positions
@@ -41,10 +41,10 @@ first_request_of first.Blank = asks.Blank
 first_request_of (first.Create dims leaf) = asks.Create dims leaf
 
 -- a command is what was read, and a fault is the one that was read, but for want of memory, which says nothing
-abbrev pub Agrees : {C : Type 0} → (C → Request) → Result C LineFault → Reading → Type 0
-Agrees request (Ok c) reading = reading ≡ Says (request c)
-Agrees request (Err fault.Memory) reading = Unit {0}
-Agrees request (Err f) reading = reading ≡ Fails f
+abbrev pub IsReadAs : {C : Type 0} → (C → Request) → Result C LineFault → Reading → Type 0
+IsReadAs request (Ok c) reading = reading ≡ Says (request c)
+IsReadAs request (Err fault.Memory) reading = Unit {0}
+IsReadAs request (Err f) reading = reading ≡ Fails f
 
 -- the limits of what a line may ask: an index of 1 to 8 dimensions and leaves of 2 points up to the greatest leaf,
 -- and the 1 to 10,000 nearest

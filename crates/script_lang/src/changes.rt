@@ -3,11 +3,11 @@
 ghost use Rattle.std.specs.Prelude.{◌≡◌, ◌≤◌, ◌<◌, ◌+◌, ◌*◌, ◌%◌, ◌/◌, length, List, ℤ, Ok, Err, MatchResult, IfOk};
 ghost use Rattle.number_text.specs.Number.{number, coordinate};
 ghost use Rattle.point_codec.specs.Seen.{coordinates_of};
-ghost use Rattle.script_lang.specs.Parts.{left, IsRead, first_reading_of};
-ghost use Rattle.script_lang.specs.Reading.{read_create, created, read_add, read_delete, read_merge, name_of};
+ghost use Rattle.script_lang.specs.Parts.{words_left, ReadsAs, first_reading_of};
+ghost use Rattle.script_lang.specs.Reading.{read_create, create_reading, read_add, read_delete, read_merge, name_of};
 ghost use Rattle.script_lang.specs.Reading.{word_alone};
 ghost use Rattle.script_lang.specs.Reading.{greatest_leaf, values_of, points_of};
-ghost use Rattle.script_lang.specs.Seen.{request_of, Agrees};
+ghost use Rattle.script_lang.specs.Seen.{request_of, IsReadAs};
 
 use crate::commands::{Command, First, Positions};
 use crate::faults::LineFault;
@@ -20,7 +20,7 @@ use std::alloc::Global;
 #[tactic(auto, unfolding(crate::specs::Reading::read_create))]
 pub(crate) fn create(mut words: Words<'_>) -> Result<First, LineFault>
     requires { words.place ≡ 2 }
-    ensures { first_reading_of result ≡ read_create (left words.entry) }
+    ensures { first_reading_of result ≡ read_create (words_left words.entry) }
 {
     let Some(dims) = words.next() else {
         return Err(LineFault::Words);
@@ -51,7 +51,7 @@ fn greatest_leaf(dims: u32) -> u32
 }
 
 fn created(dims: u32, leaf: u32) -> Result<First, LineFault>
-    ensures { first_reading_of result ≡ created dims leaf }
+    ensures { first_reading_of result ≡ create_reading dims leaf }
 {
     if !(1..=8).contains(&dims) {
         return Err(LineFault::Dims);
@@ -71,7 +71,7 @@ pub(crate) fn add<const D: usize>(alloc: Global, words: Words<'_>) -> Result<Com
     requires some { 1 ≤ D }
     requires few { D ≤ 8 }
     requires second { words.place ≡ 2 }
-    ensures { Agrees request_of result (read_add D (left words.entry)) }
+    ensures { IsReadAs request_of result (read_add D (words_left words.entry)) }
 {
     let count = words.count();
     if count % D != 0 || count / D < 1 || count / D > 16 {
@@ -89,9 +89,9 @@ pub fn points_at<const D: usize>(
 ) -> Result<Vec<Point<D>>, LineFault>
     requires some { 1 ≤ D }
     requires few { D ≤ 8 }
-    requires all { length (left words) ≡ count * D }
-    ensures points { IsRead (λ points. coordinates_of points.items) result
-        (points_of count D (values_of coordinate words.entry.place (left words.entry))) }
+    requires all { length (words_left words) ≡ count * D }
+    ensures points { ReadsAs (λ points. coordinates_of points.items) result
+        (points_of count D (values_of coordinate words.entry.place (words_left words.entry))) }
     ensures count { IfOk result (λ points. length points.items ≡ count) }
 {
     let mut points = Vec::with_capacity(alloc, count)?;
@@ -107,7 +107,7 @@ pub(crate) fn delete<const D: usize>(mut words: Words<'_>) -> Result<Command<D>,
     requires some { 1 ≤ D }
     requires few { D ≤ 8 }
     requires second { words.place ≡ 2 }
-    ensures { Agrees request_of result (read_delete D (left words.entry)) }
+    ensures { IsReadAs request_of result (read_delete D (words_left words.entry)) }
 {
     let Some(word) = words.next() else {
         return Err(LineFault::Words);
@@ -127,7 +127,7 @@ pub(crate) fn delete<const D: usize>(mut words: Words<'_>) -> Result<Command<D>,
 #[tactic(auto, unfolding(crate::specs::Reading::read_merge))]
 pub fn merge<const D: usize>(alloc: Global, mut words: Words<'_>) -> Result<Command<D>, LineFault>
     requires { words.place ≡ 2 }
-    ensures { Agrees request_of result (read_merge (left words.entry)) }
+    ensures { IsReadAs request_of result (read_merge (words_left words.entry)) }
 {
     let Some(word) = words.next() else {
         return Ok(Command::Merge);
@@ -144,7 +144,8 @@ pub fn merge<const D: usize>(alloc: Global, mut words: Words<'_>) -> Result<Comm
 
 /// The numbers that all words that are left write.
 fn positions_at(alloc: Global, mut words: Words<'_>) -> Result<Vec<u32>, LineFault>
-    ensures { IsRead (λ positions. positions.items) result (values_of number words.entry.place (left words.entry)) }
+    ensures { ReadsAs (λ positions. positions.items) result
+        (values_of number words.entry.place (words_left words.entry)) }
 {
     let mut positions = Vec::new(alloc);
     let mut place = words.place;
@@ -158,8 +159,8 @@ fn positions_at(alloc: Global, mut words: Words<'_>) -> Result<Vec<u32>, LineFau
 /// `NAME`, alone
 #[tactic(auto, unfolding(crate::specs::Reading::name_of))]
 pub fn name_at(mut words: Words<'_>) -> Result<Name, LineFault>
-    ensures { MatchResult result (λ name. name_of (left words.entry) ≡ Ok name)
-        (λ f. name_of (left words.entry) ≡ Err f) }
+    ensures { MatchResult result (λ name. name_of (words_left words.entry) ≡ Ok name)
+        (λ f. name_of (words_left words.entry) ≡ Err f) }
 {
     let Some(word) = words.next() else {
         return Err(LineFault::Words);
@@ -176,7 +177,7 @@ pub fn word_alone<const D: usize>(
     mut words: Words<'_>,
     command: Command<D>,
 ) -> Result<Command<D>, LineFault>
-    ensures { Agrees request_of result (word_alone (left words.entry) (request_of command.entry)) }
+    ensures { IsReadAs request_of result (word_alone (words_left words.entry) (request_of command.entry)) }
 {
     if words.next().is_some() {
         return Err(LineFault::Words);

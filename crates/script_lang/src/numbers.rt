@@ -3,7 +3,7 @@
 ghost use Rattle.std.specs.Prelude.{◌≡◌, ◌+◌, ◌*◌, ◌<◌, ◌≤◌, ◌^◌, ◌∷◌, ◌++◌, [], length, MatchOption, MatchResult, Ok};
 ghost use Rattle.std.specs.Prelude.{Err};
 ghost use Rattle.script_lang.specs.Reading.{value_of, values_of, box_of};
-ghost use Rattle.script_lang.specs.Parts.{left, Writes};
+ghost use Rattle.script_lang.specs.Parts.{words_left, Writes};
 ghost use Rattle.number_text.specs.Number.{number, coordinate};
 
 use crate::faults::LineFault;
@@ -21,9 +21,9 @@ pub fn number_at(word: &str, place: u32) -> Result<u32, LineFault>
 pub fn point_at<const D: usize>(words: &mut Words<'_>) -> Result<Point<D>, LineFault>
     requires some { 1 ≤ D }
     requires few { D ≤ 8 }
-    requires enough { D ≤ length (left words.old) }
+    requires enough { D ≤ length (words_left words.old) }
     ensures { MatchResult result (λ point. Writes coordinate point.c words.old words.new)
-        (λ f. values_of coordinate words.old.place (left words.old) ≡ Err f) }
+        (λ f. values_of coordinate words.old.place (words_left words.old) ≡ Err f) }
 {
     let mut c = [0; D];
     for i in 0..D {
@@ -47,8 +47,8 @@ fn coordinate_at(word: &str, place: u32) -> Result<i32, LineFault>
 pub fn box_at<const D: usize>(mut words: Words<'_>) -> Result<(Point<D>, Point<D>), LineFault>
     requires some { 1 ≤ D }
     requires few { D ≤ 8 }
-    ensures { MatchResult result (λ ends. box_of D words.entry.place (left words.entry) ≡ Ok (ends.0.c, ends.1.c))
-        (λ f. box_of D words.entry.place (left words.entry) ≡ Err f) }
+    ensures { MatchResult result (λ ends. box_of D words.entry.place (words_left words.entry) ≡ Ok (ends.0.c, ends.1.c))
+        (λ f. box_of D words.entry.place (words_left words.entry) ≡ Err f) }
 {
     if words.count() != 2 * D {
         return Err(LineFault::Words);

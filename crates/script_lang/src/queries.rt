@@ -1,9 +1,9 @@
 //! The lines that ask what is there.
 
 ghost use Rattle.std.specs.Prelude.{◌≡◌, ◌≤◌, length, MatchResult, IfOk, Ok, Err};
-ghost use Rattle.script_lang.specs.Parts.{left};
+ghost use Rattle.script_lang.specs.Parts.{words_left};
 ghost use Rattle.script_lang.specs.Reading.{query_of, behind_view, read_box, read_polygon, read_nearest};
-ghost use Rattle.script_lang.specs.Seen.{viewed, request_of, Agrees};
+ghost use Rattle.script_lang.specs.Seen.{view_name, request_of, IsReadAs};
 
 use crate::commands::Command;
 use crate::faults::LineFault;
@@ -18,10 +18,10 @@ use std::alloc::Global;
 pub fn view_at(words: &mut Words<'_>) -> Result<View, LineFault>
     requires { words.old.place ≡ 2 }
     ensures query { MatchResult result
-        (λ view. query_of (left words.old) ≡ Ok
-        (record { view = viewed view; place = words.new.place; words = left words.new }))
-        (λ f. query_of (left words.old) ≡ Err f) }
-    ensures behind { IfOk result (λ view. words.new.text.now ≡ behind_view (viewed view) words.old.text.now) }
+        (λ view. query_of (words_left words.old) ≡ Ok
+        (record { view = view_name view; place = words.new.place; words = words_left words.new }))
+        (λ f. query_of (words_left words.old) ≡ Err f) }
+    ensures behind { IfOk result (λ view. words.new.text.now ≡ behind_view (view_name view) words.old.text.now) }
 {
     let mut behind = *words;
     let Some(word) = behind.next() else {
@@ -41,7 +41,7 @@ pub(crate) fn in_box<const D: usize>(mut words: Words<'_>) -> Result<Command<D>,
     requires some { 1 ≤ D }
     requires few { D ≤ 8 }
     requires second { words.place ≡ 2 }
-    ensures { Agrees request_of result (read_box D (left words.entry)) }
+    ensures { IsReadAs request_of result (read_box D (words_left words.entry)) }
 {
     let view = view_at(&mut words)?;
     let (lo, hi) = box_at(words)?;
@@ -55,7 +55,7 @@ pub(crate) fn polygon<const D: usize>(
     mut words: Words<'_>,
 ) -> Result<Command<D>, LineFault>
     requires { words.place ≡ 2 }
-    ensures { Agrees request_of result (read_polygon D (left words.entry) words.entry.text.now) }
+    ensures { IsReadAs request_of result (read_polygon D (words_left words.entry) words.entry.text.now) }
 {
     let view = view_at(&mut words)?;
     if D != 2 {
@@ -75,7 +75,7 @@ pub(crate) fn nearest<const D: usize>(mut words: Words<'_>) -> Result<Command<D>
     requires some { 1 ≤ D }
     requires few { D ≤ 8 }
     requires second { words.place ≡ 2 }
-    ensures { Agrees request_of result (read_nearest D (left words.entry)) }
+    ensures { IsReadAs request_of result (read_nearest D (words_left words.entry)) }
 {
     let view = view_at(&mut words)?;
     let place = words.place;

@@ -1,9 +1,9 @@
 //! What a line says, or its first fault.
 
 ghost use Rattle.std.specs.Prelude.{◌≡◌, ◌≤◌, ◌≢◌, Some, None, Err, IfOk, ◌==◌, slice_index};
-ghost use Rattle.script_lang.specs.Parts.{left};
+ghost use Rattle.script_lang.specs.Parts.{words_left};
 ghost use Rattle.script_lang.specs.Reading.{read, read_command};
-ghost use Rattle.script_lang.specs.Seen.{request_of, first_request_of, Agrees, IsWithinLimits};
+ghost use Rattle.script_lang.specs.Seen.{request_of, first_request_of, IsReadAs, IsWithinLimits};
 
 use crate::changes::{add, create, delete, merge, name_at, word_alone};
 use crate::commands::{Command, First};
@@ -18,7 +18,7 @@ use std::alloc::Global;
 pub fn read_line<const D: usize>(alloc: Global, b: &[u8]) -> Result<Command<D>, LineFault>
     requires some { 1 ≤ D }
     requires few { D ≤ 8 }
-    ensures reads { Agrees request_of result (read (Some D) b.now) }
+    ensures reads { IsReadAs request_of result (read (Some D) b.now) }
     ensures limits { IfOk result (λ command. IsWithinLimits (request_of command)) }
 {
     let mut words = words_of(b)?;
@@ -34,7 +34,7 @@ pub fn read_line<const D: usize>(alloc: Global, b: &[u8]) -> Result<Command<D>, 
 /// What a line of a script says where no index is there, or the first of its faults. It takes no memory.
 #[tactic(auto, unfolding(crate::specs::Reading::read))]
 pub fn read_first(b: &[u8]) -> Result<First, LineFault>
-    ensures reads { Agrees first_request_of result (read None b.now) }
+    ensures reads { IsReadAs first_request_of result (read None b.now) }
     ensures limits { IfOk result (λ first. IsWithinLimits (first_request_of first)) }
     ensures no_memory { result ≢ Err LineFault.Memory }
 {
@@ -68,7 +68,7 @@ fn read_command<const D: usize>(
     requires some { 1 ≤ D }
     requires few { D ≤ 8 }
     requires second { words.place ≡ 2 }
-    ensures { Agrees request_of result (read_command D verb.now (left words.entry) words.entry.text.now) }
+    ensures { IsReadAs request_of result (read_command D verb.now (words_left words.entry) words.entry.text.now) }
 {
     if verb == "create" {
         return Ok(create(words)?.into());

@@ -51,11 +51,11 @@ pub struct Words<'a> {
 }
 
 impl<'a> Words<'a> {
-    ghost use Rattle.script_lang.specs.Parts.{left, Takes};
+    ghost use Rattle.script_lang.specs.Parts.{words_left, Takes};
 
     /// The next word.
     pub fn next(&mut self) -> Option<&'a str>
-        ensures { MatchOption result (left self.old ≡ []) (λ word. Takes word.now self.old self.new) }
+        ensures { MatchOption result (words_left self.old ≡ []) (λ word. Takes word.now self.old self.new) }
     {
         let (word, text) = first_word(self.text)?;
         *self = Words {
@@ -67,7 +67,7 @@ impl<'a> Words<'a> {
 
     /// How many words there are.
     pub fn count(&self) -> usize
-        ensures { result ≡ length (left self.now) }
+        ensures { result ≡ length (words_left self.now) }
     {
         let mut count = 0;
         let mut rest = *self;

@@ -22,9 +22,9 @@ use Rattle.stored_index.specs.Stored.{IsStored}
 use Rattle.stored_index.proofs.KeptFiles.{stored_still}
 use Rattle.index_core.specs.Sessions.{SessionData, Guards}
 use Rattle.index_core.specs.Steps.{DoesOver, KeepsOver, Stores, is_committing}
-use Rattle.script_run.specs.LineAnswers.{IsAnswered, IsLeft, Replies, Stands}
+use Rattle.script_run.specs.LineAnswers.{IsAnswered, IsUndone, Replies, IsSessionOf}
 use Rattle.script_run.proofs.SoFar.{line_at}
-use Rattle.script_run.specs.Languages.{Heard, answer, answer_of, asks_commit, commits, heard, meaning}
+use Rattle.script_run.specs.Languages.{LineRequest, answer, answer_of, asks_commit, commits, line_request, meaning}
 use Rattle.script_run.specs.Script.{final, stored_by}
 use Rattle.script_run.specs.declared.language.Language.{Language}
 use Rattle.range_docs.specs.declared.faults.RangeFault.{RangeFault}
@@ -33,14 +33,15 @@ use Rattle.range_docs.specs.Replies.{range_fault_text}
 -- ---- what is read of a line
 
 -- a line is answered by what was read of it
-answer_is : (lang : Language) → (line : ℕ) (i : Index) (dims : ℕ) (bytes : List ℕ) (reading : Heard) → i.dims ≡ dims → heard lang (Some dims) bytes ≡ reading
+answer_is : (lang : Language) → (line : ℕ) (i : Index) (dims : ℕ) (bytes : List ℕ) (reading : LineRequest) → i.dims ≡ dims
+    → line_request lang (Some dims) bytes ≡ reading
     → answer lang line (Some i) bytes ≡ answer_of line (Some i) reading
 unfolding answer
-answer_is lang line i dims bytes reading d r = ap (λ n. answer_of line (Some i) (heard lang (Some n) bytes)) d ∙ ap (answer_of line (Some i)) r
+answer_is lang line i dims bytes reading d r = ap (λ n. answer_of line (Some i) (line_request lang (Some n) bytes)) d ∙ ap (answer_of line (Some i)) r
 
-commits_is : (lang : Language) → (i : Index) (dims : ℕ) (bytes : List ℕ) (reading : Heard) → i.dims ≡ dims → heard lang (Some dims) bytes ≡ reading
+commits_is : (lang : Language) → (i : Index) (dims : ℕ) (bytes : List ℕ) (reading : LineRequest) → i.dims ≡ dims → line_request lang (Some dims) bytes ≡ reading
     → commits lang (Some i) bytes ≡ asks_commit reading
-commits_is lang i dims bytes reading d r = ap (λ n. asks_commit (heard lang (Some n) bytes)) d ∙ ap asks_commit r
+commits_is lang i dims bytes reading d r = ap (λ n. asks_commit (line_request lang (Some n) bytes)) d ∙ ap asks_commit r
 
 -- a fault that is no want of memory is the one that was read
 pub fault_read : {C : Type 0} (request : C → Request) (f : RangeFault) (reading : RangeReading) → f ≢ range.Memory
@@ -68,13 +69,13 @@ pub never_memory : {C : Type 0} (request : C → Request) (f : RangeFault) (read
 never_memory request f reading h is = subst (λ (g : RangeFault). AgreesOnRanges request (Err g) reading) is h
 
 -- a line where no index is there is answered by what was read of it
-pub first_is : (lang : Language) → (line : ℕ) (bytes : List ℕ) (reading : Heard) → heard lang None bytes ≡ reading
+pub first_is : (lang : Language) → (line : ℕ) (bytes : List ℕ) (reading : LineRequest) → line_request lang None bytes ≡ reading
     → answer lang line None bytes ≡ answer_of line None reading
 unfolding answer
 first_is lang line bytes reading r = ap (answer_of line None) r
 
 -- lines that read alike are answered alike
-pub first_alike : (lang : Language) → (line : ℕ) (bytes others : List ℕ) → heard lang None bytes ≡ heard lang None others
+pub first_alike : (lang : Language) → (line : ℕ) (bytes others : List ℕ) → line_request lang None bytes ≡ line_request lang None others
     → answer lang line None bytes ≡ answer lang line None others
 unfolding answer
 first_alike lang line bytes others same = ap (answer_of line None) same
@@ -86,7 +87,7 @@ refused_one true n one e = one
 refused_one false n one e = absurd cc
 
 module _ (lang : Language) (D : ℕ) (files : Files) (s : SessionData) (i : Index) (stored : State) (number : ℕ) (bytes before after : List ℕ) (f : RangeFault)
-    (h : Stands D files s i stored) (r : heard lang (Some D) bytes ≡ Err f) where
+    (h : IsSessionOf D files s i stored) (r : line_request lang (Some D) bytes ≡ Err f) where
   unread : answer lang number (Some i) bytes ≡ answer_of number (Some i) (Err f)
   unread = answer_is lang number i D bytes (Err f) h.seen.dims r
 
@@ -203,7 +204,7 @@ by_refused D number (Refused cause) i new t kept before middle after why h text 
 -- a line that was read, before a session that does its request
 module _ (lang : Language) (D : ℕ) (old new : Files) (s t : SessionData) (i : Index) (stored : State) (number : ℕ) (bytes : List ℕ) (r : Request)
     (before : List ℕ)
-    (h : Stands D old s i stored) (reads : heard lang (Some D) bytes ≡ Ok r) where
+    (h : IsSessionOf D old s i stored) (reads : line_request lang (Some D) bytes ≡ Ok r) where
   answer_says : answer lang number (Some i) bytes ≡ answer_to number (Some i) (step_on i r)
   answer_says = answer_is lang number i D bytes (Ok r) h.seen.dims reads
 
@@ -237,11 +238,11 @@ module _ (lang : Language) (D : ℕ) (old new : Files) (s t : SessionData) (i : 
       (kept_done (applied.Refused why) keeps stores))
 
   left_says : IsStored new stored ⊎ ((is_committing r ≡ true) × IsStored new (final (answer_to number (Some i) (step_on i r)).state))
-      → IsLeft lang (line_at number i stored bytes) new
+      → IsUndone lang (line_at number i stored bytes) new
   left_says (inl same) = inl same
   left_says (inr p) = inr (commits_says ∙ p.0, subst (λ a. IsStored new (final a.state)) (sym answer_says) p.1)
 
-  fault_left : (after : List ℕ) (e : PageFault) → FaultShows (λ _. ⊥) e → IsLeft lang (line_at number i stored bytes) new
+  fault_left : (after : List ℕ) (e : PageFault) → FaultShows (λ _. ⊥) e → IsUndone lang (line_at number i stored bytes) new
       → Replies lang D (line_at number i stored bytes) new t before after (Err e)
   fault_left after page.Failed whole left = left
   fault_left after page.Memory whole left = left

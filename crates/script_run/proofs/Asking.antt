@@ -11,11 +11,11 @@ use Rattle.script_lang.specs.Requests as asks
 use Rattle.script_lang.specs.Replies.{doc_text}
 use Rattle.script_lang.specs.declared.faults.Refusal.TheVariants as why
 use Rattle.index_model.specs.State.{Index, State, snapshot_of, viewed_docs}
-use Rattle.index_model.specs.Step.{Outcome, Done, Refused, answered, done_ok, step, step_on}
+use Rattle.index_model.specs.Step.{Outcome, Done, Refused, query_outcome, done_ok, step, step_on}
 use Rattle.index_model.specs.Script.{Answer, answer_to}
 use Rattle.index_core.specs.Light.{is_light, points_in}
 use Rattle.script_run.specs.Costs.{AsksOnly, begins_no_merge, given_of, is_query}
-use Rattle.script_run.specs.Languages.{Heard, answer, answer_of, heard, meaning}
+use Rattle.script_run.specs.Languages.{LineRequest, answer, answer_of, line_request, meaning}
 use Rattle.script_run.specs.Script.{state_after}
 use Rattle.script_run.specs.declared.language.Language.{Language}
 use Rattle.range_docs.specs.declared.faults.RangeFault.{RangeFault}
@@ -44,7 +44,7 @@ module _ (P : State → Type 0) (line : ℕ) (i : Index) where
   either true o p x y = x
   either false o p x y = y
 
-  pub queried : (docs : Option (List Document)) (text : List Document → List ℕ) → P (Some i) → P (answer_to line (Some i) (answered i docs text)).state
+  pub queried : (docs : Option (List Document)) (text : List Document → List ℕ) → P (Some i) → P (answer_to line (Some i) (query_outcome i docs text)).state
   queried None text h = h
   queried (Some docs) text h = h
 
@@ -139,7 +139,7 @@ module _ (line : ℕ) (i : Index) where
   both n true o p x y = x
   both n false o p x y = y
 
-  answers : (docs : Option (List Document)) (text : List Document → List ℕ) → Gives 0 (answered i docs text)
+  answers : (docs : Option (List Document)) (text : List Document → List ℕ) → Gives 0 (query_outcome i docs text)
   answers None text done = absurd (done tt)
   answers (Some docs) text done = omega arith
 
@@ -222,16 +222,16 @@ query_light r e = no e
 
 -- ---- a line
 
-answer_is : (lang : Language) → (line : ℕ) (state : State) (bytes : List ℕ) (reading : Heard)
-    → heard lang (option_map (λ (i : Index). i.dims) state) bytes ≡ reading → answer lang line state bytes ≡ answer_of line state reading
+answer_is : (lang : Language) → (line : ℕ) (state : State) (bytes : List ℕ) (reading : LineRequest)
+    → line_request lang (option_map (λ (i : Index). i.dims) state) bytes ≡ reading → answer lang line state bytes ≡ answer_of line state reading
 unfolding answer
 answer_is lang line state bytes reading is = ap (answer_of line state) is
 
-says_inj : (q r : Request) → ◌≡◌ {A = Heard} (Ok q) (Ok r) → q ≡ r
+says_inj : (q r : Request) → ◌≡◌ {A = LineRequest} (Ok q) (Ok r) → q ≡ r
 says_inj q r e = cc
 
 -- what it asks, by what was read of it
-pub asked : (lang : Language) → (test : Request → Bool) (line : ℕ) (i : Index) (bytes : List ℕ) (r : Request) → heard lang (Some i.dims) bytes ≡ Ok r
+pub asked : (lang : Language) → (test : Request → Bool) (line : ℕ) (i : Index) (bytes : List ℕ) (r : Request) → line_request lang (Some i.dims) bytes ≡ Ok r
     → AsksOnly lang test line (Some i) bytes → Asks test i r
 asked lang test line i bytes r is (inl refused) =
     inl (refusal_of line (Some i) (step_on i r) (sym (ap (λ (a : Answer). a.refused) (answer_is lang line (Some i) bytes (Ok r) is)) ∙ refused))
@@ -241,13 +241,13 @@ asked lang test line i bytes r is (inr (q, says, t)) = inr (subst (λ (x : Reque
 module _ (lang : Language) (P : State → Type 0) (test : Request → Bool) (line : ℕ) (i : Index) (bytes : List ℕ) (here : P (Some i))
     (there : (r : Request) → Asks test i r → P (answer_to line (Some i) (step_on i r)).state)
     (ask : AsksOnly lang test line (Some i) bytes) where
-  by_reading : (reading : Heard) → heard lang (Some i.dims) bytes ≡ reading → P (answer lang line (Some i) bytes).state
+  by_reading : (reading : LineRequest) → line_request lang (Some i.dims) bytes ≡ reading → P (answer lang line (Some i) bytes).state
   by_reading (Ok r) is =
       subst (λ (a : Answer). P a.state) (sym (answer_is lang line (Some i) bytes (Ok r) is)) (there r (asked lang test line i bytes r is ask))
   by_reading (Err f) is = subst (λ (a : Answer). P a.state) (sym (answer_is lang line (Some i) bytes (Err f) is)) here
 
   by_line : P (answer lang line (Some i) bytes).state
-  by_line = by_reading (heard lang (Some i.dims) bytes) refl
+  by_line = by_reading (line_request lang (Some i.dims) bytes) refl
 
 pub line_rests : (lang : Language) → (line : ℕ) (i : Index) (bytes : List ℕ) → AsksOnly lang begins_no_merge line (Some i) bytes → i.begun ≡ false
     → Rested (answer lang line (Some i) bytes).state
@@ -255,9 +255,9 @@ line_rests lang line i bytes ask e = by_line lang Rested begins_no_merge line i 
 
 line_gives : (lang : Language) → (line : ℕ) (state : State) (bytes : List ℕ) → given_of state ≤ given_of (answer lang line state bytes).state
 line_gives lang line None bytes = omega arith
-line_gives lang line (Some i) bytes = by (heard lang (Some i.dims) bytes) refl
+line_gives lang line (Some i) bytes = by (line_request lang (Some i.dims) bytes) refl
   where
-    by : (reading : Heard) → heard lang (Some i.dims) bytes ≡ reading → i.given ≤ given_of (answer lang line (Some i) bytes).state
+    by : (reading : LineRequest) → line_request lang (Some i.dims) bytes ≡ reading → i.given ≤ given_of (answer lang line (Some i) bytes).state
     by (Ok r) is = subst (λ (a : Answer). i.given ≤ given_of a.state) (sym (answer_is lang line (Some i) bytes (Ok r) is)) (request_gives line i r)
     by (Err f) is = subst (λ (a : Answer). i.given ≤ given_of a.state) (sym (answer_is lang line (Some i) bytes (Err f) is)) (omega arith)
 
@@ -269,21 +269,21 @@ lines_give lang line state (l ∷ ls) = omega (arith, line_gives lang line state
 pub query_stays : (lang : Language) → (line : ℕ) (state : State) (bytes : List ℕ) → AsksOnly lang is_query line state bytes
     → (answer lang line state bytes).state ≡ state
 query_stays lang line (Some i) bytes ask = by_line lang (λ (s : State). s ≡ Some i) is_query line i bytes refl (λ r a. request_stays line i r a) ask
-query_stays lang line None bytes ask = by (heard lang None bytes) refl
+query_stays lang line None bytes ask = by (line_request lang None bytes) refl
   where
-    asks_so : (r : Request) → heard lang None bytes ≡ Ok r → AsksOnly lang is_query line None bytes
+    asks_so : (r : Request) → line_request lang None bytes ≡ Ok r → AsksOnly lang is_query line None bytes
         → ((answer_to line None (step None r)).refused ≡ 1) ⊎ (is_query r ≡ true)
     asks_so r is (inl refused) = inl (sym (ap (λ (a : Answer). a.refused) (answer_is lang line None bytes (Ok r) is)) ∙ refused)
     asks_so r is (inr (q, says, t)) = inr (subst (λ (x : Request). is_query x ≡ true) (says_inj q r (sym says ∙ is)) t)
 
-    by : (reading : Heard) → heard lang None bytes ≡ reading → (answer lang line None bytes).state ≡ None
+    by : (reading : LineRequest) → line_request lang None bytes ≡ reading → (answer lang line None bytes).state ≡ None
     by (Ok r) is = ap (λ (a : Answer). a.state) (answer_is lang line None bytes (Ok r) is) ∙ first_stays line r (asks_so r is ask)
     by (Err f) is = ap (λ (a : Answer). a.state) (answer_is lang line None bytes (Err f) is)
 
-pub unread_state : (lang : Language) → (line : ℕ) (i : Index) (bytes : List ℕ) (f : RangeFault) → heard lang (Some i.dims) bytes ≡ Err f
+pub unread_state : (lang : Language) → (line : ℕ) (i : Index) (bytes : List ℕ) (f : RangeFault) → line_request lang (Some i.dims) bytes ≡ Err f
     → (answer lang line (Some i) bytes).state ≡ Some i
 unread_state lang line i bytes f fails = ap (λ (a : Answer). a.state) (answer_is lang line (Some i) bytes (Err f) fails)
 
-pub read_state : (lang : Language) → (line : ℕ) (i : Index) (bytes : List ℕ) (r : Request) → heard lang (Some i.dims) bytes ≡ Ok r
+pub read_state : (lang : Language) → (line : ℕ) (i : Index) (bytes : List ℕ) (r : Request) → line_request lang (Some i.dims) bytes ≡ Ok r
     → answer lang line (Some i) bytes ≡ answer_to line (Some i) (step_on i r)
 read_state lang line i bytes r is = answer_is lang line (Some i) bytes (Ok r) is

@@ -12,10 +12,10 @@ use Rattle.run_status.specs.Ends.{IsAnswer}
 use Rattle.run_status.specs.Stops.{status_of, stop_of}
 use Rattle.run_status.specs.declared.stop.Stop.{Stop}
 use Rattle.run_status.specs.declared.stop.Stop.TheVariants as stop
-use Rattle.script_run.proofs.Ending.{counted}
 use Rattle.run_status.specs.declared.status.Status.{Status}
 use Rattle.run_status.specs.declared.status.Status.TheVariants as status
 use Rattle.script_run.specs.declared.language.Language.{Language}
+use Rattle.run_status.proofs.Ending.{counted}
 
 -- what has done nothing costs nothing
 same_status : (files : Files) (s : Status) → StatusKeeps files files s

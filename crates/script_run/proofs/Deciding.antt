@@ -5,7 +5,7 @@ use Rattle.std.proofs.lemmas.Slice.Eq.{bytes_eq-Decides}
 use Rattle.std.specs.Str.{bytes_eq}
 use Rattle.commit_list.specs.declared.listed.Listed.{Listed}
 use Rattle.commit_list.specs.Commits.{CommitData}
-use Rattle.segment_view.specs.Parts.{Part, ids_of}
+use Rattle.segment_view.specs.LiveSegments.{LiveSegment, ids_of}
 use Rattle.segment_set.specs.Sets.{SetData}
 use Rattle.outer_io.specs.Files.{Files}
 use Rattle.segment_set.specs.Kept.{IsAsCommitted, StaysButCache}
@@ -42,13 +42,14 @@ is_empty (x ∷ xs) = inr (λ e. absurd cc)
 as_committed : (s : SetData) (c : CommitData) → OrNot (IsAsCommitted s c)
 as_committed s c = or_as
     (λ (h : ((s.next ≡ c.next) × (s.given ≡ c.given))
-    × ((ids_of s.parts ≡ map (λ (l : Listed). l.segment) c.listed) × (map (λ (p : Part). length p.live.live) s.parts ≡ map (λ (l : Listed). l.live) c.listed))
+    × ((ids_of s.parts ≡ map (λ (l : Listed). l.segment) c.listed)
+        × (map (λ (p : LiveSegment). length p.live.live) s.parts ≡ map (λ (l : Listed). l.live) c.listed))
     × (s.buffer ≡ [])).
     record { next = h.0.0; given = h.0.1; ids = h.1.0; counts = h.1.1; empty = h.2 })
     (λ (a : IsAsCommitted s c). ((a.next, a.given), (a.ids, a.counts), a.empty))
     (three (and_too (same_numbers s.next c.next) (same_numbers s.given c.given))
     (and_too (same_lists (ids_of s.parts) (map (λ (l : Listed). l.segment) c.listed))
-    (same_lists (map (λ (p : Part). length p.live.live) s.parts) (map (λ (l : Listed). l.live) c.listed)))
+    (same_lists (map (λ (p : LiveSegment). length p.live.live) s.parts) (map (λ (l : Listed). l.live) c.listed)))
     (is_empty s.buffer))
   where
     three : {P Q R : Type 0} → OrNot P → OrNot Q → OrNot R → OrNot (P × Q × R)

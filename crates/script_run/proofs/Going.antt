@@ -1,6 +1,6 @@
 -- How the lines of a script are joined to those before them.
 use Rattle.std.proofs.Common.{◌≡◌, ℕ, suc, ◌+◌, List, [], ◌∷◌, ◌++◌, length, Result, Ok, Err, refl, sym, ap, ◌∙◌, subst, ◌⊎◌}
-use Rattle.std.proofs.Common.{append_assoc, append-nil, add_assoc, zero-add, add-zero, arith, length-append, ◌≤◌, Bool, true, false, cond}
+use Rattle.std.proofs.Common.{append_assoc, append-nil, add_assoc, zero-add, add-zero, arith, length-append}
 use mir.Val.{bool_byte}
 use Rattle.outer_io.specs.Files.{Files}
 use Rattle.outer_io.specs.Parts.{WritesPart}
@@ -9,7 +9,7 @@ use Rattle.page_cache.specs.declared.faults.PageFault.TheVariants as page
 use Rattle.page_cache.specs.Evidence.{FaultShows}
 use Rattle.index_model.specs.State.{State}
 use Rattle.stored_index.specs.Stored.{IsStored}
-use Rattle.script_run.specs.Progress.{Place, Progress}
+use Rattle.script_run.specs.Progress.{ScriptPlace, Progress}
 use Rattle.script_run.specs.Runs.{Finishes, InFlight, Stops, Breaks, Halts, EndsLines, EndsRead}
 use Rattle.script_run.specs.declared.halt.Halt.{Halt}
 use Rattle.script_run.specs.declared.halt.Halt.TheVariants as halt
@@ -59,7 +59,7 @@ refused_append m line state (x ∷ xs) ys =
 
 -- ---- what ends from a later place on ends so from an earlier one on
 
-module _ {told : Type 0} (m : Meaning) (a b : Place) (p : Progress m told a b) (xs : List (List ℕ)) where
+module _ {told : Type 0} (m : Meaning) (a b : ScriptPlace) (p : Progress m told a b) (xs : List (List ℕ)) where
   -- lines from the later place on are those between and these, from the earlier one on
   line_then : a.line + length (p.done ++ xs) ≡ b.line + length xs
   line_then =
@@ -88,7 +88,7 @@ module _ {told : Type 0} (m : Meaning) (a b : Place) (p : Progress m told a b) (
   whole_then : (ys : List (List ℕ)) → b.rest ≡ xs ++ ys → a.rest ≡ (p.done ++ xs) ++ ys
   whole_then ys whole = p.whole ∙ ap (λ ls. p.done ++ ls) whole ∙ sym (append_assoc p.done xs ys)
 
-module _ {told : Type 0} (m : Meaning) (a b : Place) (p : Progress m told a b) (files : Files) (new : List ℕ) where
+module _ {told : Type 0} (m : Meaning) (a b : ScriptPlace) (p : Progress m told a b) (files : Files) (new : List ℕ) where
   finishes_from : Finishes m told b files new → Finishes m told a files new
   finishes_from f = record {
     text = λ t. f.text t ∙ text_then m a b p b.rest t ∙ ap (λ ls. a.written ++ text_of m a.line a.state ls) (sym p.whole);
@@ -156,7 +156,7 @@ module _ {told : Type 0} (m : Meaning) (a b : Place) (p : Progress m told a b) (
 -- ---- progress
 
 -- no line is done yet
-pub start_here : {told : Type 0} (m : Meaning) → (a : Place) → Progress m told a a
+pub start_here : {told : Type 0} (m : Meaning) → (a : ScriptPlace) → Progress m told a a
 start_here m a = record {
   done = [];
   whole = refl;
@@ -168,7 +168,7 @@ start_here m a = record {
 }
 
 -- one more line is done
-pub one_more : {told : Type 0} (m : Meaning) → (a b c : Place) (line : List ℕ) → Progress m told a b → b.rest ≡ line ∷ c.rest → c.line ≡ b.line + 1
+pub one_more : {told : Type 0} (m : Meaning) → (a b c : ScriptPlace) (line : List ℕ) → Progress m told a b → b.rest ≡ line ∷ c.rest → c.line ≡ b.line + 1
     → (m.answer b.line b.state line).state ≡ c.state → c.stored ≡ stored_by m b.line b.stored b.state line
     → c.refused ≡ b.refused + (m.answer b.line b.state line).refused
     → (told → c.written ≡ b.written ++ (m.answer b.line b.state line).text) → Progress m told a c
@@ -187,7 +187,7 @@ one_more m a b c line p next number state stored count text =
 -- ---- how lines end at a place
 
 -- the run stops before any line is done
-pub stops_here : {told : Type 0} (m : Meaning) → (b : Place) (files : Files) (new : List ℕ) → (told → new ≡ b.written)
+pub stops_here : {told : Type 0} (m : Meaning) → (b : ScriptPlace) (files : Files) (new : List ℕ) → (told → new ≡ b.written)
     → IsStored files b.stored ⊎ InFlight m files b.line b.state b.rest → Stops m told b files new
 stops_here m b files new same stored = record {
   done = [];
@@ -198,7 +198,7 @@ stops_here m b files new same stored = record {
 }
 
 -- the source fails before another line has come
-pub halts_here : {told : Type 0} (m : Meaning) → (b : Place) (files : Files) (new : List ℕ) → (told → new ≡ b.written) → IsStored files b.stored
+pub halts_here : {told : Type 0} (m : Meaning) → (b : ScriptPlace) (files : Files) (new : List ℕ) → (told → new ≡ b.written) → IsStored files b.stored
     → Halts m told b files new
 halts_here m b files new same stored = record {
   done = [];
@@ -209,7 +209,7 @@ halts_here m b files new same stored = record {
 }
 
 -- a fault that is no damage stops it so
-pub fault_stops : {told : Type 0} (m : Meaning) → (b : Place) (files : Files) (new : List ℕ) (fault : PageFault) → FaultShows (λ _. ⊥) fault
+pub fault_stops : {told : Type 0} (m : Meaning) → (b : ScriptPlace) (files : Files) (new : List ℕ) (fault : PageFault) → FaultShows (λ _. ⊥) fault
     → (told → new ≡ b.written)
     → IsStored files b.stored ⊎ InFlight m files b.line b.state b.rest → EndsLines m told b files new (Err (stop_of fault))
 fault_stops m b files new page.Failed whole same stored = stops_here m b files new same stored
@@ -217,7 +217,7 @@ fault_stops m b files new page.Memory whole same stored = stops_here m b files n
 fault_stops m b files new (page.Damaged damage) whole same stored = absurd whole
 
 -- the sink fails at the next line
-pub breaks_here : {told : Type 0} (m : Meaning) → (b : Place) (files : Files) (new : List ℕ) (line : List ℕ) (rest : List (List ℕ)) → b.rest ≡ line ∷ rest
+pub breaks_here : {told : Type 0} (m : Meaning) → (b : ScriptPlace) (files : Files) (new : List ℕ) (line : List ℕ) (rest : List (List ℕ)) → b.rest ≡ line ∷ rest
     → (told → WritesPart b.written new (m.answer b.line b.state line).text) → IsStored files (stored_by m b.line b.stored b.state line)
     → Breaks m told b files new
 breaks_here m b files new line rest next part stored = record {
@@ -231,7 +231,7 @@ breaks_here m b files new line rest next part stored = record {
 }
 
 -- no line is left
-pub finishes_here : {told : Type 0} (m : Meaning) → (b : Place) (files : Files) (new : List ℕ) → b.rest ≡ [] → (told → new ≡ b.written)
+pub finishes_here : {told : Type 0} (m : Meaning) → (b : ScriptPlace) (files : Files) (new : List ℕ) → b.rest ≡ [] → (told → new ≡ b.written)
     → IsStored files (final b.state)
     → EndsLines m told b files new (Ok b.refused)
 finishes_here m b files new none same stored = (
@@ -241,12 +241,3 @@ finishes_here m b files new none same stored = (
   },
   sym (add-zero b.refused) ∙ ap (λ ls. b.refused + refused_in m b.line b.state ls) (sym none),
 )
-
--- 1 for a line that is refused
-pub refused_more : (n : ℕ) (b : Bool) (r m : ℕ) → r ≡ cond b 1 0 → m ≡ bool_byte b → n + m ≡ n + r
-refused_more n true r m h k = ap (λ x. n + x) (k ∙ sym h)
-refused_more n false r m h k = ap (λ x. n + x) (k ∙ sym h)
-
-pub at_most_one : (b : Bool) (m : ℕ) → m ≡ bool_byte b → m ≤ 1
-at_most_one true m h = omega arith
-at_most_one false m h = omega arith

@@ -6,41 +6,41 @@ use Rattle.stored_index.proofs.KeptFiles.{kept_after}
 use Rattle.run_status.specs.Ends.{HasStopCause, OnStopDamage}
 use Rattle.run_status.specs.declared.stop.Stop.{Stop}
 use Rattle.run_status.specs.declared.stop.Stop.TheVariants as stop
-use Rattle.script_run.specs.Halted.{HasHaltCause, HasSourceCause, OnHaltDamage, OnLines, halted}
+use Rattle.script_run.specs.Halted.{HasHaltCause, HasSourceCause, OnHaltDamage, OnLines, halt_result}
 use Rattle.script_run.specs.Kept.{HaltKeeps, StopKeeps}
-use Rattle.script_run.specs.Progress.{Place}
+use Rattle.script_run.specs.Progress.{ScriptPlace}
 use Rattle.script_run.specs.Runs.{EndsLines, EndsRead, Halts}
 use Rattle.page_cache.specs.declared.faults.Damage.{Damage}
 use Rattle.script_run.specs.declared.halt.Halt.{Halt}
 use Rattle.script_run.specs.declared.halt.Halt.TheVariants as halt
 use Rattle.script_run.proofs.Calling.{stop_after}
-use Rattle.script_run.proofs.Ending.{cause_from, rose_from}
 use Rattle.script_run.proofs.Shown.{stop_less}
 use Rattle.index_opening.specs.Evidence.{IsEvident}
 use Rattle.script_run.specs.Script.{Meaning}
+use Rattle.run_status.proofs.Ending.{rose_from, cause_from}
 
 -- what holds of lines alone holds of them where they come from a source
-on_halted : {T : Type 0} (P : Result T Stop → Type 0) (Q : Type 0) (done : Result T Stop) (result : Result T Halt) → result ≡ halted done → P done
+on_halted : {T : Type 0} (P : Result T Stop → Type 0) (Q : Type 0) (done : Result T Stop) (result : Result T Halt) → result ≡ halt_result done → P done
     → OnLines P Q result
 on_halted {T} P Q done result is h = subst (OnLines P Q) (sym is) (by_done done h)
   where
-    by_done : (done : Result T Stop) → P done → OnLines P Q (halted done)
+    by_done : (done : Result T Stop) → P done → OnLines P Q (halt_result done)
     by_done (Ok x) h = h
     by_done (Err s) h = h
 
-pub halted_ends : (m : Meaning) → (told : Type 0) (p : Place) (files : Files) (new : List ℕ) (done : Result ℕ Stop) (result : Result ℕ Halt)
-    → result ≡ halted done → EndsLines m told p files new done → EndsRead m told p files new result
+pub halted_ends : (m : Meaning) → (told : Type 0) (p : ScriptPlace) (files : Files) (new : List ℕ) (done : Result ℕ Stop) (result : Result ℕ Halt)
+    → result ≡ halt_result done → EndsLines m told p files new done → EndsRead m told p files new result
 halted_ends m told p files new done result is h = on_halted (EndsLines m told p files new) (Halts m told p files new) done result is h
 
-pub halted_cause : {T : Type 0} (f0 f1 k0 k1 : ℕ) (done : Result T Stop) (result : Result T Halt) → result ≡ halted done → HasStopCause f0 f1 k0 k1 done
+pub halted_cause : {T : Type 0} (f0 f1 k0 k1 : ℕ) (done : Result T Stop) (result : Result T Halt) → result ≡ halt_result done → HasStopCause f0 f1 k0 k1 done
     → HasHaltCause f0 f1 k0 k1 result
 halted_cause f0 f1 k0 k1 done result is h = on_halted (HasStopCause f0 f1 k0 k1) ((f0 ≤ f1) × (k0 ≤ k1)) done result is h
 
-pub halted_shows : {T : Type 0} (P : Damage → Type 0) (done : Result T Stop) (result : Result T Halt) → result ≡ halted done → OnStopDamage done P
+pub halted_shows : {T : Type 0} (P : Damage → Type 0) (done : Result T Stop) (result : Result T Halt) → result ≡ halt_result done → OnStopDamage done P
     → OnHaltDamage result P
 halted_shows P done result is h = on_halted (λ d. OnStopDamage d P) (Unit {0}) done result is h
 
-pub halted_keeps : {T : Type 0} (old new : Files) (done : Result T Stop) (result : Result T Halt) → result ≡ halted done → StopKeeps old new done
+pub halted_keeps : {T : Type 0} (old new : Files) (done : Result T Stop) (result : Result T Halt) → result ≡ halt_result done → StopKeeps old new done
     → HaltKeeps old new result
 halted_keeps old new done result is h = on_halted (StopKeeps old new) (SameKept old new) done result is h
 
@@ -58,10 +58,10 @@ source_cause_from a b c result first h = record { later = omega (arith, first, h
 pub no_source : {T : Type 0} (a b : ℕ) (result : Result T Halt) → a ≤ b → (result ≡ Err halt.Source → ⊥) → HasSourceCause a b result
 no_source a b result later other = record { later = later; failed = λ e. absurd (other e) }
 
-pub halted_no_source : {T : Type 0} (done : Result T Stop) (result : Result T Halt) → result ≡ halted done → result ≡ Err halt.Source → ⊥
+pub halted_no_source : {T : Type 0} (done : Result T Stop) (result : Result T Halt) → result ≡ halt_result done → result ≡ Err halt.Source → ⊥
 halted_no_source done result is e = by_done done (sym is ∙ e)
   where
-    by_done : {T : Type 0} (done : Result T Stop) → halted done ≡ Err halt.Source → ⊥
+    by_done : {T : Type 0} (done : Result T Stop) → halt_result done ≡ Err halt.Source → ⊥
     by_done (Ok x) e = cc
     by_done (Err s) e = cc
 

@@ -9,18 +9,18 @@ use Rattle.merge_policy.specs.Choice.{free_count, is_of_level}
 use Rattle.commit_list.specs.CommitFiles.{IsCommitFile}
 use Rattle.segment_file.specs.Heads.{Head}
 use Rattle.index_model.specs.State.{Index, State, at_rest}
-use Rattle.segment_view.specs.Parts.{Part, heads_of}
+use Rattle.segment_view.specs.LiveSegments.{LiveSegment, heads_of}
 use Rattle.segment_set.specs.Sets.{BegunMerge, IsSettled, SetData, pins_of, sizes_of}
 use Rattle.segment_set.specs.Seen.{Sees}
 use Rattle.index_core.specs.Effects.{BringsCanonical}
 use Rattle.index_core.specs.Light.{KeepsLevels, LooksAt, is_light}
-use Rattle.index_core.specs.Closed.{IsClosed, IsIdle}
+use Rattle.index_core.specs.Closed.{IsSessionClosed, IsIdle}
 use Rattle.index_core.specs.Sessions.{Guards, IsUnchanged}
 use Rattle.index_core.specs.Whole.{HasNewCanonical}
 use Rattle.index_core.proofs.Bringing.{brings_same, brings_then}
 use Rattle.index_core.proofs.Listed.{new_canonical}
 use Rattle.script_run.specs.Costs.{AllAsk, AreLight, HasRoomInLevels, TouchesLines, begins_no_merge, given_of, is_query}
-use Rattle.script_run.specs.Leads.{AreListed, Closes, HasRoom, Leads, Passes, Moment}
+use Rattle.script_run.specs.Leads.{AllListed, Closes, HasRoom, Leads, Passes, LineMoment}
 use Rattle.script_run.proofs.Asking.{Rested, light_begins, line_rests}
 use Rattle.script_run.proofs.AskingLines.{all_first, all_rest, all_weaker}
 use Rattle.script_run.proofs.Asking.{lines_give, query_light}
@@ -41,7 +41,7 @@ levels_then f g h (inr (c, says, few)) (inl two) = inr (c, subst (λ (b : Option
 levels_then f g h first (inr few) = inr few
 
 -- where no merge is begun, the free segments of a level are all of it
-free_of : (level : ℕ) (parts : List Part)
+free_of : (level : ℕ) (parts : List LiveSegment)
     → free_count level (sizes_of parts) (pins_of None parts) ≡ count_by (λ (h : Head). is_of_level level h.entries) (heads_of parts)
 unfolding free_count
 free_of level [] = refl
@@ -69,17 +69,17 @@ settled s heads none looks room = settled_by s s.begun heads none looks.now room
 -- ---- the commit at the end
 
 -- what closing a session says
-pub record Ends {T E : Type 0} (D : ℕ) (told : Type 0) (old new : Moment) (result : Result T E) : Type 0 where
+pub record Ends {T E : Type 0} (D : ℕ) (told : Type 0) (old new : LineMoment) (result : Result T E) : Type 0 where
   pub is_told : told
-  pub closed : OnOk result (IsClosed D told old.files new.files old.session new.session)
+  pub closed : OnOk result (IsSessionClosed D told old.files new.files old.session new.session)
   pub guards : Guards D old.files old.session
   pub canon : BringsCanonical D old.files new.files old.session.set.parts new.session.set.parts
   pub idle : IsIdle old.session → new.files ≡ old.files
   pub reads : IsUnchanged old.session ⊎ IsSettled old.session.set → new.reads ≡ old.reads
   pub few : old.session.set.begun ≡ None → OnOk result (KeepsLevels old.files new.files)
 
-closes_canon : {T E told : Type 0} (D : ℕ) (i : Index) (old new : Moment) (r : Result T E) → Sees D old.files old.session.set i → Ends D told old new r
-    → (first : Files) (s : SetData) → AreListed first s
+closes_canon : {T E told : Type 0} (D : ℕ) (i : Index) (old new : LineMoment) (r : Result T E) → Sees D old.files old.session.set i → Ends D told old new r
+    → (first : Files) (s : SetData) → AllListed first s
     → BringsCanonical D first old.files s.parts old.session.set.parts → OnOk r (HasNewCanonical first new.files)
 closes_canon D i old new (Err e) seen c first s listed brings = tt
 closes_canon D i old new (Ok x) seen c first s listed brings =
@@ -87,7 +87,7 @@ closes_canon D i old new (Ok x) seen c first s listed brings =
     (brings_then D first old.files new.files s.parts old.session.set.parts new.session.set.parts brings c.canon)
     (c.closed.seen c.is_told i seen) (c.closed.guards c.is_told c.guards) (c.closed.says c.is_told c.guards) c.closed.unchanged
 
-pub closes_by : {T E told : Type 0} (D : ℕ) (i : Index) (old new : Moment) (r : Result T E) → Sees D old.files old.session.set i → Ends D told old new r
+pub closes_by : {T E told : Type 0} (D : ℕ) (i : Index) (old new : LineMoment) (r : Result T E) → Sees D old.files old.session.set i → Ends D told old new r
     → Closes D i old new r
 closes_by D i old new r seen c = record {
   canon = λ first s listed brings. closes_canon D i old new r seen c first s listed brings;
@@ -97,14 +97,14 @@ closes_by D i old new r seen c = record {
 }
 
 -- where it failed
-pub closes_fails : {T E told : Type 0} (D : ℕ) (i : Index) (old new : Moment) (r : Result T E) (e : E) → r ≡ Err e → Sees D old.files old.session.set i
+pub closes_fails : {T E told : Type 0} (D : ℕ) (i : Index) (old new : LineMoment) (r : Result T E) (e : E) → r ≡ Err e → Sees D old.files old.session.set i
     → Ends {T = T} D told old new (Err e) → Closes D i old new r
 closes_fails {T} D i old new r e is seen c = subst (Closes D i old new) (sym is) (closes_by {T = T} D i old new (Err e) seen c)
 
 -- ---- the lines so far
 
 -- light lines: those that are left are, and what they touch still fits
-pub record LedLight (lang : Language) (heads : List Head) (i0 : Index) (line : ℕ) (i : Index) (rest : List (List ℕ)) (now : Moment)
+pub record LedLight (lang : Language) (heads : List Head) (i0 : Index) (line : ℕ) (i : Index) (rest : List (List ℕ)) (now : LineMoment)
     (before all : ℕ) : Type 0 where
   pub rested : i.begun ≡ false
   pub asks : AllAsk lang is_light line (Some i) rest
@@ -115,8 +115,8 @@ pub record LedLight (lang : Language) (heads : List Head) (i0 : Index) (line : �
   pub touches : TouchesLines lang heads line (Some i) rest left
   pub fits : now.reads + left ≤ before + all
 
-pub record Led (lang : Language) (D line0 : ℕ) (i0 : Index) (lines : List (List ℕ)) (start : Moment) (line : ℕ) (i : Index) (rest : List (List ℕ))
-    (now : Moment) : Type 0 where
+pub record Led (lang : Language) (D line0 : ℕ) (i0 : Index) (lines : List (List ℕ)) (start : LineMoment) (line : ℕ) (i : Index) (rest : List (List ℕ))
+    (now : LineMoment) : Type 0 where
   pub canon : BringsCanonical D start.files now.files start.session.set.parts now.session.set.parts
   pub levels : i0.begun ≡ false → AllAsk lang begins_no_merge line0 (Some i0) lines
       → (i.begun ≡ false) × AllAsk lang begins_no_merge line (Some i) rest × KeepsLevels start.files now.files
@@ -127,7 +127,7 @@ pub record Led (lang : Language) (D line0 : ℕ) (i0 : Index) (lines : List (Lis
       → given_of (state_after (meaning lang) line0 (Some i0) lines) ≤ i0.given + 16384 → (n : ℕ) → TouchesLines lang heads line0 (Some i0) lines n
       → LedLight lang heads i0 line i rest now start.reads n
 
-pub led_first : (lang : Language) → (D line : ℕ) (i : Index) (lines : List (List ℕ)) (s : Moment) → Led lang D line i lines s line i lines s
+pub led_first : (lang : Language) → (D line : ℕ) (i : Index) (lines : List (List ℕ)) (s : LineMoment) → Led lang D line i lines s line i lines s
 led_first lang D line i lines s = record {
   canon = brings_same D s.files s.files s.session.set.parts s.session.set.parts refl refl;
   levels = λ rested asks. (rested, asks, inl refl);
@@ -147,9 +147,10 @@ led_first lang D line i lines s = record {
 rests_on : (state : State) (j : Index) → state ≡ Some j → Rested state → j.begun ≡ false
 rests_on state j is h = subst Rested is h
 
-module _ (lang : Language) (D line0 : ℕ) (i0 : Index) (lines : List (List ℕ)) (start : Moment) (line : ℕ) (i : Index) (rest : List (List ℕ)) (now : Moment)
+module _ (lang : Language) (D line0 : ℕ) (i0 : Index) (lines : List (List ℕ)) (start : LineMoment) (line : ℕ) (i : Index) (rest : List (List ℕ))
+    (now : LineMoment)
     (led : Led lang D line0 i0 lines start line i rest now)
-    (x : List ℕ) (more : List (List ℕ)) (is : rest ≡ x ∷ more) (new : Moment) where
+    (x : List ℕ) (more : List (List ℕ)) (is : rest ≡ x ∷ more) (new : LineMoment) where
   -- the next of light lines has room
   room_here : (heads : List Head) (before all : ℕ) → LedLight lang heads i0 line i rest now before all
       → HasRoom now.session.set i (answer lang line (Some i) x).state
@@ -236,9 +237,9 @@ module _ (lang : Language) (D line0 : ℕ) (i0 : Index) (lines : List (List ℕ)
 
 -- no line is left, and what they left is committed
 pub led_ends : {T E : Type 0} (lang : Language)
-    → (D line0 : ℕ) (i0 : Index) (lines : List (List ℕ)) (start : Moment) (line : ℕ) (i : Index) (rest : List (List ℕ)) (now : Moment)
+    → (D line0 : ℕ) (i0 : Index) (lines : List (List ℕ)) (start : LineMoment) (line : ℕ) (i : Index) (rest : List (List ℕ)) (now : LineMoment)
     → Led lang D line0 i0 lines start line i rest now
-    → Sees D now.files now.session.set i → (new : Moment) (r : Result T E) → Closes D i now new r → Leads lang line0 i0 lines start new r
+    → Sees D now.files now.session.set i → (new : LineMoment) (r : Result T E) → Closes D i now new r → Leads lang line0 i0 lines start new r
 led_ends lang D line0 i0 lines start line i rest now led seen new r c = record {
   canon = λ listed. c.canon start.files start.session.set listed led.canon;
   levels = λ rested asks. let l = led.levels rested asks in then_levels r l.2 (c.levels l.0);
@@ -267,7 +268,7 @@ led_ends lang D line0 i0 lines start line i rest now led seen new r c = record {
 
 -- no other line has come
 pub led_breaks : {T E : Type 0} (lang : Language)
-    → (D line0 : ℕ) (i0 : Index) (lines : List (List ℕ)) (start : Moment) (line : ℕ) (i : Index) (rest : List (List ℕ)) (now : Moment)
+    → (D line0 : ℕ) (i0 : Index) (lines : List (List ℕ)) (start : LineMoment) (line : ℕ) (i : Index) (rest : List (List ℕ)) (now : LineMoment)
     → Led lang D line0 i0 lines start line i rest now
     → (e : E) → Leads {T = T} lang line0 i0 lines start now (Err e)
 led_breaks lang D line0 i0 lines start line i rest now led e = record {

@@ -4,7 +4,6 @@ pub mod Going
 pub mod Lined
 pub mod SoFar
 pub mod Opened
-pub mod Sizes
 pub mod Calling
 pub mod Scoped
 pub mod Asking

@@ -17,11 +17,10 @@ use Rattle.commit_list.specs.CommitFiles.{IsCommitFile}
 use Rattle.script_run.specs.Origins.{IsFrom}
 use Rattle.script_run.specs.declared.origin.Origin.{Origin}
 use Rattle.script_run.specs.declared.origin.Origin.TheVariants as origin
-use Rattle.script_run.proofs.Ending.{rose_from}
 use Rattle.script_run.proofs.Opened.{none_stored, some_stored}
-use Rattle.run_status.specs.Sent.{IsCut, IsSent}
-use Rattle.script_run.specs.LineAnswers.{Answers, IsAnswered, Line, Replies, answer_to_line, stored_by_line}
-use Rattle.script_run.specs.Progress.{Place, Progress, start}
+use Rattle.run_status.specs.Sent.{IsSentPart, IsSent}
+use Rattle.script_run.specs.LineAnswers.{SendsReply, IsAnswered, Line, Replies, answer_to_line, stored_by_line}
+use Rattle.script_run.specs.Progress.{ScriptPlace, Progress, start}
 use Rattle.run_status.specs.Ends.{HasStopCause}
 use Rattle.script_run.specs.Runs.{EndsLines, EndsRead, Halts}
 use Rattle.script_run.specs.declared.halt.Halt.{Halt}
@@ -32,11 +31,13 @@ use Rattle.script_run.proofs.Going.{one_more, ends_from, halts_from, halts_here,
 use Rattle.script_run.specs.Languages.{answer, meaning}
 use Rattle.script_run.specs.declared.language.Language.{Language}
 use Rattle.script_run.proofs.SoFar.{place_on}
+use Rattle.run_status.proofs.Ending.{rose_from}
 
 -- ---- the beginning
 
 -- no session was opened
-pub unopened : (lang : Language) → (told : Type 0) (p : Place) (old files : Files) (new : List ℕ) (fault : PageFault) → FaultShows (λ _. ⊥) fault → files ≡ old
+pub unopened : (lang : Language) → (told : Type 0) (p : ScriptPlace) (old files : Files) (new : List ℕ) (fault : PageFault) → FaultShows (λ _. ⊥) fault
+    → files ≡ old
     → IsStored old p.stored
     → (result : Result ℕ Stop) → result ≡ Err (stop_of fault) → p.written ≡ new → EndsLines (meaning lang) told p files new result
 unopened lang told p old files new fault whole same keeps result is still = subst (EndsLines (meaning lang) told p files new) (sym is)
@@ -86,7 +87,7 @@ sent_as text other old new result same sent = subst (λ (w : List ℕ). IsSent w
 module _ {told : Type 0} (lang : Language) (D : ℕ) (l : Line) (files : Files) (s : SessionData) (before reply written new : List ℕ) (is_refused : Bool) where
   -- the answer was sent, or a part of it
   pub sent_answers : before ≡ [] → Replies lang D l files s before reply (Ok is_refused) → (result : Result Bool Stop) → IfOk result (λ x. x ≡ is_refused)
-      → OnErr result (IsErrOf result stop.SinkFault) → (told → IsSent reply written new result) → Answers lang told D l files s written new result
+      → OnErr result (IsErrOf result stop.SinkFault) → (told → IsSent reply written new result) → SendsReply lang told D l files s written new result
   sent_answers none a (Ok x) known cause sent =
       subst (λ y. IsAnswered D (answer_to_line lang l) (stored_by_line lang l) files s y × (told → new ≡ written ++ (answer_to_line lang l).text)) (sym known)
       (a.0, λ t. sent t ∙ ap (λ w. written ++ w) (a.1 ∙ ap (λ w. w ++ (answer_to_line lang l).text) none))
@@ -100,11 +101,11 @@ module _ {told : Type 0} (lang : Language) (D : ℕ) (l : Line) (files : Files) 
 pub left_answers : (lang : Language)
     → (told : Type 0) (D : ℕ) (l : Line) (files : Files) (s : SessionData) (before reply written new : List ℕ) (fault : PageFault)
     → Replies lang D l files s before reply (Err fault)
-    → (result : Result Bool Stop) → result ≡ Err (stop_of fault) → new ≡ written → Answers lang told D l files s written new result
+    → (result : Result Bool Stop) → result ≡ Err (stop_of fault) → new ≡ written → SendsReply lang told D l files s written new result
 left_answers lang told D l files s before reply written new page.Failed left result is same =
-    subst (Answers lang told D l files s written new) (sym is) (left, λ t. same)
+    subst (SendsReply lang told D l files s written new) (sym is) (left, λ t. same)
 left_answers lang told D l files s before reply written new page.Memory left result is same =
-    subst (Answers lang told D l files s written new) (sym is) (left, λ t. same)
+    subst (SendsReply lang told D l files s written new) (sym is) (left, λ t. same)
 left_answers lang told D l files s before reply written new (page.Damaged damage) left result is same = absurd left
 
 pub only_sink : {T : Type 0} (result : Result T Stop) → OnErr result (IsErrOf result stop.SinkFault)
@@ -114,10 +115,10 @@ only_sink (Err e) h = inl h
 
 -- ---- lines where no index is there
 
-abbrev pub place_off : (line refused : ℕ) → (rest : List (List ℕ)) → (written : List ℕ) → Place
+abbrev pub place_off : (line refused : ℕ) → (rest : List (List ℕ)) → (written : List ℕ) → ScriptPlace
 place_off line refused rest written = record { line = line; refused = refused; state = None; stored = None; rest = rest; written = written }
 
-module _ {told : Type 0} (lang : Language) (from : Place) (line refused : ℕ) (ls : List (List ℕ)) (written : List ℕ)
+module _ {told : Type 0} (lang : Language) (from : ScriptPlace) (line refused : ℕ) (ls : List (List ℕ)) (written : List ℕ)
     (g : Progress (meaning lang) told from (place_off line refused ls written)) where
   -- one more line is done, and still no index is there
   pub first_goes_on : (new : List ℕ) (bytes : List ℕ) (rest : List (List ℕ)) → ls ≡ bytes ∷ rest → (count : ℕ)
@@ -155,11 +156,12 @@ module _ {told : Type 0} (lang : Language) (from : Place) (line refused : ℕ) (
       ends_from (meaning lang) from (place_off line refused ls written) g files written (Err stop.Memory)
       (stops_here (meaning lang) (place_off line refused ls written) files written (λ _. refl) (inl none))
 
-module _ {told : Type 0} (lang : Language) (from : Place) (files : Files) (line refused : ℕ) (ls : List (List ℕ)) (written new : List ℕ)
+module _ {told : Type 0} (lang : Language) (from : ScriptPlace) (files : Files) (line refused : ℕ) (ls : List (List ℕ)) (written new : List ℕ)
     (g : Progress (meaning lang) told from (place_off line refused ls written)) (none : IsStored files None) where
   first_stops : {T : Type 0} (bytes : List ℕ) (rest : List (List ℕ)) → ls ≡ bytes ∷ rest → (e : Stop)
       → IsErrOf {T = T} (Err e) stop.SinkFault ⊎ IsErrOf {T = T} (Err e) stop.Memory
-      → (told → IsCut (answer lang line None bytes).text written new e) → EndsLines (meaning lang) told (place_off line refused ls written) files new (Err e)
+      → (told → IsSentPart (answer lang line None bytes).text written new e)
+          → EndsLines (meaning lang) told (place_off line refused ls written) files new (Err e)
   first_stops bytes rest next stop.SinkFault cause sent = breaks_here (meaning lang) (place_off line refused ls written) files new bytes rest next sent none
   first_stops bytes rest next stop.Memory cause sent = stops_here (meaning lang) (place_off line refused ls written) files new sent (inl none)
   first_stops bytes rest next stop.FolderFault cause sent = absurd (elim cause as (λ _. ⊥) [ inl e ↦ cc | inr e ↦ cc ])
@@ -168,7 +170,7 @@ module _ {told : Type 0} (lang : Language) (from : Place) (files : Files) (line 
   -- the run stops at the next line
   pub stops_first : {T : Type 0} (bytes : List ℕ) (rest : List (List ℕ)) → ls ≡ bytes ∷ rest → (e : Stop)
       → IsErrOf {T = T} (Err e) stop.SinkFault ⊎ IsErrOf {T = T} (Err e) stop.Memory
-      → (told → IsCut (answer lang line None bytes).text written new e) → EndsLines (meaning lang) told from files new (Err e)
+      → (told → IsSentPart (answer lang line None bytes).text written new e) → EndsLines (meaning lang) told from files new (Err e)
   stops_first {T} bytes rest next e cause sent =
       ends_from (meaning lang) from (place_off line refused ls written) g files new (Err e) (first_stops {T = T} bytes rest next e cause sent)
 
@@ -204,17 +206,6 @@ page_still {T = T} f (Err (page.Damaged damage)) only = let e : IsErrOf {T = T} 
 
 -- of a run
 
-by_fault : {S T : Type 0} (f0 f1 k : ℕ) (fault : PageFault) → HasPageCause {T = S} f0 f1 (Err fault) → HasStopCause {T = T} f0 f1 k k (Err (stop_of fault))
-by_fault f0 f1 k page.Failed h = record { folder_later = h.later; sink_later = omega arith; folder = λ e. h.failed refl; sink = λ e. absurd cc }
-by_fault f0 f1 k page.Memory h = record { folder_later = h.later; sink_later = omega arith; folder = λ e. absurd cc; sink = λ e. absurd cc }
-by_fault f0 f1 k (page.Damaged damage) h = record { folder_later = h.later; sink_later = omega arith; folder = λ e. absurd cc; sink = λ e. absurd cc }
-
--- a fault that stops a run raised the folder's count, where it is the folder's
-pub fault_cause : {S T : Type 0} (f0 f1 k : ℕ) (fault : PageFault) → HasPageCause {T = S} f0 f1 (Err fault) → (result : Result T Stop)
-    → result ≡ Err (stop_of fault)
-    → HasStopCause f0 f1 k k result
-fault_cause {S} {T} f0 f1 k fault h result is = subst (HasStopCause f0 f1 k k) (sym is) (by_fault {S = S} {T = T} f0 f1 k fault h)
-
 -- what was sent after the folder was done with
 pub send_cause : {S T : Type 0} (f0 f1 k0 k1 : ℕ) (x : S) → HasPageCause f0 f1 (Ok x) → (result : Result T Stop) → OnErr result (IsErrOf result stop.SinkFault)
     → k0 ≤ k1
@@ -248,13 +239,4 @@ cause_on f0 f1 f2 k0 k1 k2 result same later h = record {
   sink_later = omega (arith, later, h.sink_later);
   folder = λ e. subst (λ (n : ℕ). Rose n f2) same (h.folder e);
   sink = λ e. rose_from k0 k1 k2 later (h.sink e);
-}
-
--- the same stop of another call
-pub cause_to : {S T : Type 0} (f0 f1 k0 k1 : ℕ) (e : Stop) → HasStopCause {T = S} f0 f1 k0 k1 (Err e) → HasStopCause {T = T} f0 f1 k0 k1 (Err e)
-cause_to f0 f1 k0 k1 e h = record {
-  folder_later = h.folder_later;
-  sink_later = h.sink_later;
-  folder = λ w. let same : e ≡ stop.FolderFault = cc in h.folder (ap (λ (f : Stop). Err f) same);
-  sink = λ w. let same : e ≡ stop.SinkFault = cc in h.sink (ap (λ (f : Stop). Err f) same);
 }

@@ -11,7 +11,7 @@ use Rattle.stored_index.specs.Stored.{IsStored, index_of}
 use Rattle.stored_index.proofs.Whole.{held_for}
 use Rattle.segment_set.specs.Seen.{Sees}
 use Rattle.index_core.specs.Sessions.{SessionData, Guards}
-use Rattle.script_run.specs.LineAnswers.{Stands}
+use Rattle.script_run.specs.LineAnswers.{IsSessionOf}
 
 -- a folder without a Commit file stores no index
 pub none_stored : (files : Files) (state : State) → files Commit ≡ None → IsStored files state → state ≡ None
@@ -28,7 +28,7 @@ some_stored files c state says h =
 -- a new session stands over files without a Commit file
 pub made_stands : (D dims leaf : ℕ) (files : Files) (s : SessionData) (i : Index) (stored : State) → dims ≡ D → Sees D files s.set (new_index D leaf)
     → (files Commit ≡ None → Guards D files s)
-    → (files Commit ≡ None) × (i ≡ new_index dims leaf) × (stored ≡ None) → Stands D files s i stored
+    → (files Commit ≡ None) × (i ≡ new_index dims leaf) × (stored ≡ None) → IsSessionOf D files s i stored
 made_stands D dims leaf files s i stored d seen guards h = record {
   seen = subst (Sees D files s.set) (sym (h.1 ∙ ap (λ n. new_index n leaf) d)) seen;
   guards = guards h.0;
@@ -38,7 +38,7 @@ made_stands D dims leaf files s i stored d seen guards h = record {
 -- one that is attached stands over the files, which stay
 pub attached_stands : (D : ℕ) (old new : Files) (i : Index) (stored : State) (result : Result SessionData PageFault) → IfOk result (λ s. Sees D old s.set i)
     → IfOk result (Guards D old)
-    → new ≡ old → IsStored old (Some i) → stored ≡ Some i → IfOk result (λ s. Stands D new s i stored)
+    → new ≡ old → IsStored old (Some i) → stored ≡ Some i → IfOk result (λ s. IsSessionOf D new s i stored)
 attached_stands D old new i stored (Err e) seen guards same h is = tt
 attached_stands D old new i stored (Ok s) seen guards same h is =
-    subst (λ f. Stands D f s i stored) (sym same) (record { seen = seen; guards = guards; keeps = subst (IsStored old) (sym is) h })
+    subst (λ f. IsSessionOf D f s i stored) (sym same) (record { seen = seen; guards = guards; keeps = subst (IsStored old) (sym is) h })

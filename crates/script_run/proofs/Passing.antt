@@ -29,7 +29,7 @@ use Rattle.index_model.specs.Script.{Answer, answer_to}
 use Rattle.index_model.specs.declared.session.Applied.{Applied}
 use Rattle.index_model.specs.declared.session.Applied.TheVariants as applied
 use Rattle.segment_view.specs.Costs.{AreTouched}
-use Rattle.segment_view.specs.Parts.{Contents, Part, heads_of}
+use Rattle.segment_view.specs.LiveSegments.{Contents, LiveSegment, heads_of}
 use Rattle.segment_set.specs.Sets.{NamedView, SetData, buffer_in, parts_in, view_of, viewed_parts}
 use Rattle.segment_set.specs.Seen.{Sees, ShowsSnapshot, entries_seen}
 use Rattle.index_core.specs.Costs.{ReadsNear, ReadsTouched}
@@ -41,9 +41,9 @@ use Rattle.explain_queries.proofs.Explaining.{reach_is}
 use Rattle.explain_queries.proofs.There.{are_nearest, there, there_found}
 use Rattle.index_core.proofs.Undone.{begins_none}
 use Rattle.script_run.specs.Costs.{TouchesOn, TouchesHeard, TouchesView, given_of, is_query}
-use Rattle.script_run.specs.Leads.{HasRoom, Passes, Moment, StaysFew}
+use Rattle.script_run.specs.Leads.{HasRoom, Passes, LineMoment, StaysFew}
 use Rattle.script_run.proofs.Asking.{Asks, IsRefusal, asked, begin_refused, full_of, full_or_given, light_gives, read_state, refusal_state, unread_state}
-use Rattle.script_run.specs.Languages.{Heard, answer, heard}
+use Rattle.script_run.specs.Languages.{LineRequest, answer, line_request}
 use Rattle.script_run.specs.declared.language.Language.{Language}
 use Rattle.range_docs.specs.declared.faults.RangeFault.{RangeFault}
 use Rattle.script_run.proofs.RequestsDone.{no, IsApplied, not_done, a_refusal, refused_still, looks_still}
@@ -95,12 +95,12 @@ module _ (D : ℕ) (files : Files) (s : SetData) (i : Index) (seen : Sees D file
         (found_shows seen.contents s.next heads name s.snapshots i.snapshots seen.snapshots looks.snapshots) reads is
 
   module _ (k : ℕ) (at : List ℤ) (n : ℕ) where
-    abbrev ReadsNearest : List Part → List Item → Type 0
+    abbrev ReadsNearest : List LiveSegment → List Item → Type 0
     ReadsNearest parts buffer =
         (found : List Near) → IsNearest k (nears_of at (entries_seen seen.contents parts buffer)) found
         → (leaves : ℕ) → AreNearLeaves D at (bound_of k found) (heads_of parts) leaves → now ≤ before + leaves
 
-    near_some : (parts : List Part) (buffer : List Item) (docs : List Document) → AreDocs s.next (entries_seen seen.contents parts buffer) docs
+    near_some : (parts : List LiveSegment) (buffer : List Item) (docs : List Document) → AreDocs s.next (entries_seen seen.contents parts buffer) docs
         → heads_of parts ≡ heads → ReadsNearest parts buffer
         → AreNearLeaves i.dims at (reach k (nearest k at docs)) heads n → now ≤ before + n
     near_some parts buffer docs are same reads is =
@@ -137,7 +137,7 @@ module _ (D : ℕ) (files : Files) (s : SetData) (i : Index) (seen : Sees D file
 
 -- ---- reads
 
-module _ (D : ℕ) (told : Type 0) (is_told : told) (i : Index) (old new : Moment) (before after : List ℕ) (seen : Sees D old.files old.session.set i)
+module _ (D : ℕ) (told : Type 0) (is_told : told) (i : Index) (old new : LineMoment) (before after : List ℕ) (seen : Sees D old.files old.session.set i)
     (rested : i.begun ≡ false)
     (heads : List Head) (looks : LooksAt heads old.session.set) where
   full_reads : (points : List (List ℤ)) (result : Result Applied PageFault) → IsRefusal (step_on i (asks.Add points))
@@ -215,9 +215,9 @@ unchanged_room s u = let none : length s.set.buffer ≡ 0 = ap (λ (xs : List It
 
 -- a line that was read, and whose request the session did
 pub passes_applied : (lang : Language) → (D : ℕ) (told : Type 0) → told
-    → (line : ℕ) (i : Index) (bytes : List ℕ) (r : Request) (old new : Moment) (before after : List ℕ) (result : Result Applied PageFault)
+    → (line : ℕ) (i : Index) (bytes : List ℕ) (r : Request) (old new : LineMoment) (before after : List ℕ) (result : Result Applied PageFault)
     → Sees D old.files old.session.set i
-    → heard lang (Some D) bytes ≡ Ok r → IsApplied D told i r old new before after result → Passes lang D line i bytes old new result
+    → line_request lang (Some D) bytes ≡ Ok r → IsApplied D told i r old new before after result → Passes lang D line i bytes old new result
 passes_applied lang D told is_told line i bytes r old new before after result seen says a = record {
   canon = a.canon;
   levels = λ rested. levels_after D told i r old new before after result a (begins_none D old.files old.session.set i seen rested);
@@ -227,14 +227,14 @@ passes_applied lang D told is_told line i bytes r old new before after result se
       (begins_none D old.files old.session.set i seen rested) seen.given r result (asked lang is_query line i bytes r is ask) u a;
   reads = λ heads looks rested ask room n touches.
       reads_few D told is_told i old new before after seen rested heads looks line r result (asked lang is_light line i bytes r is ask)
-      (subst (λ (w : Answer). HasRoom old.session.set i w.state) answers room) a n (subst (λ (x : Heard). TouchesHeard (Some i) heads x n) is touches);
+      (subst (λ (w : Answer). HasRoom old.session.set i w.state) answers room) a n (subst (λ (x : LineRequest). TouchesHeard (Some i) heads x n) is touches);
   looks = λ heads looks rested ask room. subst (λ (w : Answer). OnOk result (StaysFew heads i w.state old.session.set new.session.set)) (sym answers)
       (stays_few D told is_told i old new before after seen rested heads looks line r result (asked lang is_light line i bytes r is ask)
       (subst (λ (w : Answer). HasRoom old.session.set i w.state) answers room) a);
 }
   where
-    is : heard lang (Some i.dims) bytes ≡ Ok r
-    is = ap (λ d. heard lang (Some d) bytes) seen.dims ∙ says
+    is : line_request lang (Some i.dims) bytes ≡ Ok r
+    is = ap (λ d. line_request lang (Some d) bytes) seen.dims ∙ says
 
     answers : answer lang line (Some i) bytes ≡ answer_to line (Some i) (step_on i r)
     answers = read_state lang line i bytes r is
@@ -245,7 +245,7 @@ fine_as P r (Err e) fine h = tt
 fine_as P (Ok x) (Ok y) fine h = h
 fine_as P (Err e) (Ok y) fine h = no (fine refl)
 
-pub passes_to : {S T E F : Type 0} (lang : Language) → (D line : ℕ) (i : Index) (bytes : List ℕ) (old new : Moment) (r : Result S E) (q : Result T F)
+pub passes_to : {S T E F : Type 0} (lang : Language) → (D line : ℕ) (i : Index) (bytes : List ℕ) (old new : LineMoment) (r : Result S E) (q : Result T F)
     → (is_ok q ≡ true → is_ok r ≡ true) → Passes lang D line i bytes old new r → Passes lang D line i bytes old new q
 passes_to lang D line i bytes old new r q fine p = record {
   canon = p.canon;
@@ -261,8 +261,9 @@ on_ok (Ok x) p = p
 on_ok (Err e) p = tt
 
 -- a line that can't be read is refused, and nothing is done
-pub passes_unread : {T E : Type 0} (lang : Language) → (D line : ℕ) (i : Index) (bytes : List ℕ) (f : RangeFault) (old : Moment) (r : Result T E) → i.dims ≡ D
-    → heard lang (Some D) bytes ≡ Err f → Passes lang D line i bytes old old r
+pub passes_unread : {T E : Type 0} (lang : Language) → (D line : ℕ) (i : Index) (bytes : List ℕ) (f : RangeFault) (old : LineMoment) (r : Result T E)
+    → i.dims ≡ D
+    → line_request lang (Some D) bytes ≡ Err f → Passes lang D line i bytes old old r
 passes_unread lang D line i bytes f old r dims fails = record {
   canon = brings_same D old.files old.files old.session.set.parts old.session.set.parts refl refl;
   levels = λ rested. on_ok r (inl refl);
@@ -272,12 +273,12 @@ passes_unread lang D line i bytes f old r dims fails = record {
   looks = λ heads looks rested ask room.
       on_ok r (record {
         looks = looks;
-        waits = let same = ap given_of (unread_state lang line i bytes f (ap (λ d. heard lang (Some d) bytes) dims ∙ fails)) in omega (arith, same);
+        waits = let same = ap given_of (unread_state lang line i bytes f (ap (λ d. line_request lang (Some d) bytes) dims ∙ fails)) in omega (arith, same);
       });
 }
 
 -- memory was wanting before anything was done
-pub passes_none : {T E : Type 0} (lang : Language) → (D line : ℕ) (i : Index) (bytes : List ℕ) (old : Moment) (e : E)
+pub passes_none : {T E : Type 0} (lang : Language) → (D line : ℕ) (i : Index) (bytes : List ℕ) (old : LineMoment) (e : E)
     → Passes {T = T} lang D line i bytes old old (Err e)
 passes_none lang D line i bytes old e = record {
   canon = brings_same D old.files old.files old.session.set.parts old.session.set.parts refl refl;

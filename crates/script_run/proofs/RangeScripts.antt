@@ -21,13 +21,13 @@ use Rattle.range_docs.specs.declared.ranges.Question.{Question}
 use Rattle.range_docs.proofs.Boxes.{box_answers}
 use Rattle.range_docs.proofs.Sound.{names_ranges}
 use Rattle.index_model.specs.State.{Index, State, viewed_docs}
-use Rattle.index_model.specs.Step.{answered, step_on}
+use Rattle.index_model.specs.Step.{query_outcome, step_on}
 use Rattle.index_model.specs.Script.{Answer, answer_to}
 use Rattle.stored_index.specs.Stored.{IsStored}
 use Rattle.run_status.specs.declared.status.Status.{Status}
 use Rattle.run_status.specs.declared.status.Status.TheVariants as status
 use Rattle.script_run.specs.Languages.{answer, answer_of, commits, meaning, read_in}
-use Rattle.script_run.specs.Progress.{Place, start}
+use Rattle.script_run.specs.Progress.{ScriptPlace, start}
 use Rattle.script_run.specs.RangeScript.{AreRanges, EndsRanges, HaveRanges, Test, range_answer, range_answer_of, range_script}
 use Rattle.script_run.specs.Runs.{Breaks, Ends, Finishes, InFlight, Stops, Waits}
 use Rattle.script_run.specs.Script.{Meaning, final, refused_in, state_after, stored_after, stored_by, text_of}
@@ -74,16 +74,16 @@ module _ (test : Test) (decides : Decides test) where
 
   found_same : (line : ℕ) (i : Index) (question : Question) (view : Viewed) (query : Region) → IsQuery (i.dims / 2) query → i.dims % 2 ≡ 0 → AreRanges (Some i)
       → answer_to line (Some i) (step_on i (asks.InBox view (box_for question query).lo (box_for question query).hi))
-      ≡ answer_to line (Some i) (answered i (viewed_docs view i) (λ docs. hits_text (hits (λ p. test question (range_of (i.dims / 2) p) query) docs)))
+      ≡ answer_to line (Some i) (query_outcome i (viewed_docs view i) (λ docs. hits_text (hits (λ p. test question (range_of (i.dims / 2) p) query) docs)))
   unfolding step_on
   found_same line i question view query request_in even h = by (viewed_docs view i) refl
     where
       by : (o : Option (List Document)) → viewed_docs view i ≡ o
           → answer_to line (Some i)
-          (answered i o (λ docs. hits_text (hits (in_box (record { lo = (box_for question query).lo; hi = (box_for question query).hi })) docs)))
-          ≡ answer_to line (Some i) (answered i o (λ docs. hits_text (hits (λ p. test question (range_of (i.dims / 2) p) query) docs)))
+          (query_outcome i o (λ docs. hits_text (hits (in_box (record { lo = (box_for question query).lo; hi = (box_for question query).hi })) docs)))
+          ≡ answer_to line (Some i) (query_outcome i o (λ docs. hits_text (hits (λ p. test question (range_of (i.dims / 2) p) query) docs)))
       by None is = refl
-      by (Some docs) is = ap (λ ns. answer_to line (Some i) (answered i (Some docs) (λ _. hits_text ns)))
+      by (Some docs) is = ap (λ ns. answer_to line (Some i) (query_outcome i (Some docs) (λ _. hits_text ns)))
           (hits_same (in_box (box_for question query)) (λ p. test question (range_of (i.dims / 2) p) query) (AreEnds (i.dims / 2))
           (box_tests question (i.dims / 2) query request_in) docs (viewed_ranges view i docs even h is))
 
@@ -177,7 +177,7 @@ module _ (A B : Meaning) (P : State → Type 0) (same : (line : ℕ) (s : State)
   flight_keeps files line s [] h f = (final s, f, rests s h)
   flight_keeps files line s (l ∷ ls) h f = (final (A.answer line s l).state, f.1, rests (A.answer line s l).state (keeps line s l h))
 
-  module _ (told : Type 0) (p : Place) (files : Files) (new : List ℕ) (state : P p.state) (stored : P p.stored) where
+  module _ (told : Type 0) (p : ScriptPlace) (files : Files) (new : List ℕ) (state : P p.state) (stored : P p.stored) where
     finishes_same : Finishes A told p files new → Finishes B told p files new
     finishes_same f = record {
       text = λ t. f.text t ∙ ap (λ w. p.written ++ w) (text_same p.line p.state p.rest state);

@@ -19,7 +19,7 @@ use Rattle.range_docs.proofs.Sound.{names_ranges}
 use Rattle.index_model.specs.State.{Index, Snapshot, State, at_rest, snapshot_of, viewed_docs}
 use Rattle.index_model.specs.Step.{Outcome, Refused, done_ok, step, step_on}
 use Rattle.index_model.specs.Script.{Answer, answer_to}
-use Rattle.script_run.specs.Languages.{Heard, answer, answer_of, heard, read_in}
+use Rattle.script_run.specs.Languages.{LineRequest, answer, answer_of, line_request, read_in}
 use Rattle.script_run.specs.RangeScript.{AreRanges, HaveRanges}
 use Rattle.script_run.specs.Script.{final}
 use Rattle.script_run.specs.declared.language.Language.TheVariants.{Ranges}

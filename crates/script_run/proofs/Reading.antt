@@ -5,7 +5,7 @@ use Rattle.outer_io.specs.Files.{Files}
 use Rattle.std.proofs.lemmas.Bool.{false≢true}
 use Rattle.script_lang.specs.Lines.{lines_of, words_of}
 use Rattle.index_model.specs.State.{Index, State}
-use Rattle.line_source.specs.Reader.{Gives, GivesLine, IsNew, KnowsEnd, kept, lines_left}
+use Rattle.line_source.specs.Reader.{Gives, GivesLine, IsUnread, KnowsEnd, kept_bytes, lines_left}
 use Rattle.line_source.specs.declared.reader.LineReader.{LineReader}
 use Rattle.line_source.proofs.Kept.{kept_reads, kept_text}
 use Rattle.range_docs.specs.Reading.{as_points, from_part, if_blank, range_read, read_range_words}
@@ -14,34 +14,34 @@ use Rattle.stored_index.specs.Kept.{SameKept}
 use Rattle.stored_index.proofs.KeptFiles.{kept_after, kept_itself}
 use Rattle.run_status.specs.declared.stop.Stop.{Stop}
 use Rattle.run_status.specs.declared.stop.Stop.TheVariants as stop
-use Rattle.script_run.specs.LineAnswers.{Answers, IsEnd, Stands}
+use Rattle.script_run.specs.LineAnswers.{SendsReply, IsEnd, IsSessionOf}
 use Rattle.script_run.specs.Costs.{NoneCommits, asks_commit}
-use Rattle.script_run.specs.Halted.{OfLines, OfSource, halted}
+use Rattle.script_run.specs.Halted.{OfLines, OfSource, halt_result}
 use Rattle.script_run.specs.declared.halt.Halt.{Halt}
-use Rattle.script_run.specs.Leads.{Closes, Leads, Passes, Moment}
+use Rattle.script_run.specs.Leads.{Closes, Leads, Passes, LineMoment}
 use Rattle.script_run.specs.Runs.{EndsLines, Halts}
 use Rattle.script_run.proofs.Leading.{Led, led_breaks, led_ends, led_first, led_on, led_stops}
 use Rattle.script_run.proofs.SoFar.{Goes, end_lines, ends_then, goes_first, goes_on, halts_at, line_at, memory_at, place_on, stops_at}
-use Rattle.script_run.specs.Languages.{heard, meaning, read_in}
+use Rattle.script_run.specs.Languages.{line_request, meaning, read_in}
 use Rattle.script_run.specs.declared.language.Language.{Language}
 use Rattle.script_run.specs.declared.language.Language.TheVariants.{Points, Ranges}
 
 -- what is kept of a line of ranges reads as it does
-kept_ranges : (dims : Option ℕ) (line : List ℕ) → range_read dims (kept line) ≡ range_read dims line
+kept_ranges : (dims : Option ℕ) (line : List ℕ) → range_read dims (kept_bytes line) ≡ range_read dims line
 unfolding range_read
 kept_ranges None line = ap (λ text. from_part text (λ words. read_range_words None (words_of words))) (kept_text line)
 kept_ranges (Some dims) line =
     (λ i. if dims % 2 == 0 then from_part (kept_text line i) (λ words. read_range_words (Some dims) (words_of words)) else if_blank (kept_reads None line i))
 
-kept_heard : (lang : Language) (dims : Option ℕ) (line : List ℕ) → heard lang dims (kept line) ≡ heard lang dims line
+kept_heard : (lang : Language) (dims : Option ℕ) (line : List ℕ) → line_request lang dims (kept_bytes line) ≡ line_request lang dims line
 unfolding read_in
 kept_heard Points dims line = ap (λ r. request_in (as_points r)) (kept_reads dims line)
 kept_heard Ranges dims line = ap request_in (kept_ranges dims line)
 
 -- what is kept of a line reads as it does
-pub reads_alike : (lang : Language) (dims : Option ℕ) (line bytes text : List ℕ) → bytes ≡ kept line → text ≡ bytes
-    → heard lang dims line ≡ heard lang dims text
-reads_alike lang dims line bytes text are is = sym (kept_heard lang dims line) ∙ ap (heard lang dims) (sym are) ∙ ap (heard lang dims) (sym is)
+pub reads_alike : (lang : Language) (dims : Option ℕ) (line bytes text : List ℕ) → bytes ≡ kept_bytes line → text ≡ bytes
+    → line_request lang dims line ≡ line_request lang dims text
+reads_alike lang dims line bytes text are is = sym (kept_heard lang dims line) ∙ ap (line_request lang dims) (sym are) ∙ ap (line_request lang dims) (sym is)
 
 -- ---- what was read
 
@@ -95,10 +95,10 @@ module _ (told : Type 0) (old : LineReader) (before : List ℕ) (r : LineReader)
       (so_far.lines ++ lines, λ t knows. ap (λ ls. so_far.lines ++ ls) (are t (so_far.ended t knows)) ∙ sym (so_far.whole t knows), f lines h)
 
 -- a reader that has read nothing has the source's lines
-pub new_knows : (r : LineReader) (left : List ℕ) → IsNew r → KnowsEnd r left
+pub new_knows : (r : LineReader) (left : List ℕ) → IsUnread r → KnowsEnd r left
 new_knows r left new e = absurd (false≢true (sym new.1 ∙ e))
 
-pub new_reader : (told : Type 0) (r : LineReader) (left : List ℕ) (P : List (List ℕ) → Type 0) → IsNew r → OfLines told r left P → OfSource told left P
+pub new_reader : (told : Type 0) (r : LineReader) (left : List ℕ) (P : List (List ℕ) → Type 0) → IsUnread r → OfLines told r left P → OfSource told left P
 new_reader told r left P new (lines, are, h) = (lines, λ t. are t (new_knows r left new) ∙ ap (λ b. lines_of (b ++ left)) new.0, h)
 
 -- the same lines, of which more is known
@@ -113,25 +113,26 @@ of_any told r left P h = (lines_left r left, λ t knows. refl, h (lines_left r l
 -- ---- lines in a session
 
 -- from a place on the lines so far were done, and more are left
-pub record Going (lang : Language) (told : Type 0) (D line0 refused0 : ℕ) (i : Index) (stored : State) (written0 : List ℕ) (start : Moment)
-    (lines : List (List ℕ)) (now : Moment) (line refused : ℕ) (more : List (List ℕ)) (written : List ℕ) : Type 0 where
+pub record Going (lang : Language) (told : Type 0) (D line0 refused0 : ℕ) (i : Index) (stored : State) (written0 : List ℕ) (start : LineMoment)
+    (lines : List (List ℕ)) (now : LineMoment) (line refused : ℕ) (more : List (List ℕ)) (written : List ℕ) : Type 0 where
   pub goes : Goes lang told D (place_on line0 refused0 i stored lines written0) now.files now.session line refused more written
   pub led : Led lang D line0 i lines start line goes.index more now
 
-pub going_first : (lang : Language) → (told : Type 0) (D line refused : ℕ) (i : Index) (stored : State) (written : List ℕ) (s : Moment) (more : List (List ℕ))
-    → Stands D s.files s.session i stored
+pub going_first : (lang : Language)
+    → (told : Type 0) (D line refused : ℕ) (i : Index) (stored : State) (written : List ℕ) (s : LineMoment) (more : List (List ℕ))
+    → IsSessionOf D s.files s.session i stored
     → Going lang told D line refused i stored written s more s line refused more written
 going_first lang told D line refused i stored written s more h = record {
   goes = goes_first lang D s.files s.session i stored line refused more written h;
   led = led_first lang D line i more s;
 }
 
-module _ (lang : Language) (told : Type 0) (D line0 refused0 : ℕ) (i : Index) (stored : State) (written0 : List ℕ) (start : Moment) (lines : List (List ℕ))
-    (now : Moment) (line refused : ℕ) (written : List ℕ) where
+module _ (lang : Language) (told : Type 0) (D line0 refused0 : ℕ) (i : Index) (stored : State) (written0 : List ℕ) (start : LineMoment) (lines : List (List ℕ))
+    (now : LineMoment) (line refused : ℕ) (written : List ℕ) where
   module _ (bytes : List ℕ) (more : List (List ℕ)) (g : Going lang told D line0 refused0 i stored written0 start lines now line refused (bytes ∷ more) written)
-      (new : Moment) (after : List ℕ) where
+      (new : LineMoment) (after : List ℕ) where
     pub going_on : (is_refused : Bool) (count : ℕ) → count ≡ refused + cond is_refused 1 0
-        → Answers lang told D (line_at line g.goes.index g.goes.stored bytes) new.files new.session written after (Ok is_refused)
+        → SendsReply lang told D (line_at line g.goes.index g.goes.stored bytes) new.files new.session written after (Ok is_refused)
         → Passes {T = Bool} {E = Stop} lang D line g.goes.index bytes now new (Ok is_refused)
         → Going lang told D line0 refused0 i stored written0 start lines new (line + 1) count more after
     going_on is_refused count counted answers passes = record {
@@ -141,7 +142,7 @@ module _ (lang : Language) (told : Type 0) (D line0 refused0 : ℕ) (i : Index) 
     }
 
     pub going_stops : {E : Type 0} (e : Stop) (d : E)
-        → Answers lang told D (line_at line g.goes.index g.goes.stored bytes) new.files new.session written after (Err e)
+        → SendsReply lang told D (line_at line g.goes.index g.goes.stored bytes) new.files new.session written after (Err e)
         → Passes {T = Bool} {E = Stop} lang D line g.goes.index bytes now new (Err e)
         → EndsLines (meaning lang) told (place_on line0 refused0 i stored lines written0) new.files after (Err e)
         × Leads {T = ℕ} lang line0 i lines start new (Err d)
@@ -170,7 +171,7 @@ module _ (lang : Language) (told : Type 0) (D line0 refused0 : ℕ) (i : Index) 
     )
 
   -- no line is left
-  pub going_ends : {E : Type 0} (g : Going lang told D line0 refused0 i stored written0 start lines now line refused [] written) (new : Moment)
+  pub going_ends : {E : Type 0} (g : Going lang told D line0 refused0 i stored written0 start lines now line refused [] written) (new : LineMoment)
       (done : Result ℕ Stop) (result : Result ℕ E)
       → IsEnd new.files g.goes.index g.goes.stored refused done → Closes D g.goes.index now new result
       → EndsLines (meaning lang) told (place_on line0 refused0 i stored lines written0) new.files written done × Leads lang line0 i lines start new result
@@ -181,11 +182,11 @@ module _ (lang : Language) (told : Type 0) (D line0 refused0 : ℕ) (i : Index) 
   )
 
 -- what was committed is so for lines that come from a source
-pub closes_halted : {T : Type 0} (D : ℕ) (i : Index) (old new : Moment) (done : Result T Stop) (result : Result T Halt) → result ≡ halted done
+pub closes_halted : {T : Type 0} (D : ℕ) (i : Index) (old new : LineMoment) (done : Result T Stop) (result : Result T Halt) → result ≡ halt_result done
     → Closes D i old new done → Closes D i old new result
 closes_halted {T} D i old new done result is h = subst (Closes D i old new) (sym is) (by_done done h)
   where
-    by_done : (done : Result T Stop) → Closes D i old new done → Closes D i old new (halted done)
+    by_done : (done : Result T Stop) → Closes D i old new done → Closes D i old new (halt_result done)
     by_done (Ok x) h = record { canon = h.canon; levels = h.levels; still = h.still; reads = h.reads }
     by_done (Err s) h = record { canon = λ first s listed brings. tt; levels = λ rested. tt; still = h.still; reads = h.reads }
 
@@ -197,7 +198,7 @@ pub quiet_first : (lang : Language) → (D : ℕ) (files : Files) → Quiet lang
 quiet_first lang D files = record { kept = λ more quiet. (kept_itself files, quiet) }
 
 pub quiet_on : (lang : Language) → (D : ℕ) (lines : List (List ℕ)) (line : List ℕ) (old now new : Files) → Quiet lang D lines old now
-    → (asks_commit (heard lang (Some D) line) ≡ false → SameKept now new) → Quiet lang D (lines ++ line ∷ []) old new
+    → (asks_commit (line_request lang (Some D) line) ≡ false → SameKept now new) → Quiet lang D (lines ++ line ∷ []) old new
 quiet_on lang D lines line old now new q same = record {
   kept = λ more quiet.
       let next = q.kept (line ∷ more) (subst (NoneCommits lang D) (append_assoc lines (line ∷ []) more) quiet) in

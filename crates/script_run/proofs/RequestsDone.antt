@@ -22,7 +22,7 @@ use Rattle.index_core.specs.Closed.{IsIdle}
 use Rattle.index_core.specs.Sessions.{IsStill, IsUnchanged, SessionData}
 use Rattle.index_core.specs.Steps.{DoesOver, KeepsOver, is_committing}
 use Rattle.script_run.specs.Costs.{is_query}
-use Rattle.script_run.specs.Leads.{Moment}
+use Rattle.script_run.specs.Leads.{LineMoment}
 use Rattle.script_run.proofs.Asking.{Asks, IsRefusal, begin_refused, full_of}
 use Rattle.script_run.proofs.Deciding.{idle_still, unchanged_or_not}
 
@@ -31,7 +31,7 @@ no e = cc
 
 -- ---- what a session did with a request
 
-pub record IsApplied (D : ℕ) (told : Type 0) (i : Index) (r : Request) (old new : Moment) (before after : List ℕ)
+pub record IsApplied (D : ℕ) (told : Type 0) (i : Index) (r : Request) (old new : LineMoment) (before after : List ℕ)
     (result : Result Applied PageFault) : Type 0 where
   pub does : DoesOver D new.files (step_on i r) i new.session.set before after result
   pub canon : BringsCanonical D old.files new.files old.session.set.parts new.session.set.parts
@@ -94,7 +94,7 @@ buffer_still s t stays = ap (λ (u : SetData). length u.buffer) stays.is
 
 -- ---- levels
 
-module _ (D : ℕ) (told : Type 0) (i : Index) (r : Request) (old new : Moment) (before after : List ℕ) where
+module _ (D : ℕ) (told : Type 0) (i : Index) (r : Request) (old new : LineMoment) (before after : List ℕ) where
   few_by : (b : Bool) (x : Applied) → ((why : Refusal) → x ≡ applied.Refused why → b ≡ true → ⊥)
       → KeepsOver {T = Applied} b old.files new.files new.session (Ok x)
       → (b ≡ true → IsUnchanged old.session → new.files ≡ old.files)
@@ -115,7 +115,7 @@ module _ (D : ℕ) (told : Type 0) (i : Index) (r : Request) (old new : Moment) 
 
 -- ---- files
 
-module _ (D : ℕ) (told : Type 0) (is_told : told) (i : Index) (old new : Moment) (before after : List ℕ) (rested : i.begun ≡ false)
+module _ (D : ℕ) (told : Type 0) (is_told : told) (i : Index) (old new : LineMoment) (before after : List ℕ) (rested : i.begun ≡ false)
     (none : old.session.set.begun ≡ None)
     (given : i.given ≡ old.session.set.given) where
   -- a request that the definition refuses ends with a fault, and no file changed

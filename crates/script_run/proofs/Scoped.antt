@@ -12,7 +12,7 @@ use Rattle.commit_list.proofs.CommitPages.{file_there, one_file}
 use Rattle.segment_file.specs.Heads.{Head}
 use Rattle.segment_file.specs.Segments.{IsHeadOf}
 use Rattle.segment_file.proofs.Unique.{head_of_segment}
-use Rattle.segment_view.specs.Parts.{Contents, IsRead, Part, heads_of}
+use Rattle.segment_view.specs.LiveSegments.{Contents, IsRead, LiveSegment, heads_of}
 use Rattle.index_model.specs.State.{Index, State}
 use Rattle.stored_index.specs.Stored.{HasHead, HaveHeads, HaveLive, IsStored, index_of}
 use Rattle.stored_index.specs.Segments.{live_sets}
@@ -25,15 +25,15 @@ use Rattle.segment_set.specs.Kept.{IsAtRest}
 use Rattle.explain_queries.specs.Explained.{AreStoredHeads, IsScope, Scope}
 use Rattle.explain_queries.specs.Explains.{IsExplaining}
 
-pub heads_zip : (D : ℕ) (files : Files) (c : Contents) (ls : List Listed) (ps : List Part) → All (IsRead D files c) ps
-    → map (λ (p : Part). p.head.id) ps ≡ map (λ (l : Listed). l.segment) ls
+pub heads_zip : (D : ℕ) (files : Files) (c : Contents) (ls : List Listed) (ps : List LiveSegment) → All (IsRead D files c) ps
+    → map (λ (p : LiveSegment). p.head.id) ps ≡ map (λ (l : Listed). l.segment) ls
     → AllZip (HasHead D files) ls (heads_of ps)
 heads_zip D files c [] [] reads same = tt
 heads_zip D files c [] (p ∷ ps) reads same = absurd cc
 heads_zip D files c (l ∷ ls) [] reads same = absurd cc
 heads_zip D files c (l ∷ ls) (p ∷ ps) reads same =
     let at : p.head.id ≡ l.segment = cc in
-    let later : map (λ (q : Part). q.head.id) ps ≡ map (λ (m : Listed). m.segment) ls = cc in
+    let later : map (λ (q : LiveSegment). q.head.id) ps ≡ map (λ (m : Listed). m.segment) ls = cc in
     let read = All-head (IsRead D files c) p ps reads in (
       record {
         id = at;

@@ -1,8 +1,8 @@
 -- What a damage shows that a run stops for or ends with, from what it shows where a call answered it.
-use Rattle.std.proofs.Common.{◌≡◌, ◌==◌, ℕ, Bool, true, false, List, [], None, Result, Ok, Err, IfOk, OnErr, IsErrOf, sym, subst, ◌⊎◌, inl, inr}
+use Rattle.std.proofs.Common.{◌≡◌, ℕ, List, [], None, Result, Ok, Err, IfOk, OnErr, IsErrOf, sym, subst, ◌⊎◌, inl, inr}
 use Rattle.std.specs.List.{Contains}
 use Rattle.documents.proofs.Lists.{nil_none}
-use Rattle.segment_view.specs.Parts.{Part}
+use Rattle.segment_view.specs.LiveSegments.{LiveSegment}
 use Rattle.outer_io.specs.declared.file_name.FileName.TheVariants.{Commit}
 use Rattle.outer_io.specs.Files.{Files, bytes_of}
 use Rattle.page_cache.specs.declared.faults.Damage.{Damage}
@@ -19,7 +19,6 @@ use Rattle.run_status.specs.Ends.{OnStatusDamage, OnStopDamage}
 use Rattle.run_status.specs.Stops.{status_of, stop_of}
 use Rattle.run_status.specs.declared.stop.Stop.{Stop}
 use Rattle.run_status.specs.declared.stop.Stop.TheVariants as stop
-use Rattle.script_run.proofs.Ending.{counted}
 
 -- ---- where there is no damage
 
@@ -30,14 +29,6 @@ memory_shows P (Err page.Memory) only = tt
 memory_shows P (Err page.Failed) only = tt
 memory_shows {T} P (Err (page.Damaged d)) only = let e : IsErrOf {T = T} (Err (page.Damaged d)) page.Memory = only in absurd cc
 
--- nor is a fault of the sink
-pub sink_shows : {T : Type 0} (P : Damage → Type 0) (result : Result T Stop) → OnErr result (IsErrOf result stop.SinkFault) → OnStopDamage result P
-sink_shows P (Ok x) only = tt
-sink_shows P (Err stop.SinkFault) only = tt
-sink_shows P (Err stop.FolderFault) only = tt
-sink_shows P (Err stop.Memory) only = tt
-sink_shows {T} P (Err (stop.Damaged d)) only = let e : IsErrOf {T = T} (Err (stop.Damaged d)) stop.SinkFault = only in absurd cc
-
 -- a line where no index is there stops for one of these two
 pub first_shows : (S T : Type 0) (P : Damage → Type 0) (e : Stop) → IsErrOf {T = S} (Err e) stop.SinkFault ⊎ IsErrOf {T = S} (Err e) stop.Memory
     → OnStopDamage {T = T} (Err e) P
@@ -46,44 +37,7 @@ first_shows S T P stop.FolderFault cause = tt
 first_shows S T P stop.Memory cause = tt
 first_shows S T P (stop.Damaged d) cause = absurd (elim cause as (λ _. ⊥) [ inl e ↦ cc | inr e ↦ cc ])
 
--- all holds of a damage that isn't
-pub none_shows : {T : Type 0} (P : Damage → Type 0) (result : Result T Stop) → OnStopDamage result (λ _. ⊥) → OnStopDamage result P
-none_shows P (Ok x) h = tt
-none_shows P (Err stop.SinkFault) h = tt
-none_shows P (Err stop.FolderFault) h = tt
-none_shows P (Err stop.Memory) h = tt
-none_shows P (Err (stop.Damaged d)) h = absurd h
-
 -- ---- from a call to the end
-
-stop_shows : (T : Type 0) (P : Damage → Type 0) (fault : PageFault) → FaultShows P fault → OnStopDamage {T = T} (Err (stop_of fault)) P
-stop_shows T P page.Failed h = tt
-stop_shows T P page.Memory h = tt
-stop_shows T P (page.Damaged d) h = h
-
--- a run stops for a fault
-pub fault_shows : {T : Type 0} (P : Damage → Type 0) (fault : PageFault) → FaultShows P fault → (result : Result T Stop) → result ≡ Err (stop_of fault)
-    → OnStopDamage result P
-fault_shows {T} P fault h result is = subst (λ (r : Result T Stop). OnStopDamage r P) (sym is) (stop_shows T P fault h)
-
--- the same stop of another call
-pub same_stop : (S T : Type 0) (P : Damage → Type 0) (e : Stop) → OnStopDamage {T = S} (Err e) P → OnStopDamage {T = T} (Err e) P
-same_stop S T P stop.SinkFault h = tt
-same_stop S T P stop.FolderFault h = tt
-same_stop S T P stop.Memory h = tt
-same_stop S T P (stop.Damaged d) h = h
-
-counted_shows : (P : Damage → Type 0) (b : Bool) (count : ℕ) → OnStatusDamage (counted b count) P
-counted_shows P true count = tt
-counted_shows P false count = tt
-
--- the status of lines that stopped
-pub status_shows : (P : Damage → Type 0) (done : Result ℕ Stop) → OnStopDamage done P → OnStatusDamage (status_of done) P
-status_shows P (Ok count) h = counted_shows P (count == 0) count
-status_shows P (Err stop.SinkFault) h = tt
-status_shows P (Err stop.FolderFault) h = tt
-status_shows P (Err stop.Memory) h = tt
-status_shows P (Err (stop.Damaged d)) h = h
 
 pub fault_status : (P : Damage → Type 0) (fault : PageFault) → FaultShows P fault → OnStatusDamage (status_of (Err (stop_of fault))) P
 fault_status P page.Failed h = tt
@@ -125,5 +79,5 @@ pub bare_trusts : (D : ℕ) (files : Files) (s : SessionData) → (files Commit 
 bare_trusts D files s guards faithful bare none = record {
   guards = guards none;
   faithful = faithful;
-  traced = λ p there. nil_none p (IsTraced D files p) (subst (λ (ps : List Part). Contains ps p) bare there);
+  traced = λ p there. nil_none p (IsTraced D files p) (subst (λ (ps : List LiveSegment). Contains ps p) bare there);
 }

@@ -9,8 +9,8 @@ use Rattle.stored_index.specs.Stored.{IsStored}
 use Rattle.stored_index.specs.Kept.{SameKept}
 use Rattle.stored_index.proofs.KeptFiles.{stored_still}
 use Rattle.index_core.specs.Sessions.{SessionData}
-use Rattle.script_run.specs.LineAnswers.{Answers, IsEnd, Line, Stands}
-use Rattle.script_run.specs.Progress.{Place, Progress}
+use Rattle.script_run.specs.LineAnswers.{SendsReply, IsEnd, Line, IsSessionOf}
+use Rattle.script_run.specs.Progress.{ScriptPlace, Progress}
 use Rattle.script_run.specs.Runs.{EndsLines, Halts}
 use Rattle.run_status.specs.Stops.{stop_of}
 use Rattle.run_status.specs.declared.stop.Stop.{Stop}
@@ -21,20 +21,20 @@ use Rattle.script_run.specs.Script.{stored_by}
 use Rattle.script_run.specs.declared.language.Language.{Language}
 
 -- a place where an index is there
-abbrev pub place_on : (line refused : ℕ) → Index → (stored : State) → (rest : List (List ℕ)) → (written : List ℕ) → Place
+abbrev pub place_on : (line refused : ℕ) → Index → (stored : State) → (rest : List (List ℕ)) → (written : List ℕ) → ScriptPlace
 place_on line refused i stored rest written = record { line = line; refused = refused; state = Some i; stored = stored; rest = rest; written = written }
 
 -- from a place on the lines so far were done as the script says, and the session stands where they led
-pub record Goes (lang : Language) (told : Type 0) (D : ℕ) (from : Place) (files : Files) (s : SessionData) (line refused : ℕ) (rest : List (List ℕ))
+pub record Goes (lang : Language) (told : Type 0) (D : ℕ) (from : ScriptPlace) (files : Files) (s : SessionData) (line refused : ℕ) (rest : List (List ℕ))
     (written : List ℕ) : Type 0 where
   pub index : Index
   pub stored : State
-  pub stands : Stands D files s index stored
+  pub stands : IsSessionOf D files s index stored
   pub progress : Progress (meaning lang) told from (place_on line refused index stored rest written)
 
 abbrev pub goes_first : {told : Type 0} (lang : Language)
     → (D : ℕ) (files : Files) (s : SessionData) (i : Index) (stored : State) (line refused : ℕ) (rest : List (List ℕ)) (written : List ℕ)
-    → Stands D files s i stored → Goes lang told D (place_on line refused i stored rest written) files s line refused rest written
+    → IsSessionOf D files s i stored → Goes lang told D (place_on line refused i stored rest written) files s line refused rest written
 goes_first lang D files s i stored line refused rest written h = record {
   index = i;
   stored = stored;
@@ -45,12 +45,12 @@ goes_first lang D files s i stored line refused rest written h = record {
 abbrev pub line_at : ℕ → Index → State → List ℕ → Line
 line_at number i stored bytes = record { number = number; index = i; stored = stored; bytes = bytes }
 
-module _ {told : Type 0} (lang : Language) (D : ℕ) (from : Place) (old files : Files) (s t : SessionData) (line refused : ℕ) (ls : List (List ℕ))
+module _ {told : Type 0} (lang : Language) (D : ℕ) (from : ScriptPlace) (old files : Files) (s t : SessionData) (line refused : ℕ) (ls : List (List ℕ))
     (written new : List ℕ)
     (g : Goes lang told D from old s line refused ls written) where
   -- one more line is done
   abbrev pub goes_on : (bytes : List ℕ) (rest : List (List ℕ)) → ls ≡ bytes ∷ rest → (is_refused : Bool) (count : ℕ) → count ≡ refused + cond is_refused 1 0
-      → Answers lang told D (line_at line g.index g.stored bytes) files t written new (Ok is_refused)
+      → SendsReply lang told D (line_at line g.index g.stored bytes) files t written new (Ok is_refused)
       → Goes lang told D from files t (line + 1) count rest new
   goes_on bytes rest next is_refused count counted a = record {
     index = a.0.index;
@@ -61,7 +61,7 @@ module _ {told : Type 0} (lang : Language) (D : ℕ) (from : Place) (old files :
         (counted ∙ ap (λ n. refused + n) (sym a.0.refused)) a.1;
   }
 
-  line_stops : (bytes : List ℕ) (rest : List (List ℕ)) → (e : Stop) → Answers lang told D (line_at line g.index g.stored bytes) files t written new (Err e)
+  line_stops : (bytes : List ℕ) (rest : List (List ℕ)) → (e : Stop) → SendsReply lang told D (line_at line g.index g.stored bytes) files t written new (Err e)
       → EndsLines (meaning lang) told (place_on line refused g.index g.stored (bytes ∷ rest) written) files new (Err e)
   line_stops bytes rest stop.SinkFault a =
       breaks_here (meaning lang) (place_on line refused g.index g.stored (bytes ∷ rest) written) files new bytes rest refl a.1 a.0
@@ -71,7 +71,7 @@ module _ {told : Type 0} (lang : Language) (D : ℕ) (from : Place) (old files :
 
   -- the run stops at the next line
   pub stops_at : (bytes : List ℕ) (rest : List (List ℕ)) → ls ≡ bytes ∷ rest → (e : Stop)
-      → Answers lang told D (line_at line g.index g.stored bytes) files t written new (Err e)
+      → SendsReply lang told D (line_at line g.index g.stored bytes) files t written new (Err e)
       → EndsLines (meaning lang) told from files new (Err e)
   stops_at bytes rest next e a =
       ends_from (meaning lang) from (place_on line refused g.index g.stored ls written) g.progress files new (Err e)
@@ -89,7 +89,7 @@ module _ {told : Type 0} (lang : Language) (D : ℕ) (from : Place) (old files :
 
 -- no line is left, and what they leave ends the run
 pub ends_then : {told : Type 0} (lang : Language)
-    → (D : ℕ) (from : Place) (old : Files) (s : SessionData) (line refused : ℕ) (ls : List (List ℕ)) (written : List ℕ)
+    → (D : ℕ) (from : ScriptPlace) (old : Files) (s : SessionData) (line refused : ℕ) (ls : List (List ℕ)) (written : List ℕ)
     → (g : Goes lang told D from old s line refused ls written) → ls ≡ [] → (after : Files) (result : Result ℕ Stop)
     → EndsLines (meaning lang) told (place_on line refused g.index g.stored [] written) after written result
     → EndsLines (meaning lang) told from after written result

@@ -18,7 +18,7 @@ use Rattle.index_model.specs.State.{Index, Snapshot, State, new_index}
 use Rattle.stored_index.specs.Stored.{HasHead, HaveHeads, HaveLive}
 use Rattle.stored_index.specs.Opening.{segments_pages}
 use Rattle.stored_index.proofs.Parts.{heads_once}
-use Rattle.segment_view.specs.Parts.{Contents, Part, heads_of, live_in_parts}
+use Rattle.segment_view.specs.LiveSegments.{Contents, LiveSegment, heads_of, live_in_parts}
 use Rattle.segment_set.specs.Sets.{NamedView, SetData}
 use Rattle.segment_set.specs.Seen.{Sees, ShowsSnapshot}
 use Rattle.index_core.specs.Light.{KeepsLevels, LooksAt, is_light}
@@ -28,7 +28,7 @@ use Rattle.index_core.specs.Whole.{HasNewCanonical}
 use Rattle.index_core.proofs.Listed.{attached_listed}
 use Rattle.explain_queries.specs.Explained.{IsScope, Scope}
 use Rattle.script_run.specs.Costs.{AllAsk, AreLight, TouchesLines, begins_no_merge, given_of, is_query}
-use Rattle.script_run.specs.Leads.{AreListed, Leads, LeadsAll, LeadsFrom, Opens, Moment}
+use Rattle.script_run.specs.Leads.{AllListed, Leads, LeadsAll, LeadsFrom, Opens, LineMoment}
 use Rattle.run_status.specs.Ends.{IsAnswer}
 use Rattle.script_run.specs.Origins.{IsFrom}
 use Rattle.run_status.specs.Stops.{status_of}
@@ -76,14 +76,14 @@ pub opens_new : (D dims leaf : ℕ) (files : Files) (reads : ℕ) (s : SessionDa
     → IsFrom files (origin.New dims leaf) i stored → Opens (origin.New dims leaf) i stored files reads reads (Ok s)
 opens_new D dims leaf files reads s i stored d seen bare from = record {
   rested = ap (λ (j : Index). j.begun) from.1;
-  fresh = record { empty = no_entries (seen files); listed = λ p there apart. none_there p (subst (λ (ps : List Part). Contains ps p) bare there) };
+  fresh = record { empty = no_entries (seen files); listed = λ p there apart. none_there p (subst (λ (ps : List LiveSegment). Contains ps p) bare there) };
   idle = λ is. let e : None ≡ Some i = sym from.2 ∙ is in absurd cc;
   looks = λ scope is. looks_now D files s.set (new_index D leaf) scope.heads (seen files) refl
       (ap heads_of bare ∙ ap (λ (q : Scope). q.heads) (sym (none_scope files scope from.0 is)));
   reads = λ scope is. omega arith;
 }
   where
-    none_there : (p : Part) → Contains {X = Part} [] p → ⊥
+    none_there : (p : LiveSegment) → Contains {X = LiveSegment} [] p → ⊥
     none_there p there = nil_none p ⊥ there
 
     back_none : {X : Type 0} (xs ys : List X) → xs ++ ys ≡ [] → ys ≡ []
@@ -112,7 +112,7 @@ module _ (D : ℕ) (old new : Files) (before now : ℕ) (commit : CommitData) (i
   own_heads s sees guards u scope is =
       let last = subst (IsLast old s.set) u.is (guards.last u.done) in
       let one = one_file (bytes_of (old Commit)) u.commit commit last.says from.0 in
-      let ids = subst (λ (c : CommitData). map (λ (p : Part). p.head.id) s.set.parts ≡ map (λ (l : Listed). l.segment) c.listed) one u.same.ids in
+      let ids = subst (λ (c : CommitData). map (λ (p : LiveSegment). p.head.id) s.set.parts ≡ map (λ (l : Listed). l.segment) c.listed) one u.same.ids in
       heads_once old commit (heads_of s.set.parts) scope.heads
       (subst (λ n. AllZip (HasHead n old) commit.listed (heads_of s.set.parts)) (sym dims)
       (heads_zip D old sees.contents commit.listed s.set.parts sees.stands.now ids)) (scope_holds old commit scope from.0 is).heads
@@ -148,12 +148,12 @@ module _ {T : Type 0} {E : Type 0} (lang : Language) (o : Origin) (i : Index) (s
   })
 
   -- and the lines are done in it
-  pub open_leads : (s : SessionData) (new : Moment) (result : Result T E) → Opens o i stored old before between (Ok s)
+  pub open_leads : (s : SessionData) (new : LineMoment) (result : Result T E) → Opens o i stored old before between (Ok s)
       → Leads lang line i lines (record { files = middle; session = s; reads = between }) new result
       → LeadsFrom lang o i stored line lines old new.files before new.reads result
   open_leads s new result opens leads = record {
     canon = subst (λ (f : Files). OnOk result (HasNewCanonical f new.files)) same
-        (leads.canon (subst (λ (f : Files). AreListed f s.set) (sym same) opens.fresh.listed));
+        (leads.canon (subst (λ (f : Files). AllListed f s.set) (sym same) opens.fresh.listed));
     levels = λ asks. subst (λ (f : Files). OnOk result (KeepsLevels f new.files)) same (leads.levels opens.rested asks);
     still = λ there asks. leads.still opens.rested (opens.idle there) asks ∙ same;
     reads = λ scope is which n touches.

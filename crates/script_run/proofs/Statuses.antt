@@ -11,21 +11,21 @@ use Rattle.script_lang.specs.Lines.{lines_of}
 use Rattle.stored_index.specs.Kept.{SameKept}
 use Rattle.script_run.specs.Halted.{HasHaltCause, OfSource, OnHaltDamage, status_of_lines}
 use Rattle.script_run.specs.Kept.{HaltKeeps, ScriptKeeps, StatusKeeps}
-use Rattle.script_run.specs.Progress.{Place}
+use Rattle.script_run.specs.Progress.{ScriptPlace}
 use Rattle.script_run.specs.Runs.{Ends, EndsRead, EndsSession}
 use Rattle.script_run.specs.declared.halt.Halt.{Halt}
 use Rattle.script_run.specs.declared.halt.Halt.TheVariants as halt
 use Rattle.script_run.proofs.Calling.{stop_status}
-use Rattle.script_run.proofs.Ending.{counted, folder_stopped, never_damaged, sink_stopped, status_ends}
-use Rattle.script_run.proofs.Shown.{status_shows}
+use Rattle.script_run.proofs.Ending.{never_damaged, status_ends}
 use Rattle.script_run.proofs.Starting.{when_answered}
 use Rattle.script_run.specs.Script.{Meaning}
+use Rattle.run_status.proofs.Ending.{counted, folder_stopped, sink_stopped, status_shows}
 
 -- where the source tells its bytes the lines are its lines
 pub with_lines : (told : Type 0) (left : List ℕ) (P : List (List ℕ) → Type 0) → told → OfSource told left P → P (lines_of left)
 with_lines told left P t (lines, are, h) = subst P (are t) h
 
-module _ (m : Meaning) (told : Type 0) (p : Place) (files : Files) (new : List ℕ) where
+module _ (m : Meaning) (told : Type 0) (p : ScriptPlace) (files : Files) (new : List ℕ) where
   session_counted : (b : Bool) (count : ℕ) → Ends m told p files new (counted b count) → EndsSession m told p files new (counted b count)
   session_counted true count h = h
   session_counted false count h = h

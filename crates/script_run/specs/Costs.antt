@@ -21,7 +21,7 @@ use Rattle.nearest_query.specs.Segments.{AreNearLeaves}
 use Rattle.index_core.specs.Light.{is_light}
 use Rattle.index_core.specs.Steps.{is_committing}
 use Rattle.explain_queries.specs.Explained.{Scope, IsScope, reach}
-use Rattle.script_run.specs.Languages.{Heard, answer, heard, meaning}
+use Rattle.script_run.specs.Languages.{LineRequest, answer, line_request, meaning}
 use Rattle.script_run.specs.Script.{state_after}
 use Rattle.script_run.specs.declared.language.Language.{Language}
 
@@ -41,20 +41,20 @@ begins_no_merge (asks.MergeBegin positions) = false
 begins_no_merge _ = true
 
 -- what was read asks for a commit before the end
-abbrev pub asks_commit : Heard → Bool
+abbrev pub asks_commit : LineRequest → Bool
 asks_commit (Ok request) = is_committing request
 asks_commit (Err fault) = false
 
 -- none of these lines does, as an index of so many dimensions reads them
 abbrev pub NoneCommits : Language → (dims : ℕ) → List (List ℕ) → Type 0
 NoneCommits lang dims [] = Unit {0}
-NoneCommits lang dims (l ∷ ls) = (asks_commit (heard lang (Some dims) l) ≡ false) × NoneCommits lang dims ls
+NoneCommits lang dims (l ∷ ls) = (asks_commit (line_request lang (Some dims) l) ≡ false) × NoneCommits lang dims ls
 
 -- the line is refused, or what it asks for passes the test
 abbrev pub AsksOnly : Language → (Request → Bool) → (line : ℕ) → State → List ℕ → Type 0
 AsksOnly lang test line state bytes =
     ((answer lang line state bytes).refused ≡ 1)
-    ⊎ ((request : Request) × (heard lang (option_map (λ i. i.dims) state) bytes ≡ Ok request)
+    ⊎ ((request : Request) × (line_request lang (option_map (λ i. i.dims) state) bytes ≡ Ok request)
     × (test request ≡ true))
 
 -- each line of these does, the first of which has this number
@@ -84,13 +84,14 @@ TouchesOn i heads (asks.Nearest view k at) n =
     TouchesView (viewed_docs view i) (λ docs m. AreNearLeaves i.dims at (reach k (nearest k at docs)) heads m) n
 TouchesOn i heads _ n = n ≡ 0
 
-abbrev pub TouchesHeard : State → List Head → Heard → ℕ → Type 0
+abbrev pub TouchesHeard : State → List Head → LineRequest → ℕ → Type 0
 TouchesHeard None heads said n = n ≡ 0
 TouchesHeard (Some i) heads (Ok request) n = TouchesOn i heads request n
 TouchesHeard (Some i) heads (Err fault) n = n ≡ 0
 
 abbrev pub TouchesLine : Language → List Head → State → List ℕ → ℕ → Type 0
-TouchesLine lang heads state bytes n = TouchesHeard state heads (heard lang (option_map (λ i. i.dims) state) bytes) n
+TouchesLine lang heads state bytes n =
+    TouchesHeard state heads (line_request lang (option_map (λ i. i.dims) state) bytes) n
 
 -- lines, of which the first has this number, touch so many together
 abbrev pub TouchesLines : Language → List Head → (line : ℕ) → State → List (List ℕ) → ℕ → Type 0

@@ -14,9 +14,9 @@ use Rattle.script_run.specs.declared.halt.Halt.{Halt}
 use Rattle.script_run.specs.declared.halt.Halt.TheVariants as halt
 
 -- what stopped the lines, as that of lines that come from a source
-abbrev pub halted : {T : Type 0} → Result T Stop → Result T Halt
-halted (Ok x) = Ok x
-halted (Err s) = Err (halt.Stopped s)
+abbrev pub halt_result : {T : Type 0} → Result T Stop → Result T Halt
+halt_result (Ok x) = Ok x
+halt_result (Err s) = Err (halt.Stopped s)
 
 -- P holds of the lines' end, or Q holds where the source failed
 abbrev pub OnLines : {T : Type 0} → (P : Result T Stop → Type 0) → (Q : Type 0) → Result T Halt → Type 0

@@ -6,7 +6,7 @@ use Rattle.page_cache.specs.declared.faults.PageFault.{PageFault}
 use Rattle.segment_file.specs.Heads.{Head}
 use Rattle.index_model.specs.State.{Index, State}
 use Rattle.stored_index.specs.Opening.{segments_pages}
-use Rattle.segment_view.specs.Parts.{Part}
+use Rattle.segment_view.specs.LiveSegments.{LiveSegment}
 use Rattle.segment_set.specs.Sets.{IsSettled, SetData}
 use Rattle.index_core.specs.Effects.{BringsCanonical}
 use Rattle.index_core.specs.Light.{KeepsLevels, LooksAt, is_light}
@@ -22,7 +22,7 @@ use Rattle.script_run.specs.declared.origin.Origin.{Origin}
 use Rattle.script_run.specs.declared.origin.Origin.TheVariants as origin
 
 -- a session between two lines: with the files of its folder, and the folder's reads
-pub record Moment : Type 0 where
+pub record LineMoment : Type 0 where
   pub files : Files
   pub session : SessionData
   pub reads : ℕ
@@ -41,7 +41,7 @@ pub record StaysFew (heads : List Head) (i : Index) (after : State) (s t : SetDa
 -- From the one spot to the other a line is done, refused or left. Each segment that it writes is canonical. Where no
 -- merge is begun: a commit that is done lists few segments of each level; a query, or a line that is refused, changes
 -- no file; and one that needs no segment to be written reads the leaves that it touches.
-pub record Passes {T E : Type 0} (lang : Language) (D line : ℕ) (i : Index) (bytes : List ℕ) (old new : Moment)
+pub record Passes {T E : Type 0} (lang : Language) (D line : ℕ) (i : Index) (bytes : List ℕ) (old new : LineMoment)
     (result : Result T E) : Type 0 where
   pub canon : BringsCanonical D old.files new.files old.session.set.parts new.session.set.parts
   pub levels : i.begun ≡ false → OnOk result (KeepsLevels old.files new.files)
@@ -61,21 +61,21 @@ pub record Passes {T E : Type 0} (lang : Language) (D line : ℕ) (i : Index) (b
 -- ---- lines, and the commit at their end
 
 -- each of the segments is listed by the commit of the files
-abbrev pub AreListed : Files → SetData → Type 0
-AreListed files s = (p : Part) → Contains s.parts p → IsNewSegment files p.head.id → ⊥
+abbrev pub AllListed : Files → SetData → Type 0
+AllListed files s = (p : LiveSegment) → Contains s.parts p → IsNewSegment files p.head.id → ⊥
 
 -- what lines left is committed, and no file is left that the commit doesn't list, or that fails
-pub record Closes {T E : Type 0} (D : ℕ) (i : Index) (old new : Moment) (result : Result T E) : Type 0 where
-  pub canon : (first : Files) (s : SetData) → AreListed first s
+pub record Closes {T E : Type 0} (D : ℕ) (i : Index) (old new : LineMoment) (result : Result T E) : Type 0 where
+  pub canon : (first : Files) (s : SetData) → AllListed first s
       → BringsCanonical D first old.files s.parts old.session.set.parts → OnOk result (HasNewCanonical first new.files)
   pub levels : i.begun ≡ false → OnOk result (KeepsLevels old.files new.files)
   pub still : IsIdle old.session → new.files ≡ old.files
   pub reads : IsUnchanged old.session ⊎ IsSettled old.session.set → new.reads ≡ old.reads
 
 -- lines are done in a session and what they leave is committed, or it stops
-pub record Leads {T E : Type 0} (lang : Language) (line : ℕ) (i : Index) (lines : List (List ℕ)) (old new : Moment)
+pub record Leads {T E : Type 0} (lang : Language) (line : ℕ) (i : Index) (lines : List (List ℕ)) (old new : LineMoment)
     (result : Result T E) : Type 0 where
-  pub canon : AreListed old.files old.session.set → OnOk result (HasNewCanonical old.files new.files)
+  pub canon : AllListed old.files old.session.set → OnOk result (HasNewCanonical old.files new.files)
   pub levels : i.begun ≡ false → AllAsk lang begins_no_merge line (Some i) lines
       → OnOk result (KeepsLevels old.files new.files)
   pub still : i.begun ≡ false → IsIdle old.session → AllAsk lang is_query line (Some i) lines → new.files ≡ old.files
@@ -93,7 +93,7 @@ origin_pages files (origin.Stored commit) heads = segments_pages files commit.li
 -- nothing waits, and each segment is listed
 pub record IsFresh (files : Files) (s : SessionData) : Type 0 where
   pub empty : s.set.buffer ≡ []
-  pub listed : AreListed files s.set
+  pub listed : AllListed files s.set
 
 -- a session is opened on the index that comes from there, or that fails
 pub record Opens (o : Origin) (i : Index) (stored : State) (files : Files) (before now : ℕ)

@@ -22,7 +22,7 @@ use Rattle.script_run.specs.declared.answers.Opening.TheVariants as opening
 -- ---- where an index is there
 
 -- the session with these files is seen as the index, and the files store a state, which the session guards
-pub record Stands (D : ℕ) (files : Files) (s : SessionData) (i : Index) (stored : State) : Type 0 where
+pub record IsSessionOf (D : ℕ) (files : Files) (s : SessionData) (i : Index) (stored : State) : Type 0 where
   pub seen : Sees D files s.set i
   pub guards : Guards D files s
   pub keeps : IsStored files stored
@@ -46,12 +46,12 @@ pub record IsAnswered (D : ℕ) (a : Answer) (stored : State) (files : Files) (s
     : Type 0 where
   pub index : Index
   pub state : a.state ≡ Some index
-  pub stands : Stands D files s index stored
+  pub stands : IsSessionOf D files s index stored
   pub refused : a.refused ≡ cond is_refused 1 0
 
 -- the line was not done, but a commit that it asks for may have been
-abbrev pub IsLeft : Language → Line → Files → Type 0
-IsLeft lang l files = IsStored files l.stored ⊎ InFlight (meaning lang) files l.number (Some l.index) (l.bytes ∷ [])
+abbrev pub IsUndone : Language → Line → Files → Type 0
+IsUndone lang l files = IsStored files l.stored ⊎ InFlight (meaning lang) files l.number (Some l.index) (l.bytes ∷ [])
 
 -- the line is answered by an appended text, or left for a fault of the folder or want of memory
 abbrev pub Replies : Language → (D : ℕ) → Line → Files → SessionData → (before after : List ℕ) → Result Bool PageFault
@@ -59,21 +59,21 @@ abbrev pub Replies : Language → (D : ℕ) → Line → Files → SessionData �
 Replies lang D l files s before after (Ok is_refused) =
     IsAnswered D (answer_to_line lang l) (stored_by_line lang l) files s is_refused
     × (after ≡ before ++ (answer_to_line lang l).text)
-Replies lang D l files s before after (Err page.Failed) = IsLeft lang l files
-Replies lang D l files s before after (Err page.Memory) = IsLeft lang l files
+Replies lang D l files s before after (Err page.Failed) = IsUndone lang l files
+Replies lang D l files s before after (Err page.Memory) = IsUndone lang l files
 Replies lang D l files s before after (Err (page.Damaged damage)) = ⊥
 
 -- the same with the answer sent: where the sink failed a prefix of it went out
-abbrev pub Answers : Language → (told : Type 0) (D : ℕ) → Line → Files → SessionData → (before after : List ℕ)
+abbrev pub SendsReply : Language → (told : Type 0) (D : ℕ) → Line → Files → SessionData → (before after : List ℕ)
     → Result Bool Stop → Type 0
-Answers lang told D l files s before after (Ok is_refused) =
+SendsReply lang told D l files s before after (Ok is_refused) =
     IsAnswered D (answer_to_line lang l) (stored_by_line lang l) files s is_refused
     × (told → after ≡ before ++ (answer_to_line lang l).text)
-Answers lang told D l files s before after (Err stop.SinkFault) = IsStored files (stored_by_line lang l)
+SendsReply lang told D l files s before after (Err stop.SinkFault) = IsStored files (stored_by_line lang l)
     × (told → WritesPart before after (answer_to_line lang l).text)
-Answers lang told D l files s before after (Err stop.FolderFault) = IsLeft lang l files × (told → after ≡ before)
-Answers lang told D l files s before after (Err stop.Memory) = IsLeft lang l files × (told → after ≡ before)
-Answers lang told D l files s before after (Err (stop.Damaged damage)) = ⊥
+SendsReply lang told D l files s before after (Err stop.FolderFault) = IsUndone lang l files × (told → after ≡ before)
+SendsReply lang told D l files s before after (Err stop.Memory) = IsUndone lang l files × (told → after ≡ before)
+SendsReply lang told D l files s before after (Err (stop.Damaged damage)) = ⊥
 
 -- the end of a session: all is committed, or for a fault of the folder or want of memory it may be
 abbrev pub IsEnd : Files → Index → (stored : State) → (refused : ℕ) → Result ℕ Stop → Type 0
@@ -86,18 +86,18 @@ IsEnd files i stored refused (Err (stop.Damaged damage)) = ⊥
 -- ---- where no index is there
 
 -- the answer leaves this state, and says whether the line is refused
-pub record IsAnswer (answer : Answer) (after : State) (is_refused : Bool) : Type 0 where
+pub record IsAnswerOf (answer : Answer) (after : State) (is_refused : Bool) : Type 0 where
   pub state : answer.state ≡ after
   pub refused : answer.refused ≡ cond is_refused 1 0
 
-abbrev pub IsOpening : Answer → Opening → Type 0
-IsOpening answer (opening.Nothing refused) = IsAnswer answer None refused
-IsOpening answer (opening.Made dims leaf) = (answer.state ≡ Some (new_index dims leaf)) × (answer.refused ≡ 0)
+abbrev pub IsFirstAnswer : Answer → Opening → Type 0
+IsFirstAnswer answer (opening.Nothing refused) = IsAnswerOf answer None refused
+IsFirstAnswer answer (opening.Made dims leaf) = (answer.state ≡ Some (new_index dims leaf)) × (answer.refused ≡ 0)
 
 -- a new index has 1 to 8 dimensions, and leaves within the limits
 abbrev pub IsNew : (dims leaf : ℕ) → Type 0
 IsNew dims leaf = (1 ≤ dims) × (dims ≤ 8) × (2 ≤ leaf) × (leaf ≤ greatest_leaf dims)
 
-abbrev pub IsWithin : Opening → Type 0
-IsWithin (opening.Nothing refused) = Unit {0}
-IsWithin (opening.Made dims leaf) = IsNew dims leaf
+abbrev pub IsNewWithin : Opening → Type 0
+IsNewWithin (opening.Nothing refused) = Unit {0}
+IsNewWithin (opening.Made dims leaf) = IsNew dims leaf

@@ -15,9 +15,9 @@ dims_of (origin.New dims leaf) = dims
 dims_of (origin.Stored commit) = commit.dims
 
 -- a new index is within the limits
-abbrev pub IsMade : Origin → Type 0
-IsMade (origin.New dims leaf) = IsNew dims leaf
-IsMade (origin.Stored commit) = Unit {0}
+abbrev pub IsAllowed : Origin → Type 0
+IsAllowed (origin.New dims leaf) = IsNew dims leaf
+IsAllowed (origin.Stored commit) = Unit {0}
 
 -- a new index over files that have none, or the one that the files store, whose commit this is
 abbrev pub IsFrom : Files → Origin → Index → State → Type 0
@@ -26,6 +26,6 @@ IsFrom files (origin.Stored commit) i stored = IsCommitFile (bytes_of (files Com
     × (stored ≡ Some i)
 
 -- no index is there, or the folder's commit is this
-abbrev pub IsThere : Files → Origin → Type 0
-IsThere files (origin.New dims leaf) = files Commit ≡ None
-IsThere files (origin.Stored commit) = IsCommitFile (bytes_of (files Commit)) commit
+abbrev pub IsOriginOf : Files → Origin → Type 0
+IsOriginOf files (origin.New dims leaf) = files Commit ≡ None
+IsOriginOf files (origin.Stored commit) = IsCommitFile (bytes_of (files Commit)) commit

@@ -11,12 +11,12 @@ use Rattle.range_docs.specs.Reading.{Asks, Finds, RangeReading, RangeRequest, ra
 use Rattle.range_docs.specs.Replies.{range_fault_text}
 use Rattle.range_docs.specs.declared.ranges.Question.{Question}
 use Rattle.index_model.specs.State.{State, viewed_docs}
-use Rattle.index_model.specs.Step.{Outcome, Done, answered, step}
+use Rattle.index_model.specs.Step.{Outcome, Done, query_outcome, step}
 use Rattle.index_model.specs.Script.{Answer, answer_to}
 use Rattle.stored_index.specs.Stored.{IsStored}
 use Rattle.run_status.specs.declared.status.Status.{Status}
 use Rattle.script_run.specs.Languages.{commits}
-use Rattle.script_run.specs.Progress.{Place}
+use Rattle.script_run.specs.Progress.{ScriptPlace}
 use Rattle.script_run.specs.Runs.{Ends}
 use Rattle.script_run.specs.Script.{Meaning}
 use Rattle.script_run.specs.declared.language.Language.TheVariants.{Ranges}
@@ -30,7 +30,8 @@ abbrev pub step_on_ranges : Test → State → RangeRequest → Outcome
 step_on_ranges test state (Asks request) = step state request
 step_on_ranges test None (Finds question view query) = Done None []
 step_on_ranges test (Some i) (Finds question view query) =
-    answered i (viewed_docs view i) (λ docs. hits_text (hits (λ p. test question (range_of (i.dims / 2) p) query) docs))
+    query_outcome i (viewed_docs view i)
+        (λ docs. hits_text (hits (λ p. test question (range_of (i.dims / 2) p) query) docs))
 
 abbrev pub range_answer_of : Test → ℕ → State → RangeReading → Answer
 range_answer_of test line state (Ok request) = answer_to line state (step_on_ranges test state request)
@@ -55,6 +56,6 @@ AreRanges (Some i) = i.dims % 2 ≡ 0 → HaveRanges (i.dims / 2) i.docs
     × All (λ s. HaveRanges (i.dims / 2) s.docs) i.snapshots
 
 -- A run over ranges ends as a script whose test decides what is an answer, and what the folder stores are ranges again.
-pub record EndsRanges (told : Type 0) (p : Place) (files : Files) (new : List ℕ) (s : Status) : Type 0 where
+pub record EndsRanges (told : Type 0) (p : ScriptPlace) (files : Files) (new : List ℕ) (s : Status) : Type 0 where
   pub ends : (test : Test) → Decides test → Ends (range_script test) told p files new s
   pub ranges : (after : State) × IsStored files after × AreRanges after

@@ -6,7 +6,7 @@ use Rattle.index_model.specs.State.{State}
 use Rattle.script_run.specs.Script.{Meaning, text_of, state_after, refused_in, final, stored_after}
 use Rattle.stored_index.specs.Stored.{IsStored}
 use Rattle.script_run.specs.Halted.{OnLines}
-use Rattle.script_run.specs.Progress.{Place}
+use Rattle.script_run.specs.Progress.{ScriptPlace}
 use Rattle.script_run.specs.declared.halt.Halt.{Halt}
 use Rattle.run_status.specs.declared.stop.Stop.{Stop}
 use Rattle.run_status.specs.declared.stop.Stop.TheVariants as stop
@@ -15,7 +15,7 @@ use Rattle.run_status.specs.declared.status.Status.TheVariants as status
 
 -- the lines were done to their end: what was written is, line for line, the answers, and the folder stores what the
 -- lines leave
-pub record Finishes (m : Meaning) (told : Type 0) (p : Place) (files : Files) (new : List ℕ) : Type 0 where
+pub record Finishes (m : Meaning) (told : Type 0) (p : ScriptPlace) (files : Files) (new : List ℕ) : Type 0 where
   pub text : told → new ≡ p.written ++ text_of m p.line p.state p.rest
   pub stored : IsStored files (final (state_after m p.line p.state p.rest))
 
@@ -26,7 +26,7 @@ InFlight m files line state (l ∷ ls) = (m.commits state l ≡ true) × IsStore
 
 -- The folder failed, or memory was wanting: the answers of some lines went out whole, and nothing else. The folder
 -- stores what these lines have stored, or the commit in flight.
-pub record Stops (m : Meaning) (told : Type 0) (p : Place) (files : Files) (new : List ℕ) : Type 0 where
+pub record Stops (m : Meaning) (told : Type 0) (p : ScriptPlace) (files : Files) (new : List ℕ) : Type 0 where
   pub done : List (List ℕ)
   pub rest : List (List ℕ)
   pub whole : p.rest ≡ done ++ rest
@@ -36,7 +36,7 @@ pub record Stops (m : Meaning) (told : Type 0) (p : Place) (files : Files) (new 
 
 -- The sink failed at a line: the answers before it went out whole, and a prefix of its own. The folder stores what the
 -- lines up to it have stored.
-pub record Breaks (m : Meaning) (told : Type 0) (p : Place) (files : Files) (new : List ℕ) : Type 0 where
+pub record Breaks (m : Meaning) (told : Type 0) (p : ScriptPlace) (files : Files) (new : List ℕ) : Type 0 where
   pub done : List (List ℕ)
   pub at : List ℕ
   pub rest : List (List ℕ)
@@ -48,7 +48,7 @@ pub record Breaks (m : Meaning) (told : Type 0) (p : Place) (files : Files) (new
 
 -- The source failed: some first lines were done, each answered whole, and nothing else. No commit was done that none of
 -- them asked for.
-pub record Halts (m : Meaning) (told : Type 0) (p : Place) (files : Files) (new : List ℕ) : Type 0 where
+pub record Halts (m : Meaning) (told : Type 0) (p : ScriptPlace) (files : Files) (new : List ℕ) : Type 0 where
   pub done : List (List ℕ)
   pub rest : List (List ℕ)
   pub whole : p.rest ≡ done ++ rest
@@ -56,12 +56,12 @@ pub record Halts (m : Meaning) (told : Type 0) (p : Place) (files : Files) (new 
   pub stored : IsStored files (stored_after m p.line p.stored p.state done)
 
 -- no line was done
-pub record Waits (told : Type 0) (p : Place) (files : Files) (new : List ℕ) : Type 0 where
+pub record Waits (told : Type 0) (p : ScriptPlace) (files : Files) (new : List ℕ) : Type 0 where
   pub text : told → new ≡ p.written
   pub stored : IsStored files p.stored
 
 -- how a run ends whose folder stored a state: it never ends as damaged
-abbrev pub Ends : Meaning → (told : Type 0) → Place → Files → List ℕ → Status → Type 0
+abbrev pub Ends : Meaning → (told : Type 0) → ScriptPlace → Files → List ℕ → Status → Type 0
 Ends m told p files new status.Done = Finishes m told p files new × (p.refused + refused_in m p.line p.state p.rest ≡ 0)
 Ends m told p files new (status.SomeRefused count) = Finishes m told p files new × (0 < count)
     × (count ≡ p.refused + refused_in m p.line p.state p.rest)
@@ -75,7 +75,7 @@ Ends m told p files new status.TooLarge = Waits told p files new
 
 -- how a session ends whose folder stored a state: as a run does, but for a source that fails, and its input is never
 -- too large
-abbrev pub EndsSession : Meaning → (told : Type 0) → Place → Files → List ℕ → Status → Type 0
+abbrev pub EndsSession : Meaning → (told : Type 0) → ScriptPlace → Files → List ℕ → Status → Type 0
 EndsSession m told p files new status.Done = Ends m told p files new status.Done
 EndsSession m told p files new (status.SomeRefused count) = Ends m told p files new (status.SomeRefused count)
 EndsSession m told p files new status.FolderFault = Stops m told p files new
@@ -87,7 +87,7 @@ EndsSession m told p files new status.Usage = ⊥
 EndsSession m told p files new status.TooLarge = ⊥
 
 -- the same of lines alone: they are all answered, and so many were refused, or the run stops
-abbrev pub EndsLines : Meaning → (told : Type 0) → Place → Files → List ℕ → Result ℕ Stop → Type 0
+abbrev pub EndsLines : Meaning → (told : Type 0) → ScriptPlace → Files → List ℕ → Result ℕ Stop → Type 0
 EndsLines m told p files new (Ok count) = Finishes m told p files new
     × (count ≡ p.refused + refused_in m p.line p.state p.rest)
 EndsLines m told p files new (Err stop.FolderFault) = Stops m told p files new
@@ -96,5 +96,5 @@ EndsLines m told p files new (Err stop.SinkFault) = Breaks m told p files new
 EndsLines m told p files new (Err (stop.Damaged damage)) = ⊥
 
 -- and of lines that come from a source
-abbrev pub EndsRead : Meaning → (told : Type 0) → Place → Files → List ℕ → Result ℕ Halt → Type 0
+abbrev pub EndsRead : Meaning → (told : Type 0) → ScriptPlace → Files → List ℕ → Result ℕ Halt → Type 0
 EndsRead m told p files new result = OnLines (EndsLines m told p files new) (Halts m told p files new) result

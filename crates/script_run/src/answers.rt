@@ -14,10 +14,10 @@ ghost use Rattle.range_docs.specs.Replies.{range_fault_text};
 ghost use Rattle.script_lang.specs.Seen.{IsWithinLimits, request_of};
 ghost use Rattle.index_model.specs.State.{Index, State};
 ghost use Rattle.run_status.specs.Sent.{IsSent};
-ghost use Rattle.script_run.specs.LineAnswers.{Answers, IsOpening, IsWithin, Replies, Stands};
+ghost use Rattle.script_run.specs.LineAnswers.{SendsReply, IsFirstAnswer, IsNewWithin, Replies, IsSessionOf};
 ghost use Rattle.stored_index.specs.Kept.{SameKept};
 ghost use Rattle.script_run.specs.Costs.{asks_commit};
-ghost use Rattle.script_run.specs.Languages.{answer, heard};
+ghost use Rattle.script_run.specs.Languages.{answer, line_request};
 ghost use Rattle.script_run.specs.Leads.{Passes};
 ghost use Rattle.run_status.specs.Ends.{HasStopCause, OnStopDamage};
 
@@ -57,13 +57,16 @@ pub fn answer_line<const D: usize, R: Threads + Sync, F: Folder, K: Sink, G: Gat
     requires some { 1 ≤ D }
     requires few { D ≤ 8 }
     ensures answers { IsTrue F.told → (i : Index) → (stored : State)
-        → Stands D (F.files folder.old) session.old i stored
-        → (bytes : List ℕ) → heard work.now.language (Some D) bytes ≡ heard work.now.language (Some D) line.now
-        → Answers work.now.language (IsTrue K.told) D
+        → IsSessionOf D (F.files folder.old) session.old i stored
+        → (bytes : List ℕ)
+        → line_request work.now.language (Some D) bytes ≡ line_request work.now.language (Some D) line.now
+        → SendsReply work.now.language (IsTrue K.told) D
         (record { number = number; index = i; stored = stored; bytes = bytes }) (F.files folder.new) session.new
         (K.written out.old) (K.written out.new) result }
-    ensures passes { IsTrue F.told → (i : Index) → (stored : State) → Stands D (F.files folder.old) session.old i stored
-        → (bytes : List ℕ) → heard work.now.language (Some D) bytes ≡ heard work.now.language (Some D) line.now
+    ensures passes { IsTrue F.told → (i : Index) → (stored : State)
+        → IsSessionOf D (F.files folder.old) session.old i stored
+        → (bytes : List ℕ)
+        → line_request work.now.language (Some D) bytes ≡ line_request work.now.language (Some D) line.now
         → Passes work.now.language D number i bytes
         (record { files = F.files folder.old; session = session.old; reads = F.reads folder.old })
         (record { files = F.files folder.new; session = session.new; reads = F.reads folder.new }) result }
@@ -72,7 +75,7 @@ pub fn answer_line<const D: usize, R: Threads + Sync, F: Folder, K: Sink, G: Gat
     ensures trusts { IsTrue F.told → Trusts D (F.files folder.old) session.old
         → Trusts D (F.files folder.new) session.new }
     ensures kept { IsTrue F.told → Trusts D (F.files folder.old) session.old
-        → asks_commit (heard work.now.language (Some D) line.now) ≡ false
+        → asks_commit (line_request work.now.language (Some D) line.now) ≡ false
         → SameKept (F.files folder.old) (F.files folder.new) }
     ensures lasting { IsTrue F.told → Trusts D (F.files folder.old) session.old
         → KeepsCommit (F.files folder.old) (F.files folder.new) }
@@ -98,12 +101,15 @@ fn reply_to<const D: usize, R: Threads + Sync, F: Folder, G: Gate>(
     requires some { 1 ≤ D }
     requires few { D ≤ 8 }
     ensures replies { IsTrue F.told → (i : Index) → (stored : State)
-        → Stands D (F.files folder.old) session.old i stored
-        → (bytes : List ℕ) → heard work.now.language (Some D) bytes ≡ heard work.now.language (Some D) line.now
+        → IsSessionOf D (F.files folder.old) session.old i stored
+        → (bytes : List ℕ)
+        → line_request work.now.language (Some D) bytes ≡ line_request work.now.language (Some D) line.now
         → Replies work.now.language D (record { number = number; index = i; stored = stored; bytes = bytes })
         (F.files folder.new) session.new reply.old.items reply.new.items result }
-    ensures passes { IsTrue F.told → (i : Index) → (stored : State) → Stands D (F.files folder.old) session.old i stored
-        → (bytes : List ℕ) → heard work.now.language (Some D) bytes ≡ heard work.now.language (Some D) line.now
+    ensures passes { IsTrue F.told → (i : Index) → (stored : State)
+        → IsSessionOf D (F.files folder.old) session.old i stored
+        → (bytes : List ℕ)
+        → line_request work.now.language (Some D) bytes ≡ line_request work.now.language (Some D) line.now
         → Passes work.now.language D number i bytes
         (record { files = F.files folder.old; session = session.old; reads = F.reads folder.old })
         (record { files = F.files folder.new; session = session.new; reads = F.reads folder.new }) result }
@@ -111,7 +117,7 @@ fn reply_to<const D: usize, R: Threads + Sync, F: Folder, G: Gate>(
     ensures trusts { IsTrue F.told → Trusts D (F.files folder.old) session.old
         → Trusts D (F.files folder.new) session.new }
     ensures kept { IsTrue F.told → Trusts D (F.files folder.old) session.old
-        → asks_commit (heard work.now.language (Some D) line.now) ≡ false
+        → asks_commit (line_request work.now.language (Some D) line.now) ≡ false
         → SameKept (F.files folder.old) (F.files folder.new) }
     ensures lasting { IsTrue F.told → Trusts D (F.files folder.old) session.old
         → KeepsCommit (F.files folder.old) (F.files folder.new) }
@@ -136,12 +142,13 @@ fn obey<const D: usize, R: Threads + Sync, F: Folder, G: Gate>(
 ) -> Result<bool, PageFault>
     requires { IsWithinLimits (request_of command.now) }
     ensures replies { IsTrue F.told → (i : Index) → (stored : State)
-        → Stands D (F.files folder.old) session.old i stored
-        → (bytes : List ℕ) → heard work.now.language (Some D) bytes ≡ Ok (request_of command.now)
+        → IsSessionOf D (F.files folder.old) session.old i stored
+        → (bytes : List ℕ) → line_request work.now.language (Some D) bytes ≡ Ok (request_of command.now)
         → Replies work.now.language D (record { number = number; index = i; stored = stored; bytes = bytes })
         (F.files folder.new) session.new reply.old.items reply.new.items result }
-    ensures passes { IsTrue F.told → (i : Index) → (stored : State) → Stands D (F.files folder.old) session.old i stored
-        → (bytes : List ℕ) → heard work.now.language (Some D) bytes ≡ Ok (request_of command.now)
+    ensures passes { IsTrue F.told → (i : Index) → (stored : State)
+        → IsSessionOf D (F.files folder.old) session.old i stored
+        → (bytes : List ℕ) → line_request work.now.language (Some D) bytes ≡ Ok (request_of command.now)
         → Passes work.now.language D number i bytes
         (record { files = F.files folder.old; session = session.old; reads = F.reads folder.old })
         (record { files = F.files folder.new; session = session.new; reads = F.reads folder.new }) result }
@@ -192,8 +199,8 @@ pub fn answer_first<K: Sink>(
     reply: &mut Vec<u8>,
     out: &mut K,
 ) -> Result<Opening, Stop>
-    ensures opening { IfOk result (λ opening. IsOpening (answer language number None line.now) opening) }
-    ensures limits { IfOk result IsWithin }
+    ensures opening { IfOk result (λ opening. IsFirstAnswer (answer language number None line.now) opening) }
+    ensures limits { IfOk result IsNewWithin }
     ensures text { IsTrue K.told
         → IsSent (answer language number None line.now).text (K.written out.old) (K.written out.new) result }
     ensures sink { IsErrOf result Stop.SinkFault → Rose (K.faults out.old) (K.faults out.new) }
@@ -212,8 +219,8 @@ fn first_reply_to(
     line: &[u8],
     reply: &mut Vec<u8>,
 ) -> Result<Opening, Memory>
-    ensures opening { IfOk result (λ opening. IsOpening (answer language number None line.now) opening) }
-    ensures limits { IfOk result IsWithin }
+    ensures opening { IfOk result (λ opening. IsFirstAnswer (answer language number None line.now) opening) }
+    ensures limits { IfOk result IsNewWithin }
     ensures text { IfOk result (λ _. reply.new.items ≡ reply.old.items ++ (answer language number None line.now).text) }
 {
     match language.read_first(line) {

@@ -1,7 +1,7 @@
 //! Why lines that come from a source are not done to their end, and with which status they end.
 
 ghost use Rattle.std.specs.Prelude.{◌≡◌};
-ghost use Rattle.script_run.specs.Halted.{halted, status_of_lines};
+ghost use Rattle.script_run.specs.Halted.{halt_result, status_of_lines};
 
 use run_status::{Status, Stop, status_of};
 
@@ -15,8 +15,8 @@ pub enum Halt {
 }
 
 /// The same, of lines that come from a source.
-pub(crate) fn halted<T>(done: Result<T, Stop>) -> Result<T, Halt>
-    ensures { result ≡ halted done }
+pub(crate) fn halt_result<T>(done: Result<T, Stop>) -> Result<T, Halt>
+    ensures { result ≡ halt_result done }
 {
     match done {
         Ok(known) => Ok(known),

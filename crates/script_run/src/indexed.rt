@@ -6,18 +6,18 @@ ghost use Rattle.index_core.specs.Brought.{KeepsCommit};
 ghost use Rattle.index_core.specs.Sessions.{Trusts};
 ghost use Rattle.index_model.specs.State.{Index, State};
 ghost use Rattle.line_source.specs.Reader.{KnowsEnd};
-ghost use Rattle.script_run.specs.LineAnswers.{IsEnd, Stands};
+ghost use Rattle.script_run.specs.LineAnswers.{IsEnd, IsSessionOf};
 ghost use Rattle.script_run.specs.Costs.{NoneCommits};
 ghost use Rattle.script_run.specs.Halted.{HasHaltCause, HasSourceCause, OfLines, OnHaltDamage};
 ghost use Rattle.script_run.specs.Kept.{HaltKeeps, StopKeeps};
 ghost use Rattle.script_run.specs.Languages.{meaning};
 ghost use Rattle.script_run.specs.Leads.{Closes, Leads, LeadsFrom};
-ghost use Rattle.script_run.specs.Origins.{dims_of, IsFrom, IsMade, IsThere};
+ghost use Rattle.script_run.specs.Origins.{dims_of, IsFrom, IsAllowed, IsOriginOf};
 ghost use Rattle.script_run.specs.Runs.{EndsRead};
 ghost use Rattle.run_status.specs.Ends.{HasStopCause, OnStopDamage};
 
 use crate::answers::answer_line;
-use crate::halt::{Halt, halted};
+use crate::halt::{Halt, halt_result};
 use crate::lines::{Tally, Work};
 use crate::origin::{Origin, open};
 use bkd_build::Gate;
@@ -41,7 +41,7 @@ pub(crate) fn run_over<const D: usize, S: Source, R: Threads + Sync, F: Folder, 
     requires some { 1 ≤ D }
     requires few { D ≤ 8 }
     requires dims { dims_of origin ≡ D }
-    requires made { IsMade origin }
+    requires made { IsAllowed origin }
     requires refused { tally.refused ≤ tally.line }
     ensures does { IsTrue F.told
         → OfLines (IsTrue S.told) reader.old (S.left input.old)
@@ -63,16 +63,16 @@ pub(crate) fn run_over<const D: usize, S: Source, R: Threads + Sync, F: Folder, 
     ensures source { HasSourceCause (S.faults input.old) (S.faults input.new) result }
     ensures undone { IsTrue F.told
         → OfLines (IsTrue S.told) reader.old (S.left input.old)
-        (λ lines. IsThere (F.files folder.old) origin → NoneCommits work.now.language (dims_of origin) lines
+        (λ lines. IsOriginOf (F.files folder.old) origin → NoneCommits work.now.language (dims_of origin) lines
         → HaltKeeps (F.files folder.old) (F.files folder.new) result) }
-    ensures lasting { IsTrue F.told → IsThere (F.files folder.old) origin
+    ensures lasting { IsTrue F.told → IsOriginOf (F.files folder.old) origin
         → KeepsCommit (F.files folder.old) (F.files folder.new) }
     ensures evident { OnHaltDamage result
-        (IsEvident (IsTrue F.told × IsThere (F.files folder.old) origin) (F.files folder.new)) }
+        (IsEvident (IsTrue F.told × IsOriginOf (F.files folder.old) origin) (F.files folder.new)) }
 {
     match open::<D, F>(work.alloc, work.settings, origin, folder) {
         Ok(mut session) => run_made(work, &mut session, tally, reader, input, folder, out),
-        Err(fault) => halted(stopped(fault)),
+        Err(fault) => halt_result(stopped(fault)),
     }
 }
 
@@ -91,7 +91,7 @@ fn run_made<const D: usize, S: Source, R: Threads + Sync, F: Folder, K: Sink, G:
     requires refused { tally.refused ≤ tally.line }
     ensures does { IsTrue F.told
         → OfLines (IsTrue S.told) reader.old (S.left input.old)
-        (λ lines. (i : Index) → (stored : State) → Stands D (F.files folder.old) session.old i stored
+        (λ lines. (i : Index) → (stored : State) → IsSessionOf D (F.files folder.old) session.old i stored
         → EndsRead (meaning work.now.language) (IsTrue K.told) (record {
           line = tally.line;
           refused = tally.refused;
@@ -134,7 +134,7 @@ fn run_made<const D: usize, S: Source, R: Threads + Sync, F: Folder, K: Sink, G:
                 Ok(is_refused) => refused += u64::from(is_refused),
                 Err(stop) => return Err(Halt::Stopped(stop)),
             },
-            Ok(false) => return halted(finish(work, session, folder, refused)),
+            Ok(false) => return halt_result(finish(work, session, folder, refused)),
             Err(ReadFault::Failed) => return Err(Halt::Source),
             Err(ReadFault::Memory) => return Err(Halt::Stopped(Stop::Memory)),
         }
@@ -150,9 +150,11 @@ fn finish<const D: usize, R: Threads + Sync, F: Folder, G: Gate>(
     folder: &mut F,
     refused: u64,
 ) -> Result<u64, Stop>
-    ensures ends { IsTrue F.told → (i : Index) → (stored : State) → Stands D (F.files folder.old) session.old i stored
+    ensures ends { IsTrue F.told → (i : Index) → (stored : State)
+        → IsSessionOf D (F.files folder.old) session.old i stored
         → IsEnd (F.files folder.new) i stored refused result }
-    ensures closes { IsTrue F.told → (i : Index) → (stored : State) → Stands D (F.files folder.old) session.old i stored
+    ensures closes { IsTrue F.told → (i : Index) → (stored : State)
+        → IsSessionOf D (F.files folder.old) session.old i stored
         → Closes D i (record { files = F.files folder.old; session = session.old; reads = F.reads folder.old })
         (record { files = F.files folder.new; session = session.new; reads = F.reads folder.new }) result }
     ensures cause { (sink : ℕ) → HasStopCause (F.faults folder.old) (F.faults folder.new) sink sink result }

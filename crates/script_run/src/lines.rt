@@ -12,12 +12,12 @@ ghost use Rattle.script_run.specs.Halted.{HasHaltCause, HasSourceCause, OfLines,
 ghost use Rattle.script_run.specs.Kept.{AsksNoCommit, HaltKeeps};
 ghost use Rattle.script_run.specs.Languages.{meaning};
 ghost use Rattle.script_run.specs.Leads.{LeadsAll, LeadsFrom};
-ghost use Rattle.script_run.specs.Origins.{dims_of, IsFrom, IsMade, IsThere};
+ghost use Rattle.script_run.specs.Origins.{dims_of, IsFrom, IsAllowed, IsOriginOf};
 ghost use Rattle.script_run.specs.Progress.{start};
 ghost use Rattle.script_run.specs.Runs.{EndsRead};
 
 use crate::answers::{Opening, answer_first};
-use crate::halt::{Halt, halted};
+use crate::halt::{Halt, halt_result};
 use crate::indexed::run_over;
 use crate::language::Language;
 use crate::origin::Origin;
@@ -124,7 +124,7 @@ fn run_read<S: Source, R: Threads + Sync, F: Folder, K: Sink, G: Gate>(
                 out,
             )
         }
-        Err(fault) => halted(stopped(fault)),
+        Err(fault) => halt_result(stopped(fault)),
     }
 }
 
@@ -198,7 +198,7 @@ fn run_from<S: Source, R: Threads + Sync, F: Folder, K: Sink, G: Gate>(
     folder: &mut F,
     out: &mut K,
 ) -> Result<u64, Halt>
-    requires made { IsMade origin }
+    requires made { IsAllowed origin }
     requires refused { tally.refused ≤ tally.line }
     ensures does { IsTrue F.told
         → OfLines (IsTrue S.told) reader.old (S.left input.old)
@@ -220,12 +220,12 @@ fn run_from<S: Source, R: Threads + Sync, F: Folder, K: Sink, G: Gate>(
     ensures source { HasSourceCause (S.faults input.old) (S.faults input.new) result }
     ensures undone { IsTrue F.told
         → OfLines (IsTrue S.told) reader.old (S.left input.old)
-        (λ lines. IsThere (F.files folder.old) origin → NoneCommits work.now.language (dims_of origin) lines
+        (λ lines. IsOriginOf (F.files folder.old) origin → NoneCommits work.now.language (dims_of origin) lines
         → HaltKeeps (F.files folder.old) (F.files folder.new) result) }
-    ensures lasting { IsTrue F.told → IsThere (F.files folder.old) origin
+    ensures lasting { IsTrue F.told → IsOriginOf (F.files folder.old) origin
         → KeepsCommit (F.files folder.old) (F.files folder.new) }
     ensures evident { OnHaltDamage result
-        (IsEvident (IsTrue F.told × IsThere (F.files folder.old) origin) (F.files folder.new)) }
+        (IsEvident (IsTrue F.told × IsOriginOf (F.files folder.old) origin) (F.files folder.new)) }
 {
     match origin.dims() {
         1 => run_over::<1, S, R, F, K, G>(work, origin, tally, reader, input, folder, out),

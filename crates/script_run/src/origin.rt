@@ -6,9 +6,9 @@ ghost use Rattle.page_cache.specs.Evidence.{NotDamaged, OnDamage};
 ghost use Rattle.index_opening.specs.Evidence.{IsEvident};
 ghost use Rattle.index_core.specs.Sessions.{Trusts};
 ghost use Rattle.index_model.specs.State.{Index, State};
-ghost use Rattle.script_run.specs.LineAnswers.{Stands};
+ghost use Rattle.script_run.specs.LineAnswers.{IsSessionOf};
 ghost use Rattle.script_run.specs.Leads.{Opens};
-ghost use Rattle.script_run.specs.Origins.{dims_of, IsFrom, IsMade, IsThere};
+ghost use Rattle.script_run.specs.Origins.{dims_of, IsFrom, IsAllowed, IsOriginOf};
 
 use commit_list::Commit;
 use index_core::{Session, Settings};
@@ -28,7 +28,7 @@ pub enum Origin {
 impl Origin {
     /// How many dimensions its points have.
     pub fn dims(&self) -> u8
-        requires { IsMade self.now }
+        requires { IsAllowed self.now }
         ensures value { result ≡ dims_of self.now }
         ensures some { 1 ≤ result }
         ensures few { result ≤ 8 }
@@ -50,18 +50,19 @@ pub fn open<const D: usize, F: Folder>(
     requires some { 1 ≤ D }
     requires few { D ≤ 8 }
     requires dims { dims_of origin ≡ D }
-    requires made { IsMade origin }
+    requires made { IsAllowed origin }
     ensures stands { IsTrue F.told → (i : Index) → (stored : State) → IsFrom (F.files folder.old) origin i stored
-        → IfOk result (λ s. Stands D (F.files folder.new) s i stored) }
+        → IfOk result (λ s. IsSessionOf D (F.files folder.new) s i stored) }
     ensures opens { IsTrue F.told → (i : Index) → (stored : State) → IsFrom (F.files folder.old) origin i stored
         → Opens origin i stored (F.files folder.old) (F.reads folder.old) (F.reads folder.new) result }
     ensures files { IsTrue F.told → F.files folder.new ≡ F.files folder.old }
     ensures cause { HasPageCause (F.faults folder.old) (F.faults folder.new) result }
     ensures whole { IsTrue F.told → (i : Index) → (stored : State) → IsFrom (F.files folder.old) origin i stored
         → NotDamaged result }
-    ensures trusts { IsTrue F.told → IsThere (F.files folder.old) origin → IfOk result (Trusts D (F.files folder.new)) }
+    ensures trusts { IsTrue F.told → IsOriginOf (F.files folder.old) origin
+        → IfOk result (Trusts D (F.files folder.new)) }
     ensures evident { OnDamage result
-        (IsEvident (IsTrue F.told × IsThere (F.files folder.old) origin) (F.files folder.new)) }
+        (IsEvident (IsTrue F.told × IsOriginOf (F.files folder.old) origin) (F.files folder.new)) }
 {
     match origin {
         Origin::New { dims: _, leaf } => Ok(Session::create(alloc, leaf, settings)?),

@@ -1,7 +1,7 @@
 //! A segment of several leaf pages: what queries read of it, where one of its pages is damaged, and where a read fails.
 
 ghost use Rattle.std.specs.Prelude.{◌≡◌, vec_len, IfOk};
-ghost use Rattle.bkd_build.specs.Parts.{AreEntries};
+ghost use Rattle.bkd_build.specs.Pieces.{AreEntries};
 
 use crate::asserts::{holds_at, same, same_at};
 use bkd_build::OpenGate;

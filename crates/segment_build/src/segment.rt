@@ -41,7 +41,7 @@ impl<const D: usize> NewSegment<D> {
     ghost use Rattle.outer_io.specs.Files.{bytes_of, SameBut};
     ghost use Rattle.outer_io.specs.declared.file_name.FileName.TheVariants.{Segment};
     ghost use Rattle.point_codec.specs.Points.{Item};
-    ghost use Rattle.live_bits.specs.LiveSet.{IsLiveSet, is_live, without};
+    ghost use Rattle.live_bits.specs.LiveSet.{IsLiveSet, is_live, live_set_without};
     ghost use Rattle.page_cache.specs.Causes.{HasStoreCause};
     ghost use Rattle.segment_file.specs.Segments.{IsSegment};
     ghost use Rattle.segment_file.specs.Written.{head_of};
@@ -72,7 +72,7 @@ impl<const D: usize> NewSegment<D> {
     /// Takes a number out of the live ones, and answers whether it was live. The entries stay.
     pub fn clear(&mut self, doc: u32) -> bool
         ensures answer { result ≡ is_live self.old.live doc }
-        ensures after { self.new ≡ record self.old { live = without doc self.old.live } }
+        ensures after { self.new ≡ record self.old { live = live_set_without doc self.old.live } }
         ensures entries { (items : List Item) → HasEntries D items self.old → HasEntries D items self.new }
     {
         self.live.clear(doc)

@@ -7,7 +7,7 @@ use Rattle.std.proofs.Math.Nat.{div-le_self}
 use Rattle.std.proofs.lemmas.List.{length-replicate}
 use Rattle.byte_cursor.proofs.Numbers.{spelling_unique}
 use Rattle.leaf_codec.specs.Leaves.{leaf_limit}
-use Rattle.page_cache.specs.Bodies.{pages_for, filled}
+use Rattle.page_cache.specs.Bodies.{pages_for, padded_body}
 use Rattle.segment_file.specs.Heads.{Fields, AreFields, magic, numbers_bytes, fields_bytes, leaves_for}
 use Rattle.segment_file.specs.FieldsSeen.{AreNarrow}
 use Rattle.segment_file.proofs.Lists.{fronts_equal, backs_equal}
@@ -115,7 +115,7 @@ pub record IsFound (own : Bool) (f g : Fields) (behind : List ℕ) : Type 0 wher
 
 pub found : (payload rest behind : List ℕ) (own : Bool) (f g : Fields) → payload ≡ word own ++ rest → rest ≡ numbers_bytes g ++ behind → AreNarrow g
     → AreFields f
-    → payload ≡ filled (fields_bytes f) → IsFound own f g behind
+    → payload ≡ padded_body (fields_bytes f) → IsFound own f g behind
 found payload rest behind own f g a b narrow are e =
     let whole : word own ++ rest ≡ magic f.form ++ (numbers_bytes f ++ zeros f) = sym a ∙ e ∙ fields_parts f (zeros f) in
     let lengths : length (word own) ≡ length (magic f.form) = word_length own ∙ sym (magic_length f.form) in
@@ -132,7 +132,7 @@ found payload rest behind own f g a b narrow are e =
 
 pub has_fields : (payload rest behind : List ℕ) (own : Bool) (g : Fields) → length payload ≡ 4064 → payload ≡ word own ++ rest
     → rest ≡ numbers_bytes g ++ behind → own ≡ (g.form == 3)
-    → behind ≡ replicate (length behind) 0 → payload ≡ filled (fields_bytes g)
+    → behind ≡ replicate (length behind) 0 → payload ≡ padded_body (fields_bytes g)
 has_fields payload rest behind own g long a b own_is blank =
     let front : payload ≡ fields_bytes g ++ behind =
     a ∙ ap (λ (o : Bool). word o ++ rest) own_is ∙ ap (λ (l : List ℕ). magic g.form ++ l) b ∙ sym (fields_parts g behind) in

@@ -11,7 +11,7 @@ use Rattle.inner_pack.specs.Trees.{IndexTree}
 use Rattle.inner_pack.specs.Bodies.{Body as IndexBody, SpellsIndex, HasTree, pages_of}
 use Rattle.page_file.specs.Page.{payload_of}
 use Rattle.page_cache.specs.FilePages.{page_at, IsFilePage, ArePages, payloads_of}
-use Rattle.page_cache.specs.Bodies.{pages_for, filled}
+use Rattle.page_cache.specs.Bodies.{pages_for, padded_body}
 use Rattle.page_cache.specs.Evidence.{FaultShows, ArePayloadsOf, IsFileDamage, IsFileDamageOf}
 use Rattle.page_cache.specs.declared.faults.Damage.{Damage}
 use Rattle.page_cache.specs.declared.faults.Damage.TheVariants.{Page, Leaf, Body, Missing, Size, Unequal, Beyond, Doubled}
@@ -29,7 +29,7 @@ use Rattle.segment_file.proofs.FieldBytes.{word, zeros, fields_parts, fields_len
 use Rattle.segment_file.proofs.FirstPayloads.{OnlyShort}
 use Rattle.segment_file.proofs.Unique.{head_fields}
 
-pub first_length : (f : Fields) → length (filled (fields_bytes f)) ≡ 4064
+pub first_length : (f : Fields) → length (padded_body (fields_bytes f)) ≡ 4064
 first_length f = let few = fields_length f in omega (arith, few, filled_length (fields_bytes f))
 
 -- the number of dimensions stands at offset 8
@@ -37,40 +37,42 @@ behind_word : (own : Bool) (dims : ℕ) (rest : List ℕ) → slice_index (word 
 behind_word true dims rest = refl
 behind_word false dims rest = refl
 
-pub dims_at : (f : Fields) → slice_index (filled (fields_bytes f)) 8 ≡ f.dims
+pub dims_at : (f : Fields) → slice_index (padded_body (fields_bytes f)) 8 ≡ f.dims
 dims_at f = ap (λ (l : List ℕ). slice_index l 8) (fields_parts f (zeros f)) ∙ behind_word (f.form == 3) f.dims _
 
 -- ---- fields that are out of range
 
-pub no_fields : (payload : List ℕ) → length payload ≡ 4064 → ((f : Fields) → AreFields f → payload ≢ filled (fields_bytes f))
+pub no_fields : (payload : List ℕ) → length payload ≡ 4064 → ((f : Fields) → AreFields f → payload ≢ padded_body (fields_bytes f))
     → (dims said : ℕ) (head : Head) (rest : List ℕ) → said < 2 ^ 32 → IsHead dims head
-    → payload ++ [] ++ rest ≡ filled (fields_bytes (fields_of dims head said)) ++ filled head.index.bytes → ⊥
+    → payload ++ [] ++ rest ≡ padded_body (fields_bytes (fields_of dims head said)) ++ padded_body head.index.bytes → ⊥
 no_fields payload long none dims said head rest fits h e =
     none (fields_of dims head said) (head_fields dims head said h.ranges fits)
-    (fronts_equal payload (filled (fields_bytes (fields_of dims head said))) rest (filled head.index.bytes)
+    (fronts_equal payload (padded_body (fields_bytes (fields_of dims head said))) rest (padded_body head.index.bytes)
     (long ∙ sym (first_length (fields_of dims head said))) (ap (λ (l : List ℕ). l ++ rest) (sym (append-nil payload)) ∙ e))
 
 -- ---- fields and an index that begin a head's
 
-pub fields_same : (payload : List ℕ) (f : HeadFields) (g : Fields) → HasFields payload f → AreFields g → payload ≡ filled (fields_bytes g) → fields_said f ≡ g
+pub fields_same : (payload : List ℕ) (f : HeadFields) (g : Fields) → HasFields payload f → AreFields g → payload ≡ padded_body (fields_bytes g)
+    → fields_said f ≡ g
 fields_same payload f g has are e =
     same_fields (fields_said f) g (zeros (fields_said f)) (zeros g)
     (fields_unique (fields_said f) g (zeros (fields_said f)) (zeros g) (narrow_fields (fields_said f) has.are) (narrow_fields g are) (sym has.is ∙ e))
 
 pub record IndexBegins (f : HeadFields) (pages rest : List ℕ) (dims said : ℕ) (head : Head) : Type 0 where
   pub same : fields_said f ≡ fields_of dims head said
-  pub back : pages ++ rest ≡ filled head.index.bytes
+  pub back : pages ++ rest ≡ padded_body head.index.bytes
 
 pub index_begins : (payload pages rest : List ℕ) (f : HeadFields) (dims said : ℕ) (head : Head) → HasFields payload f → said < 2 ^ 32 → IsHead dims head
-    → payload ++ pages ++ rest ≡ filled (fields_bytes (fields_of dims head said)) ++ filled head.index.bytes → IndexBegins f pages rest dims said head
+    → payload ++ pages ++ rest ≡ padded_body (fields_bytes (fields_of dims head said)) ++ padded_body head.index.bytes → IndexBegins f pages rest dims said head
 index_begins payload pages rest f dims said head has fits h e =
     let g = fields_of dims head said in
-    let long : length payload ≡ length (filled (fields_bytes g)) = ap (λ (l : List ℕ). length l) has.is ∙ first_length (fields_said f) ∙ sym (first_length g) in
-    let whole : payload ++ (pages ++ rest) ≡ filled (fields_bytes g) ++ filled head.index.bytes = sym (append_assoc payload pages rest) ∙ e in
+    let long : length payload ≡ length (padded_body (fields_bytes g)) =
+        ap (λ (l : List ℕ). length l) has.is ∙ first_length (fields_said f) ∙ sym (first_length g) in
+    let whole : payload ++ (pages ++ rest) ≡ padded_body (fields_bytes g) ++ padded_body head.index.bytes = sym (append_assoc payload pages rest) ∙ e in
     record {
       same = fields_same payload f g has (head_fields dims head said h.ranges fits)
-          (fronts_equal payload (filled (fields_bytes g)) (pages ++ rest) (filled head.index.bytes) long whole);
-      back = backs_equal payload (filled (fields_bytes g)) (pages ++ rest) (filled head.index.bytes) long whole;
+          (fronts_equal payload (padded_body (fields_bytes g)) (pages ++ rest) (padded_body head.index.bytes) long whole);
+      back = backs_equal payload (padded_body (fields_bytes g)) (pages ++ rest) (padded_body head.index.bytes) long whole;
     }
 
 pub spells_as : (a b c x y z : ℕ) (u v : List ℕ) (r : Region) (t : IndexTree) → a ≡ x → b ≡ y → c ≡ z → u ≡ v → SpellsIndex a b c u r t
@@ -126,7 +128,7 @@ head_pair_of D files name m n (Doubled doc) are h = absurd h
 
 -- payloads that begin a head and its index are no damage
 pub no_head_damage : (id dims said : ℕ) (head : Head) (payloads rest : List ℕ) (d : Damage) → said < 2 ^ 32 → IsHead dims head
-    → payloads ++ rest ≡ filled (fields_bytes (fields_of dims head said)) ++ filled head.index.bytes
+    → payloads ++ rest ≡ padded_body (fields_bytes (fields_of dims head said)) ++ padded_body head.index.bytes
     → IsHeadDamage id d → IsBodyDamage (Segment id) payloads d → ⊥
 no_head_damage id dims said head payloads rest (Body file bytes) fits h e shown carried =
     shown.1 dims said head rest fits h (ap (λ (l : List ℕ). l ++ rest) carried.1 ∙ e)
@@ -148,8 +150,8 @@ pub record HeadOf (D : ℕ) (bytes : List ℕ) (id : ℕ) (h : Head) : Type 0 wh
   pub head : IsHead D h
   pub are : AreFields (fields_of D h (pages_of tree))
   pub pages : ArePages (Segment id) bytes 0 (1 + index_pages h)
-  pub payload : payload_of (page_at bytes 0) ≡ filled (fields_bytes (fields_of D h (pages_of tree)))
-  pub index : payloads_of bytes 1 (index_pages h) ≡ filled h.index.bytes
+  pub payload : payload_of (page_at bytes 0) ≡ padded_body (fields_bytes (fields_of D h (pages_of tree)))
+  pub index : payloads_of bytes 1 (index_pages h) ≡ padded_body h.index.bytes
   pub size : length bytes ≡ 4096 * (1 + index_pages h + pages_of tree)
 
 pub head_parts : (D : ℕ) (bytes : List ℕ) (id : ℕ) (h : Head) → h.id ≡ id → IsHeadOf D bytes h → HeadOf D bytes id h
@@ -254,7 +256,8 @@ spells_head D id bytes payload f index root tree fits dims has i tree_is page fr
       has = tree_is;
       pages = pages_from_first (Segment id) bytes (pages_for (length index.bytes)) page (subst (λ (n : ℕ). ArePages (Segment id) bytes 1 (1 + n)) count pages);
       first =
-          sym front ∙ has.is ∙ ap (λ (g : Fields). filled (fields_bytes g)) (said_fields D id f (payloads_of bytes 1 (pages_for f.index_length)) index dims i);
+          sym front ∙ has.is
+              ∙ ap (λ (g : Fields). padded_body (fields_bytes g)) (said_fields D id f (payloads_of bytes 1 (pages_for f.index_length)) index dims i);
       index = ap (λ (n : ℕ). payloads_of bytes 1 n) (sym count) ∙ i.payloads_are;
     }
 

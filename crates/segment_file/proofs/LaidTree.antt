@@ -6,19 +6,19 @@ use Rattle.std.proofs.lemmas.Bool.{lt-leb, le-leb, cases_lt}
 use Rattle.std.proofs.lemmas.List.{take_at, drop_at, take-append-le, drop-append-le, length-take}
 use Rattle.std.proofs.Math.Seq.{drop-append-add}
 use Rattle.outer_io.specs.declared.file_name.FileName.{FileName}
-use Rattle.inner_pack.specs.Places.{Spot, front, fitted, behind, end_of}
+use Rattle.inner_pack.specs.Places.{Spot, front, leaf_begin, leaf_end, end_of}
 use Rattle.inner_pack.proofs.PlaceLemmas.{AreLengths, head_length, tail_lengths, fitted_here, fitted_next}
 use Rattle.page_file.specs.Page.{payload_of}
 use Rattle.page_file.proofs.Pages.{payload_of-length}
 use Rattle.page_cache.specs.FilePages.{kind_of, number_of, page_at, IsFilePage, ArePages, payloads_of}
-use Rattle.page_cache.specs.Bodies.{pages_for, filled}
+use Rattle.page_cache.specs.Bodies.{pages_for, padded_body}
 use Rattle.page_cache.proofs.PageRuns.{payloads_join, payloads_of_one}
 use Rattle.segment_file.specs.Segments.{part_of}
 use Rattle.segment_file.specs.Pieced.{IsPaged, laid_pages}
 use Rattle.segment_file.proofs.Lists.{filled_length}
 
 begins_if : (b : Bool) (current leaf fits next : List ℕ) → (rest : List ℕ) × (fits ≡ (current ++ leaf) ++ rest)
-    → (rest : List ℕ) × ((if b then fits else filled current ++ next) ≡ current ++ rest)
+    → (rest : List ℕ) × ((if b then fits else padded_body current ++ next) ≡ current ++ rest)
 begins_if true current leaf fits next h = (leaf ++ h.0, h.1 ∙ append_assoc current leaf h.0)
 begins_if false current leaf fits next h = (
   replicate (4064 * pages_for (length current) - length current) 0 ++ next,
@@ -35,23 +35,23 @@ laid_begins current (leaf ∷ leaves) =
 laid_here : (current leaf : List ℕ) (leaves : List (List ℕ)) → length current + length leaf ≤ 4064
     → laid_pages current (leaf ∷ leaves) ≡ laid_pages (current ++ leaf) leaves
 laid_here current leaf leaves fits =
-    ap (λ (b : Bool). if b then laid_pages (current ++ leaf) leaves else filled current ++ laid_pages leaf leaves)
+    ap (λ (b : Bool). if b then laid_pages (current ++ leaf) leaves else padded_body current ++ laid_pages leaf leaves)
     (le-leb (length current + length leaf) 4064 fits)
 
 laid_next : (current leaf : List ℕ) (leaves : List (List ℕ)) → 4064 < length current + length leaf
-    → laid_pages current (leaf ∷ leaves) ≡ filled current ++ laid_pages leaf leaves
+    → laid_pages current (leaf ∷ leaves) ≡ padded_body current ++ laid_pages leaf leaves
 laid_next current leaf leaves over =
-    ap (λ (b : Bool). if b then laid_pages (current ++ leaf) leaves else filled current ++ laid_pages leaf leaves)
+    ap (λ (b : Bool). if b then laid_pages (current ++ leaf) leaves else padded_body current ++ laid_pages leaf leaves)
     (lt-leb (length current + length leaf) 4064 over)
 
 -- the bytes stand at this spot of the leaf pages, of which the first is page `base`
-pub record Stands (payloads : List ℕ) (base : ℕ) (s : Spot) (leaf : List ℕ) : Type 0 where
+pub record IsLaidAt (payloads : List ℕ) (base : ℕ) (s : Spot) (leaf : List ℕ) : Type 0 where
   pub here : take (length leaf) (drop (4064 * (base + s.page) + s.offset) payloads) ≡ leaf
 
-abbrev pub AllStand : (payloads : List ℕ) (base : ℕ) → Spot → List (List ℕ) → Type 0
-AllStand payloads base e [] = Unit {0}
-AllStand payloads base e (leaf ∷ leaves) =
-    Stands payloads base (fitted e (length leaf)) leaf × AllStand payloads base (behind (fitted e (length leaf)) (length leaf)) leaves
+abbrev pub AllLaidFrom : (payloads : List ℕ) (base : ℕ) → Spot → List (List ℕ) → Type 0
+AllLaidFrom payloads base e [] = Unit {0}
+AllLaidFrom payloads base e (leaf ∷ leaves) =
+    IsLaidAt payloads base (leaf_begin e (length leaf)) leaf × AllLaidFrom payloads base (leaf_end (leaf_begin e (length leaf)) (length leaf)) leaves
 
 stand : (pre leaf rest payloads : List ℕ) (k : ℕ) → length pre ≡ k → payloads ≡ pre ++ (leaf ++ rest) → take (length leaf) (drop k payloads) ≡ leaf
 stand pre leaf rest payloads k len e =
@@ -59,15 +59,16 @@ stand pre leaf rest payloads k len e =
     ∙ take_at leaf rest (length leaf) refl
 
 pub record AreLaid (payloads : List ℕ) (base : ℕ) (e : Spot) (leaves : List (List ℕ)) : Type 0 where
-  pub all : AllStand payloads base e leaves
+  pub all : AllLaidFrom payloads base e leaves
   pub total : length payloads ≡ 4064 * (base + (end_of e (map length leaves)).page + 1)
 
-add_first : (payloads : List ℕ) (base : ℕ) (e s : Spot) (leaf : List ℕ) (leaves : List (List ℕ)) → fitted e (length leaf) ≡ s → Stands payloads base s leaf
-    → AreLaid payloads base (behind s (length leaf)) leaves
+add_first : (payloads : List ℕ) (base : ℕ) (e s : Spot) (leaf : List ℕ) (leaves : List (List ℕ)) → leaf_begin e (length leaf) ≡ s
+    → IsLaidAt payloads base s leaf
+    → AreLaid payloads base (leaf_end s (length leaf)) leaves
     → AreLaid payloads base e (leaf ∷ leaves)
 add_first payloads base e s leaf leaves same here rest = record {
-  all = subst (λ (x : Spot). Stands payloads base x leaf × AllStand payloads base (behind x (length leaf)) leaves) (sym same) (here, rest.all);
-  total = rest.total ∙ ap (λ (x : Spot). 4064 * (base + (end_of (behind x (length leaf)) (map length leaves)).page + 1)) (sym same);
+  all = subst (λ (x : Spot). IsLaidAt payloads base x leaf × AllLaidFrom payloads base (leaf_end x (length leaf)) leaves) (sym same) (here, rest.all);
+  total = rest.total ∙ ap (λ (x : Spot). 4064 * (base + (end_of (leaf_end x (length leaf)) (map length leaves)).page + 1)) (sym same);
 }
 
 -- the last page holds something already
@@ -77,7 +78,8 @@ pub are_laid : (pre current payloads : List ℕ) (base : ℕ) (e : Spot) (leaves
 are_laid pre current payloads base e [] front_is offset some few lengths same = record {
   all = tt;
   total =
-      (let full = filled_length current in omega (arith, full, front_is, some, few, ap (λ (l : List ℕ). length l) same, length-append pre (filled current)));
+      (let full = filled_length current in
+          omega (arith, full, front_is, some, few, ap (λ (l : List ℕ). length l) same, length-append pre (padded_body current)));
 }
 are_laid pre current payloads base e (leaf ∷ leaves) front_is offset some few lengths same =
     let n = head_length (length leaf) (map length leaves) lengths in
@@ -85,17 +87,19 @@ are_laid pre current payloads base e (leaf ∷ leaves) front_is offset some few 
     elim (cases_lt 4064 (length current + length leaf)) [
       | inl over ↦
           let s : Spot = record { page = e.page + 1; offset = 0 } in
-          let full : length (filled current) ≡ 4064 = (let f = filled_length current in omega arith) in
-          let next : payloads ≡ (pre ++ filled current) ++ laid_pages leaf leaves =
-          same ∙ ap (λ (l : List ℕ). pre ++ l) (laid_next current leaf leaves over) ∙ sym (append_assoc pre (filled current) (laid_pages leaf leaves)) in
+          let full : length (padded_body current) ≡ 4064 = (let f = filled_length current in omega arith) in
+          let next : payloads ≡ (pre ++ padded_body current) ++ laid_pages leaf leaves =
+          same ∙ ap (λ (l : List ℕ). pre ++ l) (laid_next current leaf leaves over) ∙ sym (append_assoc pre (padded_body current) (laid_pages leaf leaves)) in
           let begin = laid_begins leaf leaves in
-          let len : length (pre ++ filled current) ≡ 4064 * (base + (e.page + 1)) = omega (arith, length-append pre (filled current), full, front_is) in
+          let len : length (pre ++ padded_body current) ≡ 4064 * (base + (e.page + 1)) =
+              omega (arith, length-append pre (padded_body current), full, front_is) in
           add_first payloads base e s leaf leaves (fitted_next e (length leaf) (omega arith))
           (record {
-            here = stand (pre ++ filled current) leaf begin.0 payloads (4064 * (base + (e.page + 1)) + 0) (omega (arith, len))
-                (next ∙ ap (λ (l : List ℕ). (pre ++ filled current) ++ l) begin.1);
+            here = stand (pre ++ padded_body current) leaf begin.0 payloads (4064 * (base + (e.page + 1)) + 0) (omega (arith, len))
+                (next ∙ ap (λ (l : List ℕ). (pre ++ padded_body current) ++ l) begin.1);
           })
-          (are_laid (pre ++ filled current) leaf payloads base (record { page = e.page + 1; offset = 0 + length leaf }) leaves len (omega arith) n.0 n.1 others
+          (are_laid (pre ++ padded_body current) leaf payloads base (record { page = e.page + 1; offset = 0 + length leaf }) leaves len (omega arith) n.0 n.1
+              others
           next)
       | inr fits ↦
           let next : payloads ≡ pre ++ laid_pages (current ++ leaf) leaves = same ∙ ap (λ (l : List ℕ). pre ++ l) (laid_here current leaf leaves fits) in

@@ -2,7 +2,7 @@
 use Rattle.std.proofs.Common.{◌≡◌, ◌≤◌, ◌+◌, ℕ, ℤ, sym, ap, subst, ◌∙◌, arith, inl, inr}
 use Rattle.std.proofs.lemmas.Bool.{cases_lt}
 use Rattle.point_codec.specs.Points.{Region}
-use Rattle.inner_pack.specs.Places.{Spot, fitted, end_of}
+use Rattle.inner_pack.specs.Places.{Spot, leaf_begin, end_of}
 use Rattle.inner_pack.specs.Trees.{IndexTree, Leaf, Split, lengths_of}
 use Rattle.inner_pack.specs.Bodies.{right_begin, first_length}
 use Rattle.inner_pack.specs.Nodes.{IsAt, IsPlaceOf}
@@ -35,11 +35,11 @@ left_reads old new a head s k x l r left =
 
 -- the right child's first leaf stands in the page of the left one's last, which is kept, or begins a page
 begun_right : (old new : ℕ) (b : PageCache) (head : Head) (e : Spot) (n : ℕ) (r : IndexTree)
-    → ReadsEach old new b head (fitted e n) r → IsKept b head.id (page_of head e.page) → new + e.page ≤ old + last_page (fitted e n) r
+    → ReadsEach old new b head (leaf_begin e n) r → IsKept b head.id (page_of head e.page) → new + e.page ≤ old + last_page (leaf_begin e n) r
 begun_right old new b head e n r right kept = elim (cases_lt 4064 (e.offset + n)) [
-  | inl lt ↦ let all = right.all in let page : (fitted e n).page ≡ e.page + 1 = ap (λ (s : Spot). s.page) (fitted_next e n lt) in omega (arith, all, page)
+  | inl lt ↦ let all = right.all in let page : (leaf_begin e n).page ≡ e.page + 1 = ap (λ (s : Spot). s.page) (fitted_next e n lt) in omega (arith, all, page)
   | inr le ↦
-      let page : (fitted e n).page ≡ e.page = ap (λ (s : Spot). s.page) (fitted_here e n le) in
+      let page : (leaf_begin e n).page ≡ e.page = ap (λ (s : Spot). s.page) (fitted_here e n le) in
       let first = right.begun (subst (λ (m : ℕ). IsKept b head.id (page_of head m)) (sym page) kept) in omega (arith, first, page)
 ]
 

@@ -8,7 +8,7 @@ use Rattle.live_bits.specs.LiveBody.{head, IsLiveBody}
 use Rattle.live_bits.proofs.Heads.{name, sizes, head-parts, head-length, live_in-length}
 use Rattle.live_bits.proofs.Bodies.{one_set}
 use Rattle.page_cache.specs.FilePages.{payloads_of}
-use Rattle.page_cache.specs.Bodies.{pages_for, filled}
+use Rattle.page_cache.specs.Bodies.{pages_for, padded_body}
 use Rattle.segment_file.specs.LiveFiles.{IsLiveFile}
 use Rattle.segment_file.proofs.Lists.{bodies_equal}
 
@@ -47,7 +47,7 @@ same_span segment generation s t a b x y p q e =
 
 -- two bodies with the same pages are the same
 pub same_body : (segment generation : ℕ) (s t : LiveSet) (a b x y : List ℕ) → IsLiveBody segment generation s a → IsLiveBody segment generation t b
-    → filled a ++ x ≡ filled b ++ y → length a ≡ length b
+    → padded_body a ++ x ≡ padded_body b ++ y → length a ≡ length b
 same_body segment generation s t a b x y p q e =
     let span = same_span segment generation s t a b (replicate (4064 * pages_for (length a) - length a) 0 ++ x)
     (replicate (4064 * pages_for (length b) - length b) 0 ++ y) p q
@@ -62,7 +62,7 @@ one_live_set segment generation bytes s t p q =
     let lp = p.file.len in
     let lq = q.file.len in
     let pages : pages_for (length p.body) ≡ pages_for (length q.body) = omega arith in
-    let payloads : filled p.body ≡ filled q.body = sym p.file.payload ∙ ap (λ (n : ℕ). payloads_of bytes 0 n) pages ∙ q.file.payload in
+    let payloads : padded_body p.body ≡ padded_body q.body = sym p.file.payload ∙ ap (λ (n : ℕ). payloads_of bytes 0 n) pages ∙ q.file.payload in
     let long = same_body segment generation s t p.body q.body [] [] p.set q.set (ap (λ (l : List ℕ). l ++ []) payloads) in
     let body = bodies_equal p.body q.body long payloads in
     one_set segment generation s t q.body (subst (λ (l : List ℕ). IsLiveBody segment generation s l) body p.set) q.set

@@ -7,7 +7,7 @@ use Rattle.live_bits.specs.LiveSet.{LiveSet, IsLiveSet}
 use Rattle.live_bits.specs.LiveBody.{IsLiveBody, SaysLength, live_set}
 use Rattle.live_bits.proofs.LiveNumbers.{live_set_is}
 use Rattle.page_cache.specs.FilePages.{page_at, IsFilePage, ArePages, payloads_of}
-use Rattle.page_cache.specs.Bodies.{pages_for, filled}
+use Rattle.page_cache.specs.Bodies.{pages_for, padded_body}
 use Rattle.page_cache.specs.Evidence.{FaultShows, ArePayloadsOf, IsSizeOf, IsSizeDamage, IsFileDamage, IsFileDamageOf}
 use Rattle.page_cache.specs.FirstPages.{first_name, first_payload, first_size, IsFirstPage}
 use Rattle.page_cache.specs.declared.first_page.FirstPage.{FirstPage}
@@ -84,7 +84,7 @@ body_damage_of files name payloads (Doubled doc) are h = absurd h
 
 -- payloads that begin a body are no damage
 pub no_live_damage : (segment generation : ℕ) (s : LiveSet) (body payloads rest : List ℕ) (d : Damage) → IsLiveBody segment generation s body
-    → payloads ++ rest ≡ filled body
+    → payloads ++ rest ≡ padded_body body
     → IsLiveDamage segment generation d → IsBodyDamage (Live segment generation) payloads d → ⊥
 no_live_damage segment generation s body payloads rest (Body file bytes) set e shown carried =
     shown.1 s body rest set (ap (λ (l : List ℕ). l ++ rest) carried.1 ∙ e)
@@ -124,9 +124,9 @@ pub record FirstOf (segment generation : ℕ) (bytes : List ℕ) (live : LiveSet
   pub size : length bytes ≡ 4096 * pages_for (length body)
   pub page : IsFilePage (Live segment generation) bytes 0
   pub pages : ArePages (Live segment generation) bytes 0 (pages_for (length body))
-  pub payload : payloads_of bytes 0 (pages_for (length body)) ≡ filled body
+  pub payload : payloads_of bytes 0 (pages_for (length body)) ≡ padded_body body
   pub rest : List ℕ
-  pub begins : payload_of (page_at bytes 0) ++ rest ≡ filled body
+  pub begins : payload_of (page_at bytes 0) ++ rest ≡ padded_body body
 
 pub first_of : (segment generation : ℕ) (bytes : List ℕ) (live : LiveSet) → IsLiveFile segment generation bytes live → FirstOf segment generation bytes live
 unfolding IsLiveFile
@@ -157,6 +157,6 @@ said_right segment generation bytes payload live len f same said =
 -- payloads of all pages of the file of a set are no damage
 pub set_not_damaged : (segment generation : ℕ) (bytes payloads : List ℕ) (live : LiveSet) (len : ℕ) (f : FirstOf segment generation bytes live)
     → length f.body ≡ len
-    → payloads ≡ payloads_of bytes 0 (pages_for len) → payloads ++ [] ≡ filled f.body
+    → payloads ≡ payloads_of bytes 0 (pages_for len) → payloads ++ [] ≡ padded_body f.body
 set_not_damaged segment generation bytes payloads live len f same e =
     append-nil payloads ∙ e ∙ ap (λ (n : ℕ). payloads_of bytes 0 (pages_for n)) (sym same) ∙ f.payload

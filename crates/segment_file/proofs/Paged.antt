@@ -5,7 +5,7 @@ use Rattle.std.proofs.lemmas.Bool.{cases_lt}
 use Rattle.std.specs.Prelude.{if◌then◌else◌}
 use Rattle.outer_io.specs.declared.file_name.FileName.{FileName}
 use Rattle.page_cache.specs.FilePages.{payloads_of}
-use Rattle.page_cache.specs.Bodies.{pages_for, filled, ArePagesOf}
+use Rattle.page_cache.specs.Bodies.{pages_for, padded_body, ArePagesOf}
 use Rattle.page_cache.proofs.PageRuns.{payloads_join, pages_front, pages_behind, payloads_stay, payloads_back}
 use Rattle.segment_file.specs.Pieced.{IsPaged}
 
@@ -20,12 +20,13 @@ no_pages name = record { len = refl; pages = λ n from below. absurd (omega arit
 
 -- the pages of a body put behind those that are there
 pub more_pages : (name : FileName) (n : ℕ) (payloads old body bytes : List ℕ) → IsPaged name n payloads old → ArePagesOf name n body bytes
-    → IsPaged name (n + pages_for (length body)) (payloads ++ filled body) (old ++ bytes)
+    → IsPaged name (n + pages_for (length body)) (payloads ++ padded_body body) (old ++ bytes)
 more_pages name n payloads old body bytes p a =
     let len = p.len in
     let more = a.len in
-    let back : payloads_of (old ++ bytes) n (pages_for (length body)) ≡ filled body = payloads_back old bytes n (pages_for (length body)) p.len ∙ a.payload in
-    let behind_is : payloads_of (old ++ bytes) (0 + n) (pages_for (length body)) ≡ filled body =
+    let back : payloads_of (old ++ bytes) n (pages_for (length body)) ≡ padded_body body =
+        payloads_back old bytes n (pages_for (length body)) p.len ∙ a.payload in
+    let behind_is : payloads_of (old ++ bytes) (0 + n) (pages_for (length body)) ≡ padded_body body =
     ap (λ (m : ℕ). payloads_of (old ++ bytes) m (pages_for (length body))) (zero-add n) ∙ back in
     let front : payloads_of (old ++ bytes) 0 n ≡ payloads = payloads_stay name 0 n old bytes (λ i from below. p.pages i from (omega arith)) ∙ p.payloads_are in
     record {
@@ -35,5 +36,5 @@ more_pages name n payloads old body bytes p a =
         | inr le ↦ pages_behind name n (pages_for (length body)) old bytes p.len a.pages i le below
       ];
       payloads_are = payloads_join (old ++ bytes) 0 n (pages_for (length body)) ∙ ap (λ (l : List ℕ). payloads_of (old ++ bytes) 0 n ++ l) behind_is
-          ∙ ap (λ (l : List ℕ). l ++ filled body) front;
+          ∙ ap (λ (l : List ℕ). l ++ padded_body body) front;
     }

@@ -84,7 +84,7 @@ gathers_join D bytes head first s l r k x live old mid new a b = record {
 }
 
 -- the page of a leaf whose file has it
-leaf_page : (D : ℕ) (bytes : List ℕ) (head : Head) (first : ℕ) (s : Spot) (len : ℕ) (own : Region) (items : List Item)
+pub leaf_page : (D : ℕ) (bytes : List ℕ) (head : Head) (first : ℕ) (s : Spot) (len : ℕ) (own : Region) (items : List Item)
     → HoldsLeaf D bytes head first s len own items → IsFilePage (Segment head.id) bytes (page_of head s.page)
 unfolding HoldsLeaf
 leaf_page D bytes head first s len own items h = h.page

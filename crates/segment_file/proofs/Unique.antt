@@ -6,7 +6,7 @@ use Rattle.inner_pack.specs.Places.{Spot}
 use Rattle.inner_pack.specs.Trees.{IndexTree, Leaf, Split, leaf_count}
 use Rattle.inner_pack.specs.Bodies.{right_begin, pages_of}
 use Rattle.page_cache.specs.FilePages.{page_at, payloads_of}
-use Rattle.page_cache.specs.Bodies.{pages_for, filled}
+use Rattle.page_cache.specs.Bodies.{pages_for, padded_body}
 use Rattle.segment_file.specs.Heads.{Head, AreFields, HasRanges, fields_of, index_pages, page_of}
 use Rattle.segment_file.specs.Segments.{part_of, SpellsHead, IsHeadOf, HoldsLeaf, HoldsTree, IsSegment}
 use Rattle.segment_file.proofs.Lists.{bodies_equal}
@@ -46,7 +46,7 @@ spelled_once D E bytes g h m n q r t u ids a b =
     let same = fields_unique f k _ _ (narrow_head D g m a.ranges a.said_fits) (narrow_head E h n b.ranges b.said_fits) (sym a.first ∙ b.first) in
     let long : length g.index.bytes ≡ length h.index.bytes = same.index_length in
     let pages : index_pages g ≡ index_pages h = ap (λ (l : ℕ). pages_for l) long in
-    let payloads : filled g.index.bytes ≡ filled h.index.bytes = sym a.index ∙ ap (λ (l : ℕ). payloads_of bytes 1 l) pages ∙ b.index in
+    let payloads : padded_body g.index.bytes ≡ padded_body h.index.bytes = sym a.index ∙ ap (λ (l : ℕ). payloads_of bytes 1 l) pages ∙ b.index in
     (same_heads g h ids same.entries same.leaf same.form same.leaves (bodies_equal g.index.bytes h.index.bytes long payloads), same.leaf_pages, same.dims)
 
 pub one_head : (D : ℕ) (bytes : List ℕ) (g h : Head) → g.id ≡ h.id → IsHeadOf D bytes g → IsHeadOf D bytes h → g ≡ h

@@ -6,13 +6,13 @@ use Rattle.std.proofs.lemmas.List.Elements.{All-cons}
 use Rattle.outer_io.specs.declared.file_name.FileName.TheVariants.{Segment}
 use Rattle.point_codec.specs.Points.{Item, Region}
 use Rattle.leaf_codec.specs.Leaves.{SpellsLeafIn}
-use Rattle.inner_pack.specs.Places.{Spot, front, fitted, behind, end_of}
+use Rattle.inner_pack.specs.Places.{Spot, front, leaf_begin, leaf_end, end_of}
 use Rattle.inner_pack.specs.Trees.{IndexTree, Leaf, Split, leaf_count, lengths_of}
 use Rattle.inner_pack.specs.Bodies.{Body, first_length, pages_of}
 use Rattle.inner_pack.proofs.PlaceLemmas.{AreLengths, head_length, tail_lengths, fitted_here, fitted_fits}
 use Rattle.inner_pack.proofs.PlaceLemmas.{right_first, lengths_first, length-lengths_of, count_shaped, first_fits}
 use Rattle.page_cache.specs.FilePages.{page_at, payloads_of}
-use Rattle.page_cache.specs.Bodies.{filled}
+use Rattle.page_cache.specs.Bodies.{padded_body}
 use Rattle.page_cache.proofs.PageRuns.{payloads_join, payloads_of_one}
 use Rattle.segment_file.specs.Heads.{Head, Fields, HasRanges, fields_bytes, fields_of, index_pages, page_of, count_of}
 use Rattle.segment_file.specs.Segments.{part_of, IsHeadOf, HoldsLeaf, HoldsTree, IsSegment}
@@ -20,7 +20,7 @@ use Rattle.segment_file.specs.Written.{SpellsLeaves, head_of, FitsSegment}
 use Rattle.segment_file.specs.Pieced.{IsPaged, laid_pages}
 use Rattle.segment_file.proofs.Lists.{fronts_equal, backs_equal, filled_length}
 use Rattle.segment_file.proofs.HeadReads.{first_length as page_length}
-use Rattle.segment_file.proofs.LaidTree.{Stands, AllStand, AreLaid, laid_first, payloads_long, stands_in}
+use Rattle.segment_file.proofs.LaidTree.{IsLaidAt, AllLaidFrom, AreLaid, laid_first, payloads_long, stands_in}
 
 pub spelled_lengths : (D : ℕ) (head : Head) (first : ℕ) (t : IndexTree) (leaves : List (List ℕ)) (items : List Item) → SpellsLeaves D head first t leaves items
     → map length leaves ≡ lengths_of t
@@ -31,14 +31,14 @@ spelled_lengths D head first (Split d x l r) leaves items h =
     ∙ ap (λ (ns : List ℕ). lengths_of l ++ ns) (spelled_lengths D head (first + leaf_count l) r h.back_leaves h.back_items h.back_spells)
 
 -- the leaves behind the first ones stand next behind these
-stand_front : (payloads : List ℕ) (base : ℕ) (e : Spot) (xs ys : List (List ℕ)) → AllStand payloads base e (xs ++ ys) → AllStand payloads base e xs
+stand_front : (payloads : List ℕ) (base : ℕ) (e : Spot) (xs ys : List (List ℕ)) → AllLaidFrom payloads base e (xs ++ ys) → AllLaidFrom payloads base e xs
 stand_front payloads base e [] ys h = tt
-stand_front payloads base e (x ∷ xs) ys h = (h.0, stand_front payloads base (behind (fitted e (length x)) (length x)) xs ys h.1)
+stand_front payloads base e (x ∷ xs) ys h = (h.0, stand_front payloads base (leaf_end (leaf_begin e (length x)) (length x)) xs ys h.1)
 
-stand_back : (payloads : List ℕ) (base : ℕ) (e : Spot) (xs ys : List (List ℕ)) → AllStand payloads base e (xs ++ ys)
-    → AllStand payloads base (end_of e (map length xs)) ys
+stand_back : (payloads : List ℕ) (base : ℕ) (e : Spot) (xs ys : List (List ℕ)) → AllLaidFrom payloads base e (xs ++ ys)
+    → AllLaidFrom payloads base (end_of e (map length xs)) ys
 stand_back payloads base e [] ys h = h
-stand_back payloads base e (x ∷ xs) ys h = stand_back payloads base (behind (fitted e (length x)) (length x)) xs ys h.1
+stand_back payloads base e (x ∷ xs) ys h = stand_back payloads base (leaf_end (leaf_begin e (length x)) (length x)) xs ys h.1
 
 lengths_front : (ms ns : List ℕ) → AreLengths (ms ++ ns) → AreLengths ms
 lengths_front [] ns h = λ k d lt. absurd (omega arith)
@@ -53,7 +53,7 @@ lengths_back (m ∷ ms) ns h = lengths_back ms ns (tail_lengths m (ms ++ ns) h)
 
 leaf_held : (D : ℕ) (bytes payloads : List ℕ) (head : Head) (count first : ℕ) (s : Spot) (len : ℕ) (own : Region) (leaf : List ℕ) (items : List Item)
     → IsPaged (Segment head.id) count payloads bytes
-    → length leaf ≡ len → 1 ≤ length leaf → s.offset + length leaf ≤ 4064 → Stands payloads (1 + index_pages head) s leaf
+    → length leaf ≡ len → 1 ≤ length leaf → s.offset + length leaf ≤ 4064 → IsLaidAt payloads (1 + index_pages head) s leaf
     → SpellsLeafIn D leaf (count_of head first) own items → HoldsLeaf D bytes head first s len own items
 unfolding HoldsLeaf
 leaf_held D bytes payloads head count first s len own leaf items p long some fits stands spells =
@@ -66,24 +66,24 @@ leaf_held D bytes payloads head count first s len own leaf items p long some fit
 
 pub tree_held : (D : ℕ) (bytes payloads : List ℕ) (head : Head) (count first : ℕ) (e : Spot) (t : IndexTree) (leaves : List (List ℕ)) (items : List Item)
     → IsPaged (Segment head.id) count payloads bytes
-    → AreLengths (lengths_of t) → SpellsLeaves D head first t leaves items → AllStand payloads (1 + index_pages head) e leaves
-    → HoldsTree D bytes head first (fitted e (first_length t)) t items
+    → AreLengths (lengths_of t) → SpellsLeaves D head first t leaves items → AllLaidFrom payloads (1 + index_pages head) e leaves
+    → HoldsTree D bytes head first (leaf_begin e (first_length t)) t items
 tree_held D bytes payloads head count first e (Leaf len own) leaves items p lengths h stands =
     let n = head_length len [] lengths in
-    let here = subst (λ (ls : List (List ℕ)). AllStand payloads (1 + index_pages head) e ls) h.1 stands in
+    let here = subst (λ (ls : List (List ℕ)). AllLaidFrom payloads (1 + index_pages head) e ls) h.1 stands in
     let some = n.0 in
     let few = n.1 in
     let long = h.2 in
-    let at = subst (λ (k : ℕ). Stands payloads (1 + index_pages head) (fitted e k) h.0) h.2 here.0 in
+    let at = subst (λ (k : ℕ). IsLaidAt payloads (1 + index_pages head) (leaf_begin e k) h.0) h.2 here.0 in
     let room = fitted_fits e len few in
-    leaf_held D bytes payloads head count first (fitted e len) len own h.0 items p h.2 (omega arith) (omega arith) at h.3
+    leaf_held D bytes payloads head count first (leaf_begin e len) len own h.0 items p h.2 (omega arith) (omega arith) at h.3
 tree_held D bytes payloads head count first e (Split d x l r) leaves items p lengths h stands =
-    let both = subst (λ (ls : List (List ℕ)). AllStand payloads (1 + index_pages head) e ls) h.leaves_joined stands in
+    let both = subst (λ (ls : List (List ℕ)). AllLaidFrom payloads (1 + index_pages head) e ls) h.leaves_joined stands in
     let left_lengths = lengths_front (lengths_of l) (lengths_of r) lengths in
     let right_lengths = lengths_back (lengths_of l) (lengths_of r) lengths in
     let end_is : end_of e (map length h.front_leaves) ≡ end_of e (lengths_of l) =
     ap (λ (ns : List ℕ). end_of e ns) (spelled_lengths D head first l h.front_leaves h.front_items h.front_spells) in
-    let back = subst (λ (s : Spot). AllStand payloads (1 + index_pages head) s h.back_leaves) end_is
+    let back = subst (λ (s : Spot). AllLaidFrom payloads (1 + index_pages head) s h.back_leaves) end_is
     (stand_back payloads (1 + index_pages head) e h.front_leaves h.back_leaves both) in
     record {
       front_items = h.front_items;
@@ -109,7 +109,7 @@ leaves_laid pre payloads base (leaf ∷ leaves) t front_is same lengths e =
 pub written : (D id leaf entries : ℕ) (index : Body) (leaves : List (List ℕ)) (items : List Item) (bytes : List ℕ) (count : ℕ) (f : Fields)
     (fits : FitsSegment D id leaf entries index leaves items) → HasRanges D (head_of id entries leaf index)
     → f ≡ fields_of D (head_of id entries leaf index) (pages_of fits.tree) → pages_of fits.tree < 2 ^ 32
-    → IsPaged (Segment id) count (filled (fields_bytes f) ++ filled index.bytes ++ laid_pages [] leaves) bytes
+    → IsPaged (Segment id) count (padded_body (fields_bytes f) ++ padded_body index.bytes ++ laid_pages [] leaves) bytes
     → IsSegment D bytes (head_of id entries leaf index) items
 unfolding IsSegment IsHeadOf
 written D id leaf entries index leaves items bytes count f fits ranges fields narrow p =
@@ -119,10 +119,11 @@ written D id leaf entries index leaves items bytes count f fits ranges fields na
     let tree = has.tree in
     let lengths = tree.lengths in
     let same = spelled_lengths D head 0 t leaves items fits.spells in
-    let pre = filled (fields_bytes f) ++ filled index.bytes in
+    let pre = padded_body (fields_bytes f) ++ padded_body index.bytes in
     let one = page_length f in
     let more = filled_length index.bytes in
-    let pre_is : length pre ≡ 4064 * (1 + index_pages head) = omega (arith, length-append (filled (fields_bytes f)) (filled index.bytes), one, more) in
+    let pre_is : length pre ≡ 4064 * (1 + index_pages head) =
+        omega (arith, length-append (padded_body (fields_bytes f)) (padded_body index.bytes), one, more) in
     let laid_is = leaves_laid pre (pre ++ laid_pages [] leaves) (1 + index_pages head) leaves t pre_is same lengths refl in
     let total = laid_is.total in
     let end_is : (end_of front (map length leaves)).page ≡ (end_of front (lengths_of t)).page = ap (λ (ns : List ℕ). (end_of front ns).page) same in
@@ -133,16 +134,17 @@ written D id leaf entries index leaves items bytes count f fits ranges fields na
     let split : 1 + rest ≡ count = omega arith in
     let I = payloads_of bytes 1 (index_pages head) in
     let L = payloads_of bytes (1 + index_pages head) (pages_of t) in
-    let parts : payloads_of bytes 0 1 ++ (I ++ L) ≡ filled (fields_bytes f) ++ (filled index.bytes ++ laid_pages [] leaves) =
+    let parts : payloads_of bytes 0 1 ++ (I ++ L) ≡ padded_body (fields_bytes f) ++ (padded_body index.bytes ++ laid_pages [] leaves) =
     ap (λ (l : List ℕ). payloads_of bytes 0 1 ++ l) (sym (payloads_join bytes 1 (index_pages head) (pages_of t))) ∙ sym (payloads_join bytes 0 1 rest)
     ∙ ap (λ (n : ℕ). payloads_of bytes 0 n) split ∙ p.payloads_are
-    ∙ append_assoc (filled (fields_bytes f)) (filled index.bytes) (laid_pages [] leaves) in
+    ∙ append_assoc (padded_body (fields_bytes f)) (padded_body index.bytes) (laid_pages [] leaves) in
     let first_long = payloads_long (Segment id) bytes 0 1 (λ n low high. p.pages n low (omega arith)) in
     let index_long = payloads_long (Segment id) bytes 1 (index_pages head) (λ n low high. p.pages n (omega arith) (omega arith)) in
-    let first_is : payloads_of bytes 0 1 ≡ filled (fields_bytes f) =
-    fronts_equal (payloads_of bytes 0 1) (filled (fields_bytes f)) (I ++ L) (filled index.bytes ++ laid_pages [] leaves) (omega arith) parts in
-    let behind_is = backs_equal (payloads_of bytes 0 1) (filled (fields_bytes f)) (I ++ L) (filled index.bytes ++ laid_pages [] leaves) (omega arith) parts in
-    let index_is : I ≡ filled index.bytes = fronts_equal I (filled index.bytes) L (laid_pages [] leaves) (omega arith) behind_is in
+    let first_is : payloads_of bytes 0 1 ≡ padded_body (fields_bytes f) =
+    fronts_equal (payloads_of bytes 0 1) (padded_body (fields_bytes f)) (I ++ L) (padded_body index.bytes ++ laid_pages [] leaves) (omega arith) parts in
+    let behind_is =
+        backs_equal (payloads_of bytes 0 1) (padded_body (fields_bytes f)) (I ++ L) (padded_body index.bytes ++ laid_pages [] leaves) (omega arith) parts in
+    let index_is : I ≡ padded_body index.bytes = fronts_equal I (padded_body index.bytes) L (laid_pages [] leaves) (omega arith) behind_is in
     let room = first_fits t lengths in
     record {
       head_is = record {
@@ -153,7 +155,7 @@ written D id leaf entries index leaves items bytes count f fits ranges fields na
           said_fits = narrow;
           has = fits.has;
           pages = λ n low high. p.pages n low (omega arith);
-          first = sym (payloads_of_one bytes 0) ∙ first_is ∙ ap (λ (g : Fields). filled (fields_bytes g)) fields;
+          first = sym (payloads_of_one bytes 0) ∙ first_is ∙ ap (λ (g : Fields). padded_body (fields_bytes g)) fields;
           index = index_is;
         };
         size = p.len ∙ ap (λ (n : ℕ). 4096 * n) pages_are;

@@ -13,7 +13,7 @@ use Rattle.inner_pack.specs.Trees.{IndexTree}
 use Rattle.inner_pack.specs.Bodies.{pages_of}
 use Rattle.page_file.specs.Page.{IsPage, payload_of}
 use Rattle.page_cache.specs.FilePages.{kind_of, number_of, page_at}
-use Rattle.page_cache.specs.Bodies.{filled, pages_for}
+use Rattle.page_cache.specs.Bodies.{padded_body, pages_for}
 use Rattle.page_cache.specs.Evidence.{IsPageOf, ArePayloadsOf, IsCut, IsSizeOf}
 use Rattle.page_cache.specs.declared.faults.Damage.{Damage}
 use Rattle.page_cache.specs.declared.faults.Damage.TheVariants.{Page, Leaf, Body, Missing, Size, Unequal, Beyond}
@@ -27,7 +27,7 @@ use Rattle.segment_file.specs.Segments.{SpellsHead, part_of, IsLeafOf}
 pub record AsksSegment (payload : List ℕ) (pages : ℕ) : Type 0 where
   pub fields : Fields
   pub are : AreFields fields
-  pub is : payload ≡ filled (fields_bytes fields)
+  pub is : payload ≡ padded_body (fields_bytes fields)
   pub pages_are : pages ≡ 1 + pages_for fields.index_length + fields.leaf_pages
 
 -- the first page of live bits asks for those of a body of the length that it says
@@ -97,7 +97,7 @@ IsLeafDamageOf files (Doubled doc) = ⊥
 -- no head and index of any number of dimensions begins with these payloads
 abbrev pub BeginsNoHead : List ℕ → Type 0
 BeginsNoHead payloads = (dims said : ℕ) (head : Head) (rest : List ℕ) → said < 2 ^ 32 → IsHead dims head
-    → payloads ++ rest ≡ filled (fields_bytes (fields_of dims head said)) ++ filled head.index.bytes → ⊥
+    → payloads ++ rest ≡ padded_body (fields_bytes (fields_of dims head said)) ++ padded_body head.index.bytes → ⊥
 
 -- two numbers of a segment's file that must agree: the dimensions that are wanted and the file's, or the leaf pages
 -- that the head says and those that the index has
@@ -158,7 +158,7 @@ IsPairDamage name m n (Doubled doc) = ⊥
 -- no set's body begins with these payloads
 abbrev pub BeginsNoSet : (segment generation : ℕ) → List ℕ → Type 0
 BeginsNoSet segment generation payloads = (live : LiveSet) (body rest : List ℕ)
-    → IsLiveBody segment generation live body → payloads ++ rest ≡ filled body → ⊥
+    → IsLiveBody segment generation live body → payloads ++ rest ≡ padded_body body → ⊥
 
 -- reading live bits shows their file to be missing, of another size, with a page that is none for its place, or out of
 -- the grammar

@@ -3,7 +3,7 @@ use Rattle.std.specs.Prelude.{◌≡◌, ◌/◌, ℕ, List, length, max}
 use Rattle.outer_io.specs.declared.file_name.FileName.TheVariants.{Live}
 use Rattle.live_bits.specs.LiveSet.{LiveSet}
 use Rattle.live_bits.specs.LiveBody.{IsLiveBody}
-use Rattle.page_cache.specs.Bodies.{filled, IsBodyFile}
+use Rattle.page_cache.specs.Bodies.{padded_body, IsBodyFile}
 
 -- the file of this segment and generation is the body of this set
 pub record LiveParts (segment generation : ℕ) (bytes : List ℕ) (live : LiveSet) : Type 0 where
@@ -19,7 +19,7 @@ IsLiveFile segment generation bytes live = LiveParts segment generation bytes li
 pub record IsSetOf (segment generation : ℕ) (payloads : List ℕ) (live : LiveSet) : Type 0 where
   pub body : List ℕ
   pub set : IsLiveBody segment generation live body
-  pub payloads_are : payloads ≡ filled body
+  pub payloads_are : payloads ≡ padded_body body
 
 -- how many pages of a file of these bytes are read at most where each is read once: all, and one where there is none
 abbrev pub pages_once : List ℕ → ℕ

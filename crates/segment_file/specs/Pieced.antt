@@ -2,7 +2,7 @@
 use Rattle.std.specs.Prelude.{◌≡◌, ℕ, ◌+◌, ◌*◌, if◌then◌else◌, nat_le, List, [], ◌∷◌, ◌++◌, length}
 use Rattle.outer_io.specs.declared.file_name.FileName.{FileName}
 use Rattle.page_cache.specs.FilePages.{ArePages, payloads_of}
-use Rattle.page_cache.specs.Bodies.{filled}
+use Rattle.page_cache.specs.Bodies.{padded_body}
 use Rattle.segment_file.specs.declared.pieces.Pieces.{Pieces}
 
 -- the segment whose file it is
@@ -26,7 +26,7 @@ pub record IsPaged (name : FileName) (count : ℕ) (payloads bytes : List ℕ) :
 -- the payloads of leaf pages, on the last of which these bytes stand already: a leaf stands behind the one before
 -- where the page has room for it, and else at the front of the next page
 abbrev pub laid_pages : (current : List ℕ) → List (List ℕ) → List ℕ
-laid_pages current [] = filled current
+laid_pages current [] = padded_body current
 laid_pages current (leaf ∷ leaves) =
     if nat_le (length current + length leaf) 4064 then laid_pages
-    (current ++ leaf) leaves else filled current ++ laid_pages leaf leaves
+    (current ++ leaf) leaves else padded_body current ++ laid_pages leaf leaves

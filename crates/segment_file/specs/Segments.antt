@@ -8,7 +8,7 @@ use Rattle.inner_pack.specs.Trees.{IndexTree, Leaf, Split, leaf_count}
 use Rattle.inner_pack.specs.Bodies.{HasTree, pages_of, right_begin}
 use Rattle.page_file.specs.Page.{payload_of}
 use Rattle.page_cache.specs.FilePages.{page_at, IsFilePage, ArePages, payloads_of}
-use Rattle.page_cache.specs.Bodies.{filled, pages_for}
+use Rattle.page_cache.specs.Bodies.{padded_body, pages_for}
 use Rattle.segment_file.specs.Heads.{Head, Fields, AreFields, HasRanges}
 use Rattle.segment_file.specs.Heads.{fields_of, fields_bytes, index_pages, page_of, count_of}
 
@@ -22,8 +22,8 @@ pub record SpellsHead (D : ℕ) (bytes : List ℕ) (head : Head) (said : ℕ) (r
   pub said_fits : said < 2 ^ 32
   pub has : HasTree D head.index root tree
   pub pages : ArePages (Segment head.id) bytes 0 (1 + index_pages head)
-  pub first : payload_of (page_at bytes 0) ≡ filled (fields_bytes (fields_of D head said))
-  pub index : payloads_of bytes 1 (index_pages head) ≡ filled head.index.bytes
+  pub first : payload_of (page_at bytes 0) ≡ padded_body (fields_bytes (fields_of D head said))
+  pub index : payloads_of bytes 1 (index_pages head) ≡ padded_body head.index.bytes
 
 -- and there are just these leaf pages behind them, as many as the tree has
 pub record HeadParts (D : ℕ) (bytes : List ℕ) (head : Head) : Type 0 where
@@ -40,7 +40,7 @@ IsHeadOf D bytes head = HeadParts D bytes head
 -- fields
 pub data AreBeforeLeaves (bytes : List ℕ) (pages : ℕ) : Type 0 where
   OnePage : pages ≤ 1 → AreBeforeLeaves bytes pages
-  WithIndex : (f : Fields) → AreFields f → payload_of (page_at bytes 0) ≡ filled (fields_bytes f)
+  WithIndex : (f : Fields) → AreFields f → payload_of (page_at bytes 0) ≡ padded_body (fields_bytes f)
       → pages ≤ 1 + pages_for f.index_length → AreBeforeLeaves bytes pages
 
 -- ---- the leaves

@@ -3,7 +3,7 @@
 ghost use Rattle.std.specs.Prelude.{◌≡◌, ◌≢◌, ◌<◌, ◌++◌, ◌↔◌, Bool, ℕ, List, length, codes, if◌then◌else◌, IsTrue};
 ghost use Rattle.std.specs.Prelude.{IfOk, IfSome, IfNone};
 ghost use Rattle.byte_cursor.specs.Cursor.{cursor_rest};
-ghost use Rattle.page_cache.specs.Bodies.{filled};
+ghost use Rattle.page_cache.specs.Bodies.{padded_body};
 ghost use Rattle.segment_file.specs.Heads.{Fields, AreFields, magic, fields_bytes, numbers_bytes};
 ghost use Rattle.segment_file.specs.FieldsSeen.{fields_said, AreNarrow, HasFields};
 
@@ -42,7 +42,7 @@ impl HeadFields {
     pub(crate) fn parse(payload: &[u8]) -> Option<HeadFields>
         requires { length payload.now ≡ 4064 }
         ensures some { IfSome result (HasFields payload.now) }
-        ensures none { IfNone result ((f : Fields) → AreFields f → payload.now ≢ filled (fields_bytes f)) }
+        ensures none { IfNone result ((f : Fields) → AreFields f → payload.now ≢ padded_body (fields_bytes f)) }
     {
         let mut cursor = Cursor::new(payload);
         let own_cells = take_magic(&mut cursor)?;

@@ -175,7 +175,7 @@ pub fn bad_leaf<const D: usize>(
 {
     let file = FileName::Segment(head.id());
     let number = head.page_of(place);
-    let Some(bytes) = cache.take(&file, number) else {
+    let Some(bytes) = cache.remove(&file, number) else {
         unreachable!()
     };
     PageFault::Damaged(Damage::Leaf {

@@ -3,7 +3,7 @@
 ghost use Rattle.std.specs.Prelude.{◌≡◌, ◌<◌, ◌+◌, ◌++◌, ◌^◌, ℕ, List, [], length, IsTrue, IfOk, OnOk};
 ghost use Rattle.outer_io.specs.Files.{bytes_of, SameBut};
 ghost use Rattle.outer_io.specs.declared.file_name.FileName.TheVariants.{Segment};
-ghost use Rattle.page_cache.specs.Bodies.{pages_for as pages_for_body, filled};
+ghost use Rattle.page_cache.specs.Bodies.{pages_for as pages_for_body, padded_body};
 ghost use Rattle.page_cache.specs.Causes.{HasStoreCause};
 
 use byte_cursor::Memory;
@@ -50,7 +50,7 @@ impl Pieces {
         ensures put { IsTrue F.told → OnOk result ((payloads : List ℕ)
             → IsPaged (Segment (piece_id self.old)) (piece_pages self.old) payloads
             (so_far (bytes_of (F.files folder.old (Segment (piece_id self.old)))) self.old)
-            → IsPaged (Segment (piece_id self.old)) (piece_pages self.new) (payloads ++ filled body.now)
+            → IsPaged (Segment (piece_id self.old)) (piece_pages self.new) (payloads ++ padded_body body.now)
             (so_far (bytes_of (F.files folder.new (Segment (piece_id self.old)))) self.new)) }
         ensures others { IsTrue F.told
             → SameBut (Segment (piece_id self.old)) (F.files folder.old) (F.files folder.new) }
@@ -73,7 +73,7 @@ impl Pieces {
         ensures put { OnOk result
             ((files payloads : List ℕ)
             → IsPaged (Segment (piece_id self.old)) (piece_pages self.old) payloads (so_far files self.old)
-            → IsPaged (Segment (piece_id self.old)) (piece_pages self.new) (payloads ++ filled body.now)
+            → IsPaged (Segment (piece_id self.old)) (piece_pages self.new) (payloads ++ padded_body body.now)
             (so_far files self.new)) }
     {
         put_pages(&mut self.out, &FileName::Segment(self.id), self.pages, body)?;

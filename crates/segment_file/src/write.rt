@@ -4,7 +4,7 @@ ghost use Rattle.std.specs.Prelude.{◌≡◌, ◌≤◌, ◌<◌, ◌+◌, ◌^
 ghost use Rattle.outer_io.specs.Files.{bytes_of, SameBut};
 ghost use Rattle.outer_io.specs.declared.file_name.FileName.TheVariants.{Segment};
 ghost use Rattle.point_codec.specs.Points.{Item};
-ghost use Rattle.page_cache.specs.Bodies.{filled};
+ghost use Rattle.page_cache.specs.Bodies.{padded_body};
 ghost use Rattle.page_cache.specs.Causes.{HasStoreCause};
 ghost use Rattle.segment_file.specs.Heads.{fields_bytes};
 ghost use Rattle.segment_file.specs.FieldsSeen.{fields_said};
@@ -74,7 +74,7 @@ fn put_segment<F: Folder>(
     requires leaves { All (λ b. length b ≤ 4064) leaves.now }
     requires few { length leaves.now ≤ 8388608 }
     ensures written { IsTrue F.told → OnOk result ((count : ℕ) × IsPaged (Segment id) count
-        (filled (fields_bytes (fields_said fields)) ++ filled index.now ++ laid_pages [] leaves.now)
+        (padded_body (fields_bytes (fields_said fields)) ++ padded_body index.now ++ laid_pages [] leaves.now)
         (bytes_of (F.files folder.new (Segment id)))) }
     ensures others { IsTrue F.told → SameBut (Segment id) (F.files folder.old) (F.files folder.new) }
     ensures reads { F.reads folder.new ≡ F.reads folder.old }

@@ -30,7 +30,7 @@ use Rattle.stored_index.proofs.Pairwise.{partner_of, zip_same}
 use Rattle.stored_index.proofs.Parts.{contents}
 use Rattle.stored_index.proofs.Whole.{held_for}
 use Rattle.index_model.specs.State.{Index, State}
-use Rattle.segment_view.specs.Parts.{AreRead, Contents, IsRead, Part, ids_of, live_in_parts, lives_of}
+use Rattle.segment_view.specs.LiveSegments.{AreRead, Contents, IsRead, LiveSegment, ids_of, live_in_parts, lives_of}
 use Rattle.file_names.specs.Names.{NameList, is_named}
 use Rattle.file_names.proofs.Listed.{contains-is_named, is_named-contains}
 use Rattle.segment_set.specs.Sets.{IsNamed, IsWell, NamedView, SetData}
@@ -112,7 +112,7 @@ commit_unlisted c names is = false_from_ne_true (is_named names Commit) (λ name
 
 -- ---- the set that is attached
 
-abbrev pub attached : CommitData → NameList → List Part → PageCache → SetData
+abbrev pub attached : CommitData → NameList → List LiveSegment → PageCache → SetData
 attached c names parts cache = record {
   leaf = c.leaf;
   next = c.next;
@@ -134,9 +134,9 @@ entries_map es (d ∷ ds) all =
     (All-head (λ (e : SegmentData). es e.head.id ≡ e.entries) d ds all)
     ∙ ap (λ (xs : List Item). live_entries d ++ xs) (entries_map es ds (All-tail (λ (e : SegmentData). es e.head.id ≡ e.entries) d ds all))
 
-pub sees_attached : (D : ℕ) (files : Files) (c : CommitData) (names : NameList) (parts : List Part) (cache : PageCache) (i : Index) → c.dims ≡ D
+pub sees_attached : (D : ℕ) (files : Files) (c : CommitData) (names : NameList) (parts : List LiveSegment) (cache : PageCache) (i : Index) → c.dims ≡ D
     → IsCommitFile (bytes_of (files Commit)) c → IsStored files (Some i)
-    → HaveHeads files c (map (λ (p : Part). p.head) parts) → HaveLive files c (lives_of parts) → Agrees files cache
+    → HaveHeads files c (map (λ (p : LiveSegment). p.head) parts) → HaveLive files c (lives_of parts) → Agrees files cache
     → Sees D files (attached c names parts cache) i
 sees_attached D files c names parts cache i dims says stored heads lives agrees =
     let found = held_for files c (Some i) stored says in
@@ -194,7 +194,7 @@ once_none : NoneTwice []
 unfolding NoneTwice
 once_none x = omega arith
 
-pub well_attached : (D : ℕ) (told : Type 0) (files : Files) (c : CommitData) (names : NameList) (parts : List Part) (cache : PageCache) → c.dims ≡ D
+pub well_attached : (D : ℕ) (told : Type 0) (files : Files) (c : CommitData) (names : NameList) (parts : List LiveSegment) (cache : PageCache) → c.dims ≡ D
     → IsCommit c → AllZip (IsOpened told files c) c.listed parts
     → ((number : ℕ) → (places number (lives_of parts) ≤ 1) × (c.next ≤ number → places number (lives_of parts) ≡ 0))
     → ((m : FileName) → (is_named names.names m ≡ true) ↔ ListsFile c m) → is_named names.names Commit ≡ false
@@ -212,9 +212,9 @@ well_attached D told files c names parts cache dims commit all placed listed own
   once = once_none;
   sixteen = λ number. omega arith;
   few = let long = zip_length (IsOpened told files c) c.listed parts all in let few = commit.ranges.few in omega arith;
-  leaf_size = zip_right (IsOpened told files c) (λ (s : Listed). Unit {0}) (λ (p : Part). p.head.leaf ≡ c.leaf) c.listed parts
+  leaf_size = zip_right (IsOpened told files c) (λ (s : Listed). Unit {0}) (λ (p : LiveSegment). p.head.leaf ≡ c.leaf) c.listed parts
       (λ s p u one. one.listed.leaf_size) (λ k s lt. tt) all;
-  live_fits = zip_right (IsOpened told files c) (λ (s : Listed). s.live ≤ s.entries) (λ (p : Part). length p.live.live ≤ p.head.entries) c.listed parts
+  live_fits = zip_right (IsOpened told files c) (λ (s : Listed). s.live ≤ s.entries) (λ (p : LiveSegment). length p.live.live ≤ p.head.entries) c.listed parts
       (λ s p le one. omega (arith, le, one.listed.live, one.listed.entries)) (λ k s lt. (commit.segments.each k s lt).live) all;
   named = zip_right (IsOpened told files c) (Contains c.listed) (IsNamed names) c.listed parts
       (λ s p there one. (listed (Segment p.head.id)).1 (s, there, sym one.listed.id)) (All-contains_itself c.listed) all;
@@ -228,7 +228,7 @@ well_attached D told files c names parts cache dims commit all placed listed own
   cached = λ id keeps. absurd (none id keeps);
 }
 
-pub at_rest_attached : (told : Type 0) (files : Files) (c : CommitData) (names : NameList) (parts : List Part) (cache : PageCache)
+pub at_rest_attached : (told : Type 0) (files : Files) (c : CommitData) (names : NameList) (parts : List LiveSegment) (cache : PageCache)
     → AllZip (IsOpened told files c) c.listed parts → names.next_segment ≡ c.next_segment
     → IsAtRest (attached c names parts cache) c
 at_rest_attached told files c names parts cache all next = record {
@@ -236,11 +236,13 @@ at_rest_attached told files c names parts cache all next = record {
   as_committed = record {
     next = refl;
     given = refl;
-    ids = zip_same (IsOpened told files c) (λ (s : Listed). s.segment) (λ (p : Part). p.head.id) (λ s p one. one.listed.id) c.listed parts all;
-    counts = zip_same (IsOpened told files c) (λ (s : Listed). s.live) (λ (p : Part). length p.live.live) (λ s p one. one.listed.live) c.listed parts all;
+    ids = zip_same (IsOpened told files c) (λ (s : Listed). s.segment) (λ (p : LiveSegment). p.head.id) (λ s p one. one.listed.id) c.listed parts all;
+    counts =
+        zip_same (IsOpened told files c) (λ (s : Listed). s.live) (λ (p : LiveSegment). length p.live.live) (λ s p one. one.listed.live) c.listed parts all;
     empty = refl;
   };
-  entries = zip_same (IsOpened told files c) (λ (s : Listed). s.entries) (λ (p : Part). p.head.entries) (λ s p one. one.listed.entries) c.listed parts all;
+  entries =
+      zip_same (IsOpened told files c) (λ (s : Listed). s.entries) (λ (p : LiveSegment). p.head.entries) (λ s p one. one.listed.entries) c.listed parts all;
   next_segment = next;
   snapshots = refl;
   begun = refl;
@@ -248,7 +250,7 @@ at_rest_attached told files c names parts cache all next = record {
 }
 
 -- the set as a call makes it
-pub attached_is : (c : CommitData) (names : NameList) (parts : List Part) (cache : PageCache) (leaf next given : ℕ) (buffer : List Item)
+pub attached_is : (c : CommitData) (names : NameList) (parts : List LiveSegment) (cache : PageCache) (leaf next given : ℕ) (buffer : List Item)
     (snapshots : List NamedView) → leaf ≡ c.leaf → next ≡ c.next → given ≡ c.given → buffer ≡ [] → snapshots ≡ []
     → record (attached c names parts cache) { leaf = leaf; next = next; given = given; buffer = buffer; snapshots = snapshots } ≡ attached c names parts cache
 attached_is c names parts cache leaf next given buffer snapshots l n g b s =

@@ -12,7 +12,7 @@ use Rattle.point_codec.specs.Seen.{items_of}
 use Rattle.point_codec.specs.declared.entries.Entry.{Entry}
 use Rattle.leaf_codec.specs.LeafOrder.{item_of}
 use Rattle.documents.specs.Entries.{entries_but, has_entry}
-use Rattle.segment_set.specs.Runs.{IsRun}
+use Rattle.segment_set.specs.Runs.{IsRunOf}
 use Rattle.segment_set.specs.Waiting.{came_as, gone_as, out_of, waiting, waits}
 
 -- ---- the run of a number
@@ -52,7 +52,7 @@ module _ {X : Type 0} (n : X → ℕ) (number : ℕ) where
           let gt = leb-false i j e in absurd (crossed (get_or (x ∷ xs) j x) (below j x (omega arith) gt) (above j x (omega arith) (omega (arith, gt, li))))
 
   pub run_is : (xs : List X) (i j : ℕ) → i ≤ length xs → j ≤ length xs → AllWithin Below xs 0 i → AllWithin NotBelow xs i (length xs)
-      → AllWithin UpTo xs 0 j → AllWithin Above xs j (length xs) → IsRun n number xs i j
+      → AllWithin UpTo xs 0 j → AllWithin Above xs j (length xs) → IsRunOf n number xs i j
   run_is xs i j li lj below not_below up_to above = record {
     before = λ k d le lt. differs (get_or xs k d) (below k d le lt);
     inside = λ k d le lt. equals (get_or xs k d) (not_below k d le (omega (arith, lt, lj))) (up_to k d (omega arith) lt);
@@ -63,7 +63,7 @@ module _ {X : Type 0} (n : X → ℕ) (number : ℕ) where
 -- where two partition points stand
 pub points_run : {X : Type 0} (n : X → ℕ) (number : ℕ) (xs ys zs : List X) (i j : ℕ) → ys ≡ xs → zs ≡ xs → i ≤ length ys → j ≤ length zs
     → IsPartitionPoint (λ y. ltb (n y) number ≡ true) (λ y. ltb (n y) number ≡ false) ys i
-    → IsPartitionPoint (λ y. leb (n y) number ≡ true) (λ y. leb (n y) number ≡ false) zs j → IsRun n number xs i j
+    → IsPartitionPoint (λ y. leb (n y) number ≡ true) (λ y. leb (n y) number ≡ false) zs j → IsRunOf n number xs i j
 points_run n number xs ys zs i j first second li lj from to =
     let lx = ap length first in
     let ly = ap length second in
@@ -102,7 +102,7 @@ pub goes_out : {D : ℕ} (number : ℕ) (e : Entry D) → eqb (came_as e.doc) nu
 goes_out number e is = ap (λ b. cond b (record e { doc = gone_as e.doc }) e) is
 
 -- before the run nothing is changed
-pub out_none : {D : ℕ} (number : ℕ) (xs : List (Entry D)) (i j : ℕ) → IsRun (λ (e : Entry D). came_as e.doc) number xs i j
+pub out_none : {D : ℕ} (number : ℕ) (xs : List (Entry D)) (i j : ℕ) → IsRunOf (λ (e : Entry D). came_as e.doc) number xs i j
     → xs ≡ map (entry_out number) (take i xs) ++ drop i xs
 out_none {D} number xs i j run =
     sym (take-append-drop i xs)
@@ -110,7 +110,7 @@ out_none {D} number xs i j run =
     (sym (same_front (λ (e : Entry D). eqb (came_as e.doc) number ≡ false) (entry_out number) (others_stay number) xs i run.before))
 
 -- and behind it nothing more is
-pub out_all : {D : ℕ} (number : ℕ) (xs ys : List (Entry D)) (i j : ℕ) → IsRun (λ (e : Entry D). came_as e.doc) number xs i j
+pub out_all : {D : ℕ} (number : ℕ) (xs ys : List (Entry D)) (i j : ℕ) → IsRunOf (λ (e : Entry D). came_as e.doc) number xs i j
     → ys ≡ map (entry_out number) (take j xs) ++ drop j xs → ys ≡ map (entry_out number) xs
 out_all {D} number xs ys i j run is =
     is

@@ -7,19 +7,19 @@ use Rattle.outer_io.specs.declared.file_name.FileName.{FileName}
 use Rattle.outer_io.specs.declared.file_name.FileName.TheVariants.{Commit, Segment}
 use Rattle.outer_io.specs.Files.{Files, SameBut, bytes_of}
 use Rattle.point_codec.specs.Points.{Item}
-use Rattle.live_bits.specs.LiveSet.{LiveSet, without}
+use Rattle.live_bits.specs.LiveSet.{LiveSet, live_set_without}
 use Rattle.live_bits.proofs.LiveNumbers.{is_live-without}
 use Rattle.documents.proofs.Lists.{cons_cases, of_filter, of_map}
 use Rattle.segment_file.specs.Heads.{Head}
 use Rattle.segment_file.specs.Segments.{IsSegment}
 use Rattle.document_checks.specs.Crowded.{AreUncrowded}
 use Rattle.segment_build.specs.NewSegments.{IsCanonical}
-use Rattle.segment_view.specs.Parts.{Part, IsPlaced, cleared}
+use Rattle.segment_view.specs.LiveSegments.{LiveSegment, IsPlaced, cleared_parts}
 use Rattle.file_names.specs.Names.{NameList, is_named}
 use Rattle.file_names.proofs.Listed.{is_named-apart, joins, others_stay, stays}
 use Rattle.segment_set.specs.Given.{AreNext, IsNextName}
 use Rattle.segment_set.specs.Sets.{SetData, IsNamed}
-use Rattle.segment_set.specs.Kept.{KeepsNamed, StaysAlone, StaysButCache, IsWithin, Follows, HasCanonical, AreCanonical}
+use Rattle.segment_set.specs.Kept.{KeepsNamed, StaysAlone, StaysButCache, IsSubset, Follows, HasCanonical, AreCanonical}
 
 -- ---- names and files
 
@@ -97,29 +97,30 @@ stays_cached s t alone =
 
 -- ---- the segments
 
-pub within_itself : (s : LiveSet) → IsWithin s s
+pub within_itself : (s : LiveSet) → IsSubset s s
 within_itself s = record { base = refl; span = refl; live = λ n h. h }
 
-pub within_then : (a b c : LiveSet) → IsWithin a b → IsWithin b c → IsWithin a c
+pub within_then : (a b c : LiveSet) → IsSubset a b → IsSubset b c → IsSubset a c
 within_then a b c first second = record { base = first.base ∙ second.base; span = first.span ∙ second.span; live = λ n h. second.live n (first.live n h) }
 
 left_true : (a b : Bool) → (a && b) ≡ true → a ≡ true
 left_true true b e = refl
 left_true false b e = e
 
-pub within_cleared : (number : ℕ) (s : LiveSet) → IsWithin (without number s) s
+pub within_cleared : (number : ℕ) (s : LiveSet) → IsSubset (live_set_without number s) s
 within_cleared number s = record { base = refl; span = refl; live = λ n h. left_true _ _ (sym (is_live-without s number n) ∙ h) }
 
-pub follows_none : (names : NameList) (parts : List Part) → Follows names parts parts
+pub follows_none : (names : NameList) (parts : List LiveSegment) → Follows names parts parts
 follows_none names parts = record { each = λ p there. inr (p, there, refl, within_itself p.live) }
 
-pub follows_same : (names : NameList) (old new : List Part) → new ≡ old → Follows names old new
+pub follows_same : (names : NameList) (old new : List LiveSegment) → new ≡ old → Follows names old new
 follows_same names old new same = subst (Follows names old) (sym same) (follows_none names old)
 
 pub follows_cached : (s t : SetData) → StaysButCache s t → Follows s.names s.parts t.parts
 follows_cached s t alone = follows_same s.names s.parts t.parts (ap (λ (u : SetData). u.parts) alone.is)
 
-pub follows_then : (m n : NameList) (a b c : List Part) → ((name : FileName) → is_named m.names name ≡ true → is_named n.names name ≡ true) → Follows m a b
+pub follows_then : (m n : NameList) (a b c : List LiveSegment) → ((name : FileName) → is_named m.names name ≡ true → is_named n.names name ≡ true)
+    → Follows m a b
     → Follows n b c → Follows m a c
 follows_then m n a b c more first second =
     record {
@@ -127,45 +128,47 @@ follows_then m n a b c more first second =
           ⊎_elim (λ fresh. inl (unnamed_before m.names n.names (Segment p.head.id) (more (Segment p.head.id)) fresh)) (λ r. through p r) (second.each p there);
     }
   where
-    through : (p : Part) → (q : Part) × Contains b q × (p.head ≡ q.head) × IsWithin p.live q.live
-        → (is_named m.names (Segment p.head.id) ≡ false) ⊎ ((q : Part) × Contains a q × (p.head ≡ q.head) × IsWithin p.live q.live)
+    through : (p : LiveSegment) → (q : LiveSegment) × Contains b q × (p.head ≡ q.head) × IsSubset p.live q.live
+        → (is_named m.names (Segment p.head.id) ≡ false) ⊎ ((q : LiveSegment) × Contains a q × (p.head ≡ q.head) × IsSubset p.live q.live)
     through p (q, there, head, within) = ⊎_elim
         (λ fresh. inl (ap (λ (h : Head). is_named m.names (Segment h.id)) head ∙ fresh))
         (λ (o, here, same, inside). inr (o, here, head ∙ same, within_then p.live q.live o.live within inside))
         (first.each q there)
 
-pub follows_filter : (names : NameList) (keep : Part → Bool) (parts : List Part) → Follows names parts (filter keep parts)
+pub follows_filter : (names : NameList) (keep : LiveSegment → Bool) (parts : List LiveSegment) → Follows names parts (filter keep parts)
 follows_filter names keep parts = record { each = λ p there. inr (p, (of_filter keep parts p there).0, refl, within_itself p.live) }
 
-pub follows_cleared : (names : NameList) (number : ℕ) (parts : List Part) → Follows names parts (cleared number parts)
+pub follows_cleared : (names : NameList) (number : ℕ) (parts : List LiveSegment) → Follows names parts (cleared_parts number parts)
 follows_cleared names number parts = record {
-  each = λ p there. let r = of_map (λ (q : Part). record q { live = without number q.live }) parts p there in
+  each = λ p there. let r = of_map (λ (q : LiveSegment). record q { live = live_set_without number q.live }) parts p there in
       inr (
         r.0,
         r.1,
-        sym (ap (λ (q : Part). q.head) r.2),
-        subst (λ (s : LiveSet). IsWithin s r.0.live) (ap (λ (q : Part). q.live) r.2) (within_cleared number r.0.live),
+        sym (ap (λ (q : LiveSegment). q.head) r.2),
+        subst (λ (s : LiveSet). IsSubset s r.0.live) (ap (λ (q : LiveSegment). q.live) r.2) (within_cleared number r.0.live),
       );
 }
 
 -- which segments are there after one came: that one, or one of those before
-pub placed_cases : {P : Type 0} (p : Part) (old new : List Part) → IsPlaced p old new → (q : Part) → Contains new q → (p ≡ q → P) → (Contains old q → P) → P
+pub placed_cases : {P : Type 0} (p : LiveSegment) (old new : List LiveSegment) → IsPlaced p old new → (q : LiveSegment) → Contains new q → (p ≡ q → P)
+    → (Contains old q → P) → P
 placed_cases p old new put q there itself other =
-    ⊎_elim (λ h. other (subst (λ (ps : List Part). Contains ps q) (sym put.before) (Contains-append_left put.front put.back q h)))
-    (λ h. ⊎_elim itself (λ r. other (subst (λ (ps : List Part). Contains ps q) (sym put.before) (Contains-append_right put.front put.back q r)))
+    ⊎_elim (λ h. other (subst (λ (ps : List LiveSegment). Contains ps q) (sym put.before) (Contains-append_left put.front put.back q h)))
+    (λ h. ⊎_elim itself (λ r. other (subst (λ (ps : List LiveSegment). Contains ps q) (sym put.before) (Contains-append_right put.front put.back q r)))
     (cons_cases p put.back q h))
-    (Contains-append_cases put.front (p ∷ put.back) q (subst (λ (ps : List Part). Contains ps q) put.after there))
+    (Contains-append_cases put.front (p ∷ put.back) q (subst (λ (ps : List LiveSegment). Contains ps q) put.after there))
 
-pub follows_placed : (names : NameList) (p : Part) (before old new : List Part) → IsPlaced p old new → is_named names.names (Segment p.head.id) ≡ false
+pub follows_placed : (names : NameList) (p : LiveSegment) (before old new : List LiveSegment) → IsPlaced p old new
+    → is_named names.names (Segment p.head.id) ≡ false
     → Follows names before old → Follows names before new
 follows_placed names p before old new put fresh others = record {
   each = λ q there.
-      placed_cases p old new put q there (λ e. inl (ap (λ (r : Part). is_named names.names (Segment r.head.id)) (sym e) ∙ fresh)) (λ h. others.each q h);
+      placed_cases p old new put q there (λ e. inl (ap (λ (r : LiveSegment). is_named names.names (Segment r.head.id)) (sym e) ∙ fresh)) (λ h. others.each q h);
 }
 
 -- ---- canonical segments
 
-pub canon_named : (D : ℕ) (files : Files) (names : NameList) (parts : List Part) → All (IsNamed names) parts → AreCanonical D files names parts
+pub canon_named : (D : ℕ) (files : Files) (names : NameList) (parts : List LiveSegment) → All (IsNamed names) parts → AreCanonical D files names parts
 canon_named D files names parts all p there fresh =
     absurd (both_ways (is_named names.names (Segment p.head.id)) fresh (All-contains (IsNamed names) parts p all there))
 
@@ -176,21 +179,21 @@ canon_file D before after g h same file has =
     (subst (λ b. ∥ ((items : List Item) × IsSegment D (bytes_of b) g items × IsCanonical D g items × AreUncrowded items) ∥₁) (sym file) has)
 
 -- segments that were canonical, and another call
-pub canon_then : (D : ℕ) (told : Type 0) (m n k : NameList) (f g : Files) (b c : List Part) → told → KeepsNamed told n k f g
+pub canon_then : (D : ℕ) (told : Type 0) (m n k : NameList) (f g : Files) (b c : List LiveSegment) → told → KeepsNamed told n k f g
     → ((name : FileName) → is_named m.names name ≡ true → is_named n.names name ≡ true)
     → All (IsNamed n) b → AreCanonical D f m b → Follows n b c → AreCanonical D g n c → AreCanonical D g m c
 canon_then D told m n k f g b c t keeps more named first follows second p there fresh = ⊎_elim (second p there) (λ r. through r) (follows.each p there)
   where
-    through : (q : Part) × Contains b q × (p.head ≡ q.head) × IsWithin p.live q.live → HasCanonical D g p.head
+    through : (q : LiveSegment) × Contains b q × (p.head ≡ q.head) × IsSubset p.live q.live → HasCanonical D g p.head
     through (q, here, head, within) =
         canon_file D f g q.head p.head head (keeps.files t (Segment q.head.id) (All-contains (IsNamed n) b q named here))
         (first q here (ap (λ (h : Head). is_named m.names (Segment h.id)) (sym head) ∙ fresh))
 
-pub canon_placed : (D : ℕ) (files : Files) (names : NameList) (p : Part) (old new : List Part) → IsPlaced p old new → HasCanonical D files p.head
+pub canon_placed : (D : ℕ) (files : Files) (names : NameList) (p : LiveSegment) (old new : List LiveSegment) → IsPlaced p old new → HasCanonical D files p.head
     → AreCanonical D files names old → AreCanonical D files names new
 canon_placed D files names p old new put has others q there fresh =
-    placed_cases p old new put q there (λ e. subst (λ (r : Part). HasCanonical D files r.head) e has) (λ h. others q h fresh)
+    placed_cases p old new put q there (λ e. subst (λ (r : LiveSegment). HasCanonical D files r.head) e has) (λ h. others q h fresh)
 
-pub canon_filter : (D : ℕ) (files : Files) (names : NameList) (keep : Part → Bool) (parts : List Part) → AreCanonical D files names parts
+pub canon_filter : (D : ℕ) (files : Files) (names : NameList) (keep : LiveSegment → Bool) (parts : List LiveSegment) → AreCanonical D files names parts
     → AreCanonical D files names (filter keep parts)
 canon_filter D files names keep parts all p there fresh = all p (of_filter keep parts p there).0 fresh

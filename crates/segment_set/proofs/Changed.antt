@@ -9,15 +9,15 @@ use Rattle.std.proofs.lemmas.List.Folds.{list_any-append}
 use Rattle.std.proofs.lemmas.List.Sums.{count_by-le-length, length-filter}
 use Rattle.outer_io.specs.Files.{Files}
 use Rattle.point_codec.specs.Points.{ArePoints, Item}
-use Rattle.live_bits.specs.LiveSet.{LiveSet, is_live, without}
+use Rattle.live_bits.specs.LiveSet.{LiveSet, is_live, live_set_without}
 use Rattle.live_bits.proofs.LiveNumbers.{is_live-without}
-use Rattle.documents.specs.Documents.{Ascend, Document, deleted, hits, is_live as is_live_doc, passes, without as without_passing}
+use Rattle.documents.specs.Documents.{Ascend, Document, docs_without, hits, is_live as is_live_doc, passes, docs_failing as without_passing}
 use Rattle.documents.specs.Entries.{AreDocs, SameTotals, entries_but, entries_of, entry_of, has_entry, is_among}
 use Rattle.documents.proofs.Kept.{added, among_hits, but_one, live as live_docs}
 use Rattle.documents.proofs.Lists.{filter_alike, filter_twice}
 use Rattle.documents.proofs.Totals.{sum_by-filter}
 use Rattle.index_model.specs.State.{Index}
-use Rattle.segment_view.specs.Parts.{Part, Contents, cleared, has_live, live_in_parts, parts_among}
+use Rattle.segment_view.specs.LiveSegments.{LiveSegment, Contents, cleared_parts, has_live, live_in_parts, parts_among}
 use Rattle.segment_view.proofs.Living.{live_cleared, live_numbers, read_cleared}
 use Rattle.segment_build.specs.NewSegments.{NewSegmentData}
 use Rattle.segment_set.specs.Sets.{BegunMerge, SetData, begun_but, built_but, is_live_in, set_but, set_with}
@@ -32,29 +32,30 @@ totals_filter : (p : Item → Bool) (xs ys : List Item) → SameTotals xs ys →
 totals_filter p xs ys same f = sum_by-filter f p ys ∙ same (λ x. cond (p x) (f x) 0) ∙ sym (sum_by-filter f p xs)
 
 one_cleared : (s : LiveSet) (number : ℕ) (xs : List Item)
-    → entries_but number (filter (λ (x : Item). is_live s x.doc) xs) ≡ filter (λ (x : Item). is_live (without number s) x.doc) xs
+    → entries_but number (filter (λ (x : Item). is_live s x.doc) xs) ≡ filter (λ (x : Item). is_live (live_set_without number s) x.doc) xs
 one_cleared s number xs =
     filter_twice (λ (x : Item). not (eqb x.doc number)) (λ (x : Item). is_live s x.doc) xs
-    ∙ filter_alike (λ (x : Item). is_live s x.doc && not (eqb x.doc number)) (λ (x : Item). is_live (without number s) x.doc) xs
+    ∙ filter_alike (λ (x : Item). is_live s x.doc && not (eqb x.doc number)) (λ (x : Item). is_live (live_set_without number s) x.doc) xs
     (λ x h. sym (is_live-without s number x.doc))
 
-merges_but : (D number : ℕ) (c : Contents) (inputs : List Part) (n : Option NewSegmentData) → MergesInto D c inputs n
-    → MergesInto D c (cleared number inputs) (built_but number n)
+merges_but : (D number : ℕ) (c : Contents) (inputs : List LiveSegment) (n : Option NewSegmentData) → MergesInto D c inputs n
+    → MergesInto D c (cleared_parts number inputs) (built_but number n)
 merges_but D number c inputs None none = live_cleared c number inputs ∙ ap (entries_but number) none
 merges_but D number c inputs (Some n) is = record {
   items = is.items;
   has = record { built = is.has.built; counted = is.has.counted; fits = is.has.fits };
   found = λ m live. is.found m (left_of (is_live n.live m) (not (eqb m number)) (sym (is_live-without n.live number m) ∙ live));
-  same = subst (λ (xs : List Item). SameTotals xs (filter (λ (x : Item). is_live (without number n.live) x.doc) is.items)) (sym (live_cleared c number inputs))
+  same = subst (λ (xs : List Item). SameTotals xs (filter (λ (x : Item). is_live (live_set_without number n.live) x.doc) is.items))
+      (sym (live_cleared c number inputs))
       (subst (SameTotals (entries_but number (live_in_parts c inputs))) (one_cleared n.live number is.items)
       (totals_filter (λ (x : Item). not (eqb x.doc number)) (live_in_parts c inputs) (filter (λ (x : Item). is_live n.live x.doc) is.items) is.same));
 }
 
-begun_stands_but : (D number : ℕ) (c : Contents) (parts : List Part) (begun : Option BegunMerge) → BegunStands D c parts begun
-    → BegunStands D c (cleared number parts) (begun_but number begun)
+begun_stands_but : (D number : ℕ) (c : Contents) (parts : List LiveSegment) (begun : Option BegunMerge) → BegunStands D c parts begun
+    → BegunStands D c (cleared_parts number parts) (begun_but number begun)
 begun_stands_but D number c parts None stands = tt
 begun_stands_but D number c parts (Some b) stands =
-    subst (λ (ps : List Part). MergesInto D c ps (built_but number b.built)) (sym (among_cleared number b.inputs parts))
+    subst (λ (ps : List LiveSegment). MergesInto D c ps (built_but number b.built)) (sym (among_cleared number b.inputs parts))
     (merges_but D number c (parts_among b.inputs parts) b.built stands)
 
 pub stands_but : (D number : ℕ) (files : Files) (c : Contents) (s : SetData) → StandsOver D files c s → StandsOver D files c (set_but number s)
@@ -66,13 +67,13 @@ stands_but D number files c s stands = record {
 }
 
 seen_but : (number : ℕ) (c : Contents) (s : SetData)
-    → entries_seen c (cleared number s.parts) (entries_but number s.buffer) ≡ entries_but number (entries_seen c s.parts s.buffer)
+    → entries_seen c (cleared_parts number s.parts) (entries_but number s.buffer) ≡ entries_but number (entries_seen c s.parts s.buffer)
 seen_but number c s =
     ap (λ (xs : List Item). xs ++ entries_but number s.buffer) (live_cleared c number s.parts)
     ∙ sym (filter-append (λ (x : Item). not (eqb x.doc number)) (live_in_parts c s.parts) s.buffer)
 
 pub sees_but : (D number : ℕ) (files : Files) (s : SetData) (i : Index) → Sees D files s i
-    → Sees D files (set_but number s) (record i { docs = deleted number i.docs })
+    → Sees D files (set_but number s) (record i { docs = docs_without number i.docs })
 sees_but D number files s i seen = record {
   contents = seen.contents;
   stands = stands_but D number files seen.contents s seen.stands;
@@ -81,7 +82,7 @@ sees_but D number files s i seen = record {
   next = seen.next;
   given = seen.given;
   begun = seen.begun ∙ flag s.begun;
-  docs = subst (λ (xs : List Item). AreDocs s.next xs (deleted number i.docs)) (sym (seen_but number seen.contents s))
+  docs = subst (λ (xs : List Item). AreDocs s.next xs (docs_without number i.docs)) (sym (seen_but number seen.contents s))
       (but_one s.next (entries_seen seen.contents s.parts s.buffer) i.docs number seen.docs);
   few = omega (
     arith,
@@ -164,8 +165,8 @@ parts_with s t u points room put =
 -- ---- the set from its fields
 
 -- the parts that a deletion changes
-pub set_but_is : (number : ℕ) (s : SetData) (next : ℕ) (parts : List Part) (buffer : List Item) (begun : Option BegunMerge) → next ≡ s.next
-    → parts ≡ cleared number s.parts → buffer ≡ entries_but number s.buffer → begun ≡ begun_but number s.begun
+pub set_but_is : (number : ℕ) (s : SetData) (next : ℕ) (parts : List LiveSegment) (buffer : List Item) (begun : Option BegunMerge) → next ≡ s.next
+    → parts ≡ cleared_parts number s.parts → buffer ≡ entries_but number s.buffer → begun ≡ begun_but number s.begun
     → record s { next = next; parts = parts; buffer = buffer; begun = begun } ≡ set_but number s
 set_but_is number s next parts buffer begun n p b m = λ i. record s { next = n i; parts = p i; buffer = b i; begun = m i }
 
@@ -204,7 +205,7 @@ pub docs_none : (docs : List Document) → docs_but [] docs ≡ docs
 docs_none [] = refl
 docs_none (d ∷ ds) = ap (λ es. d ∷ es) (docs_none ds)
 
-pub docs_more : (numbers : List ℕ) (number : ℕ) (docs : List Document) → deleted number (docs_but numbers docs) ≡ docs_but (numbers ++ number ∷ []) docs
+pub docs_more : (numbers : List ℕ) (number : ℕ) (docs : List Document) → docs_without number (docs_but numbers docs) ≡ docs_but (numbers ++ number ∷ []) docs
 docs_more numbers number docs =
     filter_twice (λ (d : Document). not (eqb d.number number)) (λ (d : Document). not (is_among numbers d.number)) docs
     ∙ filter_alike (λ (d : Document). not (is_among numbers d.number) && not (eqb d.number number))

@@ -9,7 +9,7 @@ use Rattle.documents.specs.Entries.{is_among}
 use Rattle.documents.proofs.Kept.{among_from, among_to}
 use Rattle.documents.proofs.Lists.{of_filter}
 use Rattle.merge_policy.specs.Choice.{IsChoice, IsFree, free_count}
-use Rattle.segment_view.specs.Parts.{Part, ids_of, parts_among}
+use Rattle.segment_view.specs.LiveSegments.{LiveSegment, ids_of, parts_among}
 use Rattle.segment_set.specs.Sets.{IsSettled, SetData, pins_of, sizes_of}
 use Rattle.segment_set.specs.Merged.{IsApart}
 use Rattle.segment_set.proofs.Leveled.{pinned}
@@ -19,18 +19,18 @@ pub if_none : {T P : Type 0} (o : Option T) → (IsNone o → P) → IfNone o P
 if_none None h = h refl
 if_none (Some x) h = tt
 
-map_ids : (f : ℕ → Bool) (parts : List Part) → map f (ids_of parts) ≡ map (λ p. f p.head.id) parts
+map_ids : (f : ℕ → Bool) (parts : List LiveSegment) → map f (ids_of parts) ≡ map (λ p. f p.head.id) parts
 map_ids f [] = refl
 map_ids f (p ∷ ps) = ap (λ (bs : List Bool). f p.head.id ∷ bs) (map_ids f ps)
 
-module _ (inputs : List ℕ) (parts : List Part) (sizes : List ℕ) (pins : List Bool) (positions ids : List ℕ) (sizes_are : sizes ≡ sizes_of parts)
+module _ (inputs : List ℕ) (parts : List LiveSegment) (sizes : List ℕ) (pins : List Bool) (positions ids : List ℕ) (sizes_are : sizes ≡ sizes_of parts)
     (pins_are : pins ≡ pinned inputs parts)
     (choice : IsChoice sizes pins positions) (are : ids ≡ map (λ i. get_or (ids_of parts) i 0) positions) where
   sized : length sizes ≡ length parts
-  sized = ap length sizes_are ∙ length-map parts (λ (p : Part). p.head.entries)
+  sized = ap length sizes_are ∙ length-map parts (λ (p : LiveSegment). p.head.entries)
 
   named : length (ids_of parts) ≡ length parts
-  named = length-map parts (λ (p : Part). p.head.id)
+  named = length-map parts (λ (p : LiveSegment). p.head.id)
 
   pub chosen_apart : IsApart ids inputs parts
   chosen_apart = record {
@@ -72,7 +72,7 @@ pub if_ok : {T E : Type 0} (r : Result T E) (P Q : T → Type 0) → ((x : T) �
 if_ok (Ok x) P Q more p = more x p
 if_ok (Err e) P Q more p = tt
 
-pub unpinned_apart : (inputs : List ℕ) (parts : List Part) (ids : List ℕ) → ids ≡ filter (λ id. not (is_among inputs id)) (ids_of parts)
+pub unpinned_apart : (inputs : List ℕ) (parts : List LiveSegment) (ids : List ℕ) → ids ≡ filter (λ id. not (is_among inputs id)) (ids_of parts)
     → IsApart ids inputs parts
 unpinned_apart inputs parts ids are = record {
   among = λ id there. among_from (ids_of parts) id (kept id there).0;

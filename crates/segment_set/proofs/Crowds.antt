@@ -19,12 +19,12 @@ use Rattle.segment_file.proofs.Unique.{tree_once}
 use Rattle.documents.proofs.Lists.{cons_head, cons_tail, of_filter}
 use Rattle.documents.specs.Entries.{is_among}
 use Rattle.stored_index.specs.Segments.{places}
-use Rattle.segment_view.specs.Parts.{Part, lives_of, parts_among}
+use Rattle.segment_view.specs.LiveSegments.{LiveSegment, lives_of, parts_among}
 use Rattle.segment_view.specs.Held.{IsHeld, AreHeld}
 use Rattle.document_checks.specs.Crowded.{IsCrowded}
 use Rattle.file_names.specs.Names.{NameList}
 use Rattle.segment_set.specs.Sets.{AreAlone}
-use Rattle.segment_set.specs.Kept.{AreCanonical, Follows, HasCanonical, IsWithin}
+use Rattle.segment_set.specs.Kept.{AreCanonical, Follows, HasCanonical, IsSubset}
 use Rattle.index_opening.specs.Evidence.{CrowdsPart, IsCrowdedIn}
 use Rattle.segment_set.proofs.Carried.{canon_file}
 use Rattle.segment_set.proofs.Counted.{crowded_whole, crowded_within}
@@ -60,15 +60,17 @@ none_live number q of live dead (x ∷ xs) = by (is_live live x.doc) refl (q x) 
     by true here false e none = omega (arith, none, sum_by-cons (λ y. cond (q y) 1 0) x rest, ap one_if e)
     by false here c e none = none
 
-held_none : (D : ℕ) (files : Files) (number : ℕ) (q : Item → Bool) → IsOf number q → (p : Part) (items : List Item) → is_live p.live number ≡ false
+held_none : (D : ℕ) (files : Files) (number : ℕ) (q : Item → Bool) → IsOf number q → (p : LiveSegment) (items : List Item) → is_live p.live number ≡ false
     → IsHeld D files p items → count_by q items ≤ 0
 held_none D files number q of p items dead (inl none) = omega (arith, ap (count_by q) none.1)
 held_none D files number q of p items dead (inr (entries, held, is)) = omega (arith, ap (count_by q) is, none_live number q of p.live dead entries)
 
-places_cons : (number : ℕ) (p : Part) (ps : List Part) → places number (lives_of (p ∷ ps)) ≡ one_if (is_live p.live number) + places number (lives_of ps)
+places_cons : (number : ℕ) (p : LiveSegment) (ps : List LiveSegment)
+    → places number (lives_of (p ∷ ps)) ≡ one_if (is_live p.live number) + places number (lives_of ps)
 places_cons number p ps = sum_by-cons (λ (t : LiveSet). cond (is_live t number) 1 0) p.live (lives_of ps)
 
-all_none : (D : ℕ) (files : Files) (number : ℕ) (q : Item → Bool) → IsOf number q → (parts : List Part) (items : List Item) → places number (lives_of parts) ≤ 0
+all_none : (D : ℕ) (files : Files) (number : ℕ) (q : Item → Bool) → IsOf number q → (parts : List LiveSegment) (items : List Item)
+    → places number (lives_of parts) ≤ 0
     → AreHeld D files parts items → count_by q items ≤ 0
 all_none D files number q of [] items none held = omega (arith, ap (count_by q) held)
 all_none D files number q of (p ∷ ps) items none held = by (is_live p.live number) refl (all_none D files number q of ps held.back_items)
@@ -85,7 +87,8 @@ all_none D files number q of (p ∷ ps) items none held = by (is_live p.live num
     )
 
 -- it is crowded in one of them, as it is live in one alone
-held_crowd : (D : ℕ) (files : Files) (p : Part) (number : ℕ) (items : List Item) → IsHeld D files p items → IsCrowded number items → CrowdsPart D files p number
+held_crowd : (D : ℕ) (files : Files) (p : LiveSegment) (number : ℕ) (items : List Item) → IsHeld D files p items → IsCrowded number items
+    → CrowdsPart D files p number
 held_crowd D files p number items (inl none) crowd = absurd (nothing (subst (IsCrowded number) none.1 crowd))
   where
     nothing : IsCrowded number [] → ⊥
@@ -93,7 +96,7 @@ held_crowd D files p number items (inl none) crowd = absurd (nothing (subst (IsC
     nothing (inr (x, is, twice)) = omega (arith, twice)
 held_crowd D files p number items (inr (entries, held, is)) crowd = record { items = entries; held = held; crowded = subst (IsCrowded number) is crowd }
 
-pub held_crowded : (D : ℕ) (files : Files) (number : ℕ) (parts : List Part) (items : List Item) → places number (lives_of parts) ≤ 1
+pub held_crowded : (D : ℕ) (files : Files) (number : ℕ) (parts : List LiveSegment) (items : List Item) → places number (lives_of parts) ≤ 1
     → AreHeld D files parts items → IsCrowded number items → IsCrowdedIn D files parts number
 held_crowded D files number [] items alone held crowd = absurd (nothing (subst (IsCrowded number) held crowd))
   where
@@ -124,14 +127,14 @@ held_crowded D files number (p ∷ ps) items alone held crowd = by (is_live p.li
         (behind.0, cons_tail p ps behind.0 behind.1, behind.2)
 
 -- of segments that were gathered
-pub among_crowded : (D : ℕ) (files : Files) (ids : List ℕ) (parts : List Part) (items : List Item) (number : ℕ) → AreAlone parts
+pub among_crowded : (D : ℕ) (files : Files) (ids : List ℕ) (parts : List LiveSegment) (items : List Item) (number : ℕ) → AreAlone parts
     → AreHeld D files (parts_among ids parts) items → IsCrowded number items
     → IsCrowdedIn D files parts number
 among_crowded D files ids parts items number alone held crowd =
     let some = parts_among ids parts in
     let found = held_crowded D files number some items
     (omega (arith, alone number, places_in number some, places_in number parts, parted (place_in number) ids parts)) held crowd in
-    (found.0, (of_filter (λ (p : Part). is_among ids p.head.id) parts found.0 found.1).0, found.2)
+    (found.0, (of_filter (λ (p : LiveSegment). is_among ids p.head.id) parts found.0 found.1).0, found.2)
 
 -- ---- segments whose entries are such as documents have
 
@@ -142,14 +145,14 @@ one_list D bytes head xs ys p q =
     let same = one_index D head.index.form head.index.leaves head.index.bytes p.root q.root p.tree q.tree p.has q.has in
     tree_once D bytes head 0 front q.tree xs ys (subst (λ (t : IndexTree). HoldsTree D bytes head 0 front t xs) same.1 p.holds) q.holds
 
-pub none_crowded : (D : ℕ) (files : Files) (p : Part) (number : ℕ) → HasCanonical D files p.head → CrowdsPart D files p number → ⊥
+pub none_crowded : (D : ℕ) (files : Files) (p : LiveSegment) (number : ℕ) → HasCanonical D files p.head → CrowdsPart D files p number → ⊥
 none_crowded D files p number canonical crowd = ∥∥₁_elim canonical (hlevel props)
     (λ c. c.3 number
     (subst (IsCrowded number) (one_list D (bytes_of (files (Segment p.head.id))) p.head crowd.items c.0 crowd.held c.1)
     (crowded_whole number (λ x. is_live p.live x.doc) crowd.items crowd.crowded)))
 
 -- a crowd of the numbers that are live in a segment is one of those that were
-pub crowd_before : (D : ℕ) (files : Files) (p q : Part) (number : ℕ) → p.head ≡ q.head → IsWithin p.live q.live → CrowdsPart D files p number
+pub crowd_before : (D : ℕ) (files : Files) (p q : LiveSegment) (number : ℕ) → p.head ≡ q.head → IsSubset p.live q.live → CrowdsPart D files p number
     → CrowdsPart D files q number
 crowd_before D files p q number head within crowd = record {
   items = crowd.items;
@@ -158,8 +161,8 @@ crowd_before D files p q number head within crowd = record {
 }
 
 -- so it is of a segment of before, as those that came since have none
-pub crowded_before : (D : ℕ) (f g : Files) (names : NameList) (old new : List Part) (number : ℕ) → Follows names old new → AreCanonical D f names new
-    → ((p : Part) → Contains new p → g (Segment p.head.id) ≡ f (Segment p.head.id)) → IsCrowdedIn D g new number → IsCrowdedIn D g old number
+pub crowded_before : (D : ℕ) (f g : Files) (names : NameList) (old new : List LiveSegment) (number : ℕ) → Follows names old new → AreCanonical D f names new
+    → ((p : LiveSegment) → Contains new p → g (Segment p.head.id) ≡ f (Segment p.head.id)) → IsCrowdedIn D g new number → IsCrowdedIn D g old number
 crowded_before D f g names old new number follows canon same (p, there, crowd) = ⊎_elim
     (λ fresh. absurd (none_crowded D g p number (canon_file D f g p.head p.head refl (same p there) (canon p there fresh)) crowd))
     (λ (q, here, head, within). (q, here, crowd_before D g p q number head within crowd))

@@ -20,7 +20,7 @@ use Rattle.documents.proofs.Lists.{cons_head, cons_tail, pairs_head, pairs_tail}
 use Rattle.documents.proofs.Making.{docs_make}
 use Rattle.stored_index.specs.Segments.{places}
 use Rattle.stored_index.proofs.Places.{entry_there}
-use Rattle.segment_view.specs.Parts.{lives_of}
+use Rattle.segment_view.specs.LiveSegments.{lives_of}
 use Rattle.document_checks.specs.Crowded.{AreFew}
 use Rattle.segment_set.specs.Sets.{IsWell, SetData, set_with}
 use Rattle.segment_set.proofs.Well.{left_of}

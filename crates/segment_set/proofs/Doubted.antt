@@ -9,7 +9,7 @@ use Rattle.page_cache.specs.declared.faults.Damage.{Damage}
 use Rattle.page_cache.specs.declared.faults.PageFault.{PageFault}
 use Rattle.page_cache.specs.Evidence.{OnDamage, NotDamaged}
 use Rattle.nearest_query.proofs.Parts.{on_damage}
-use Rattle.segment_view.specs.Parts.{Part, Contents, live_in_parts, parts_among}
+use Rattle.segment_view.specs.LiveSegments.{LiveSegment, Contents, live_in_parts, parts_among}
 use Rattle.segment_view.specs.Damages.{IsPartDamage}
 use Rattle.file_names.specs.Names.{NameList}
 use Rattle.segment_set.specs.Damages.{IsDoubt, IsMergeDamage, Read}
@@ -21,12 +21,12 @@ pub whole_shows : {T : Type 0} (P : Damage → Type 0) (r : Result T PageFault) 
 whole_shows P r whole = on_damage (λ _. ⊥) P r (λ d h. absurd h) whole
 
 -- a damage of some of the segments is one of them
-pub part_shown : (D given : ℕ) (names : NameList) (ids : List ℕ) (parts : List Part) (d : Damage) → IsPartDamage D (parts_among ids parts) d
+pub part_shown : (D given : ℕ) (names : NameList) (ids : List ℕ) (parts : List LiveSegment) (d : Damage) → IsPartDamage D (parts_among ids parts) d
     → IsMergeDamage D given names parts d
-part_shown D given names ids parts d h = Read h.0 (of_filter (λ (p : Part). is_among ids p.head.id) parts h.0 h.1).0 h.2
+part_shown D given names ids parts d h = Read h.0 (of_filter (λ (p : LiveSegment). is_among ids p.head.id) parts h.0 h.1).0 h.2
 
 -- what is doubted of the live entries of some of the segments is doubted of those of all
-pub doubt_among : (given : ℕ) (c : Contents) (ids : List ℕ) (parts : List Part) (d : Damage) → IsDoubt given (live_in_parts c (parts_among ids parts)) d
+pub doubt_among : (given : ℕ) (c : Contents) (ids : List ℕ) (parts : List LiveSegment) (d : Damage) → IsDoubt given (live_in_parts c (parts_among ids parts)) d
     → IsDoubt given (live_in_parts c parts) d
 doubt_among given c ids parts =
     doubt_more given (live_in_parts c parts) (live_in_parts c (parts_among ids parts))

@@ -10,7 +10,7 @@ use Rattle.documents.proofs.Kept.{no_docs}
 use Rattle.page_cache.specs.declared.cache.PageCache.{PageCache}
 use Rattle.page_cache.specs.Cache.{Agrees, KeepsFile}
 use Rattle.index_model.specs.State.{new_index}
-use Rattle.segment_view.specs.Parts.{Part}
+use Rattle.segment_view.specs.LiveSegments.{LiveSegment}
 use Rattle.file_names.specs.Names.{NameList, is_named}
 use Rattle.segment_set.specs.Sets.{IsWell, NamedView, SetData}
 use Rattle.segment_set.specs.Seen.{Sees}
@@ -30,7 +30,7 @@ empty_set leaf names cache = record {
 }
 
 -- its fields
-pub empty_is : (leaf next : ℕ) (names : NameList) (cache : PageCache) (parts : List Part) (buffer : List Item) (snapshots : List NamedView) → next ≡ 0
+pub empty_is : (leaf next : ℕ) (names : NameList) (cache : PageCache) (parts : List LiveSegment) (buffer : List Item) (snapshots : List NamedView) → next ≡ 0
     → parts ≡ [] → buffer ≡ [] → snapshots ≡ []
     → record (empty_set leaf names cache) { next = next; parts = parts; buffer = buffer; snapshots = snapshots } ≡ empty_set leaf names cache
 empty_is leaf next names cache parts buffer snapshots n p b s =

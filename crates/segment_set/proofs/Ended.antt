@@ -9,7 +9,7 @@ use Rattle.point_codec.specs.Points.{Item}
 use Rattle.live_bits.specs.LiveSet.{LiveSet, is_live}
 use Rattle.documents.specs.Entries.{SameTotals, is_among}
 use Rattle.index_model.specs.State.{Index}
-use Rattle.segment_view.specs.Parts.{Part, Contents, ids_of, live_in_parts, parts_among, parts_but}
+use Rattle.segment_view.specs.LiveSegments.{LiveSegment, Contents, ids_of, live_in_parts, parts_among, parts_but}
 use Rattle.segment_build.specs.NewSegments.{NewSegmentData}
 use Rattle.file_names.specs.Names.{NameList}
 use Rattle.segment_set.specs.Sets.{BegunMerge, SetData, IsBuiltOf, IsWell, inputs_of, built_of}
@@ -53,7 +53,7 @@ empty_from [] ys none same = refl
 empty_from (x ∷ xs) ys none same = absurd (omega (arith, same (λ _. 1), ap (sum_by (λ (y : Item). 1)) none, sum_by-cons (λ (y : Item). 1) x xs))
 
 -- what is living has the live entries of the inputs
-pub living_makes : (D : ℕ) (c : Contents) (inputs : List Part) (o : Option NewSegmentData) → MergesInto D c inputs o
+pub living_makes : (D : ℕ) (c : Contents) (inputs : List LiveSegment) (o : Option NewSegmentData) → MergesInto D c inputs o
     → MakesLive D (live_in_parts c inputs) (living o)
 living_makes D c inputs None h = h
 living_makes D c inputs (Some n) h = elim (living_cases n) [
@@ -63,7 +63,7 @@ living_makes D c inputs (Some n) h = elim (living_cases n) [
   | inr some ↦ subst (MakesLive D (live_in_parts c inputs)) (sym some.1) (record { items = h.items; has = h.has; found = h.found; same = h.same })
 ]
 
-module _ (D : ℕ) (told : Type 0) (files new_files : Files) {s : SetData} (names : NameList) (parts : List Part)
+module _ (D : ℕ) (told : Type 0) (files new_files : Files) {s : SetData} (names : NameList) (parts : List LiveSegment)
     (kept : KeepsNamed told s.names names files new_files) (b : BegunMerge) (begun : s.begun ≡ Some b)
     (replaces : Replaces D told s.names names new_files b.inputs (living b.built) s.parts parts) (well : IsWell D s) where
   inputs_are : inputs_of s.begun ≡ b.inputs
@@ -108,7 +108,7 @@ module _ (D : ℕ) (told : Type 0) (files new_files : Files) {s : SetData} (name
         length_replaced D told s.names names new_files b.inputs s.parts parts (Some n) r,
       )
     where
-      some : (g : Part → ℕ) (ps : List Part) → 1 ≤ sum_by g ps → 1 ≤ length ps
+      some : (g : LiveSegment → ℕ) (ps : List LiveSegment) → 1 ≤ sum_by g ps → 1 ≤ length ps
       some g [] h = absurd (omega (arith, h))
       some g (p ∷ ps) h = omega arith
 

@@ -10,7 +10,7 @@ use Rattle.page_cache.specs.Evidence.{IsShown}
 use Rattle.page_cache.specs.declared.faults.Damage.{Damage}
 use Rattle.page_cache.specs.declared.faults.Damage.TheVariants.{Page, Leaf, Body, Missing, Size, Unequal, Beyond, Doubled}
 use Rattle.segment_file.specs.Heads.{Head, HasRanges}
-use Rattle.segment_view.specs.Parts.{Part, parts_among}
+use Rattle.segment_view.specs.LiveSegments.{LiveSegment, parts_among}
 use Rattle.segment_view.specs.Held.{HasOwnHead, AreHeld}
 use Rattle.segment_set.specs.Damages.{IsDoubt}
 use Rattle.index_opening.specs.Evidence.{HasNoBody, IsCrowdedIn, IsEvidentIn, IsHeadIn, IsTrueOf, LacksLeaf, OfGiven}
@@ -40,11 +40,11 @@ all_merely P (x ∷ xs) h =
     ∥∥₁_elim (All-head (λ y. ∥ P y ∥₁) x xs h) ∥∥₁_prop (λ p. ∥∥₁_map (all_merely P xs (All-tail (λ y. ∥ P y ∥₁) x xs h)) (λ ps. All-cons P x xs p ps))
 
 -- entries that were gathered of segments whose heads are those of their files
-pub gathered_of_files : (D : ℕ) (files : Files) (ids : List ℕ) (parts : List Part) (items : List Item) → All (HasFileHead D files) parts
+pub gathered_of_files : (D : ℕ) (files : Files) (ids : List ℕ) (parts : List LiveSegment) (items : List Item) → All (HasFileHead D files) parts
     → (All (HasOwnHead D files) parts → AreHeld D files (parts_among ids parts) items) → ∥ AreHeld D files (parts_among ids parts) items ∥₁
 gathered_of_files D files ids parts items heads held = ∥∥₁_map (all_merely (HasOwnHead D files) parts heads) held
 
-doubt_carried : (D : ℕ) (files : Files) (given : ℕ) (ids : List ℕ) (parts : List Part) (items : List Item) → AreAlone parts
+doubt_carried : (D : ℕ) (files : Files) (given : ℕ) (ids : List ℕ) (parts : List LiveSegment) (items : List Item) → AreAlone parts
     → AreHeld D files (parts_among ids parts) items → (d : Damage) → IsDoubt given items d
     → IsTrueOf (IsCrowdedIn D files parts) files d
 doubt_carried D files given ids parts items alone held (Unequal file said found) h =
@@ -59,7 +59,8 @@ doubt_carried D files given ids parts items alone held (Missing file) h = absurd
 doubt_carried D files given ids parts items alone held (Size file size needed) h = absurd h
 doubt_carried D files given ids parts items alone held (Beyond doc next) h = absurd h
 
-pub doubt_evident : (T : Type 0) (D : ℕ) (files : Files) (given : ℕ) (ids : List ℕ) (parts : List Part) (items : List Item) (d : Damage) → (T → AreAlone parts)
+pub doubt_evident : (T : Type 0) (D : ℕ) (files : Files) (given : ℕ) (ids : List ℕ) (parts : List LiveSegment) (items : List Item) (d : Damage)
+    → (T → AreAlone parts)
     → (T → ∥ AreHeld D files (parts_among ids parts) items ∥₁)
     → IsDoubt given items d → IsEvidentIn D parts T files d
 doubt_evident T D files given ids parts items d alone held h = record {

@@ -6,14 +6,14 @@ use Rattle.std.proofs.lemmas.List.Elements.{All-contains, All-contains_itself, A
 use Rattle.outer_io.specs.declared.file_name.FileName.{FileName}
 use Rattle.outer_io.specs.declared.file_name.FileName.TheVariants.{Segment}
 use Rattle.outer_io.specs.Files.{Files, bytes_of}
-use Rattle.live_bits.specs.LiveSet.{without}
+use Rattle.live_bits.specs.LiveSet.{live_set_without}
 use Rattle.page_cache.specs.Cache.{Agrees}
 use Rattle.page_cache.proofs.Agreement.{agrees_other}
 use Rattle.commit_list.specs.Commits.{CommitData}
 use Rattle.segment_file.specs.Heads.{Head}
 use Rattle.segment_file.specs.Segments.{IsHeadOf}
 use Rattle.segment_file.proofs.Unique.{head_of_segment}
-use Rattle.segment_view.specs.Parts.{Part}
+use Rattle.segment_view.specs.LiveSegments.{LiveSegment}
 use Rattle.file_names.specs.Names.{NameList, is_named}
 use Rattle.segment_set.specs.Sets.{IsNamed, IsWell, NamedView, SetData, set_but}
 use Rattle.segment_set.specs.Kept.{AreCanonical, Follows, HasCanonical, KeepsNamed, StaysButCache}
@@ -23,12 +23,12 @@ use Rattle.segment_set.specs.Faithful.{HasFileHead, IsFaithful}
 -- ---- the heads of segments
 
 -- a head of another file that is the same
-head_alike : (D : ℕ) (f g : Files) (p q : Part) → p.head ≡ q.head → g (Segment q.head.id) ≡ f (Segment q.head.id) → HasFileHead D f q → HasFileHead D g p
+head_alike : (D : ℕ) (f g : Files) (p q : LiveSegment) → p.head ≡ q.head → g (Segment q.head.id) ≡ f (Segment q.head.id) → HasFileHead D f q → HasFileHead D g p
 head_alike D f g p q same file has =
     subst (λ (h : Head). ∥ IsHeadOf D (bytes_of (g (Segment h.id))) h ∥₁) (sym same)
     (subst (λ b. ∥ IsHeadOf D (bytes_of b) q.head ∥₁) (sym file) has)
 
-heads_alike : (D : ℕ) (f g : Files) (names : NameList) (parts : List Part) → All (IsNamed names) parts
+heads_alike : (D : ℕ) (f g : Files) (names : NameList) (parts : List LiveSegment) → All (IsNamed names) parts
     → ((m : FileName) → is_named names.names m ≡ true → g m ≡ f m)
     → All (HasFileHead D f) parts → All (HasFileHead D g) parts
 heads_alike D f g names parts named same has k p lt = head_alike D f g (get_or parts k p) (get_or parts k p) refl (same _ (named k p lt)) (has k p lt)
@@ -39,7 +39,7 @@ views_alike : (D : ℕ) (f g : Files) (names : NameList) (views : List NamedView
 views_alike D f g names views named same has k v lt = heads_alike D f g names _ (named k v lt) same (has k v lt)
 
 -- of segments that were there, and of canonical ones of new names
-pub faithful_parts : (D : ℕ) (f g : Files) (names : NameList) (old new : List Part) → All (IsNamed names) old
+pub faithful_parts : (D : ℕ) (f g : Files) (names : NameList) (old new : List LiveSegment) → All (IsNamed names) old
     → ((m : FileName) → is_named names.names m ≡ true → g m ≡ f m) → Follows names old new
     → AreCanonical D g names new → All (HasFileHead D f) old → All (HasFileHead D g) new
 faithful_parts D f g names old new named same follows canon has =
@@ -49,7 +49,7 @@ faithful_parts D f g names old new named same follows canon has =
     (All-contains (HasFileHead D f) old r.0 has r.1))
     (follows.each p there)) new (All-contains_itself new)
   where
-    written : (p : Part) → HasCanonical D g p.head → HasFileHead D g p
+    written : (p : LiveSegment) → HasCanonical D g p.head → HasFileHead D g p
     written p is = ∥∥₁_map is (λ c. head_of_segment D (bytes_of (g (Segment p.head.id))) p.head c.0 c.1)
 
 -- ---- the set
@@ -96,6 +96,6 @@ faithful_saved D told f g s names saved well kept is_told is =
 pub faithful_but : (D : ℕ) (files : Files) (number : ℕ) (s : SetData) → IsFaithful D files s → IsFaithful D files (set_but number s)
 faithful_but D files number s is = record {
   pages = is.pages;
-  heads = All-map (HasFileHead D files) (λ (p : Part). record p { live = without number p.live }) s.parts is.heads;
+  heads = All-map (HasFileHead D files) (λ (p : LiveSegment). record p { live = live_set_without number p.live }) s.parts is.heads;
   kept = is.kept;
 }

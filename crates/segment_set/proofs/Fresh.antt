@@ -18,7 +18,7 @@ use Rattle.documents.proofs.Making.{docs_make}
 use Rattle.documents.proofs.Totals.{permuted, totals}
 use Rattle.stored_index.proofs.Listing.{live_fit}
 use Rattle.stored_index.proofs.Places.{entry_there, some_entry}
-use Rattle.segment_view.specs.Parts.{Part, has_live}
+use Rattle.segment_view.specs.LiveSegments.{LiveSegment, has_live}
 use Rattle.document_checks.specs.Crowded.{AreUncrowded}
 use Rattle.segment_build.specs.NewSegments.{NewSegmentData, HasEntries}
 use Rattle.segment_set.specs.Merges.{HoldsLive, IsGathered, IsMade}
@@ -94,14 +94,14 @@ module _ (D : ℕ) (entries items : List Item) (n : NewSegmentData) (same : IsPe
       by (x ∷ xs) counted all h = some_live n.live x.doc (All-head (λ (y : Item). is_live n.live y.doc ≡ true) x xs all)
 
 -- a number of the entries is live in the segments that they came from
-pub within : (entries : List Item) (parts : List Part) → All (λ (x : Item). has_live x.doc parts ≡ true) entries → (number : ℕ)
+pub within : (entries : List Item) (parts : List LiveSegment) → All (λ (x : Item). has_live x.doc parts ≡ true) entries → (number : ℕ)
     → has_entry number entries ≡ true → has_live number parts ≡ true
 within entries parts all number there =
     let found = some_entry number entries there in
     subst (λ (m : ℕ). has_live m parts ≡ true) found.2 (All-contains (λ (x : Item). has_live x.doc parts ≡ true) entries found.0 all found.1)
 
 -- what is built of entries that are live in segments
-pub gathered_of : (D leaf : ℕ) (entries items : List Item) (n : NewSegmentData) (parts : List Part) → IsPermutation entries items → HasEntries D items n
+pub gathered_of : (D leaf : ℕ) (entries items : List Item) (n : NewSegmentData) (parts : List LiveSegment) → IsPermutation entries items → HasEntries D items n
     → is_live n.live ≡ (λ number. has_entry number entries)
     → n.leaf ≡ leaf → IsLiveSet n.live → 1 ≤ length entries → All (λ (x : Item). has_live x.doc parts ≡ true) entries → AreUncrowded entries
     → IsGathered D leaf parts n

@@ -11,12 +11,12 @@ use Rattle.live_bits.specs.LiveSet.{is_live}
 use Rattle.documents.specs.Entries.{has_entry, is_among}
 use Rattle.documents.proofs.Kept.{among_to}
 use Rattle.segment_file.specs.Segments.{IsSegment}
-use Rattle.segment_view.specs.Parts.{Part, Contents, IsRead, AreRead, ids_of, live_in_parts, parts_among, parts_but}
+use Rattle.segment_view.specs.LiveSegments.{LiveSegment, Contents, IsRead, AreRead, ids_of, live_in_parts, parts_among, parts_but}
 use Rattle.segment_view.proofs.Living.{live_one, parted_totals, placed_totals, read_placed}
 use Rattle.segment_build.specs.NewSegments.{NewSegmentData}
 use Rattle.file_names.specs.Names.{NameList, is_named}
 use Rattle.segment_set.specs.Sets.{IsNamed}
-use Rattle.segment_set.specs.Merges.{HoldsLive, MakesLive, part_at, IsPut, Replaces}
+use Rattle.segment_set.specs.Merges.{HoldsLive, MakesLive, part_at, Swaps, Replaces}
 use Rattle.segment_set.proofs.Replaced.{all_but}
 use Rattle.segment_set.proofs.Standing.{IsAlike, with_entries, alike_read, alike_live, ids_named}
 
@@ -33,19 +33,19 @@ named_apart names a b named free same = true≢false (sym named ∙ ap (λ (n : 
 -- The segments are read with these contents, which are as before at named ids; and their live entries are those of before, but that those of
 -- the segments of these ids gave way to the new ones.
 pub record Grown (D : ℕ) (old_files new_files : Files) (names : NameList) (c : Contents) (ids : List ℕ) (entries : List Item)
-    (old new : List Part) : Type 0 where
+    (old new : List LiveSegment) : Type 0 where
   pub after : Contents
   pub alike : IsAlike names old_files new_files c after
   pub now : AreRead D new_files after new
   pub totals : (f : Item → ℕ)
       → sum_by f (live_in_parts after new) + sum_by f (live_in_parts c (parts_among ids old)) ≡ sum_by f entries + sum_by f (live_in_parts c old)
 
-pub live_parted : (f : Item → ℕ) (c : Contents) (ids : List ℕ) (parts : List Part)
+pub live_parted : (f : Item → ℕ) (c : Contents) (ids : List ℕ) (parts : List LiveSegment)
     → sum_by f (live_in_parts c (parts_among ids parts)) + sum_by f (live_in_parts c (parts_but ids parts)) ≡ sum_by f (live_in_parts c parts)
 live_parted f c ids parts =
     sym (sum_by-append f (live_in_parts c (parts_among ids parts)) (live_in_parts c (parts_but ids parts))) ∙ sym (parted_totals c ids parts f)
 
-grown_none : (D : ℕ) (files new : Files) (names : NameList) (c : Contents) (ids : List ℕ) (entries : List Item) (old parts : List Part)
+grown_none : (D : ℕ) (files new : Files) (names : NameList) (c : Contents) (ids : List ℕ) (entries : List Item) (old parts : List LiveSegment)
     → ((m : FileName) → is_named names.names m ≡ true → new m ≡ files m) → All (IsNamed names) old → AreRead D files c old
     → entries ≡ [] → parts ≡ parts_but ids old → Grown D files new names c ids entries old parts
 grown_none D files new names c ids entries old parts kept named reads none is = record {
@@ -62,9 +62,9 @@ grown_none D files new names c ids entries old parts kept named reads none is = 
     same = record { files = λ id is. kept (Segment id) is; entries = λ id is. refl }
 
 grown_some : (D : ℕ) (told : Type 0) (files new : Files) (names after : NameList) (c : Contents) (ids : List ℕ) (entries : List Item) (n : NewSegmentData)
-    (old parts : List Part)
+    (old parts : List LiveSegment)
     → ((m : FileName) → is_named names.names m ≡ true → new m ≡ files m) → All (IsNamed names) old → AreRead D files c old
-    → told → HoldsLive D entries n → IsPut D told names after new ids n old parts → Grown D files new names c ids entries old parts
+    → told → HoldsLive D entries n → Swaps D told names after new ids n old parts → Grown D files new names c ids entries old parts
 grown_some D told files new names after c ids entries n old parts kept named reads is_told live put = record {
   after = d;
   alike = same;
@@ -81,7 +81,7 @@ grown_some D told files new names after c ids entries n old parts kept named rea
       omega (arith, live_parted f c ids old, placed, mine, others);
 }
   where
-    p : Part
+    p : LiveSegment
     p = part_at put.id n
 
     d : Contents
@@ -102,7 +102,7 @@ grown_some D told files new names after c ids entries n old parts kept named rea
 
 -- what was built of entries took the place of segments
 pub grown : (D : ℕ) (told : Type 0) (files new : Files) (names after : NameList) (c : Contents) (ids : List ℕ) (entries : List Item)
-    (built : Option NewSegmentData) (old parts : List Part)
+    (built : Option NewSegmentData) (old parts : List LiveSegment)
     → ((m : FileName) → is_named names.names m ≡ true → new m ≡ files m) → All (IsNamed names) old → AreRead D files c old
     → told → MakesLive D entries built → Replaces D told names after new ids built old parts → Grown D files new names c ids entries old parts
 grown D told files new names after c ids entries None old parts kept named reads is_told makes replaces =
@@ -111,7 +111,7 @@ grown D told files new names after c ids entries (Some n) old parts kept named r
     grown_some D told files new names after c ids entries n old parts kept named reads is_told makes replaces
 
 -- a free id is that of none of the segments
-pub fresh_apart : (names : NameList) (parts : List Part) (id : ℕ) → All (IsNamed names) parts → is_named names.names (Segment id) ≡ false
+pub fresh_apart : (names : NameList) (parts : List LiveSegment) (id : ℕ) → All (IsNamed names) parts → is_named names.names (Segment id) ≡ false
     → is_among (ids_of parts) id ≡ false
 fresh_apart names parts id named free =
     false_from_ne_true (is_among (ids_of parts) id) (λ there. true≢false (sym (ids_named names parts named id (among_to (ids_of parts) id there)) ∙ free))

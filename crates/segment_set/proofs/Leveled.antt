@@ -8,20 +8,20 @@ use Rattle.std.proofs.lemmas.List.Sums.{sum_by-cons}
 use Rattle.documents.specs.Entries.{is_among}
 use Rattle.documents.proofs.Lists.{cons_head, cons_tail, pairs_head, pairs_tail}
 use Rattle.merge_policy.specs.Choice.{free_count, is_of_level}
-use Rattle.segment_view.specs.Parts.{Part, ids_of, parts_but, IsPlaced}
+use Rattle.segment_view.specs.LiveSegments.{LiveSegment, ids_of, parts_but, IsPlaced}
 use Rattle.segment_set.specs.Sets.{sizes_of}
 use Rattle.segment_set.proofs.Replaced.{one_if, total_placed}
 use Rattle.segment_set.proofs.Steps.{but_none}
 
 -- which segments are among the inputs
-abbrev pub pinned : List ℕ → List Part → List Bool
+abbrev pub pinned : List ℕ → List LiveSegment → List Bool
 pinned inputs parts = map (λ p. is_among inputs p.head.id) parts
 
 -- 1 where the segment is of the level and no input
-abbrev pub free_in : ℕ → List ℕ → Part → ℕ
+abbrev pub free_in : ℕ → List ℕ → LiveSegment → ℕ
 free_in level inputs p = one_if (is_of_level level p.head.entries && not (is_among inputs p.head.id))
 
-pub free_parts : (level : ℕ) (inputs : List ℕ) (parts : List Part)
+pub free_parts : (level : ℕ) (inputs : List ℕ) (parts : List LiveSegment)
     → free_count level (sizes_of parts) (pinned inputs parts) ≡ sum_by (free_in level inputs) parts
 unfolding free_count
 free_parts level inputs [] = refl
@@ -35,7 +35,7 @@ one_le true = omega arith
 one_le false = omega arith
 
 -- one segment more is one free one more at most
-pub free_placed : (level : ℕ) (inputs : List ℕ) (p : Part) (old new : List Part) → IsPlaced p (parts_but [] old) new
+pub free_placed : (level : ℕ) (inputs : List ℕ) (p : LiveSegment) (old new : List LiveSegment) → IsPlaced p (parts_but [] old) new
     → free_count level (sizes_of new) (pinned inputs new) ≤ free_count level (sizes_of old) (pinned inputs old) + 1
 free_placed level inputs p old new placed =
     omega (
@@ -92,7 +92,7 @@ among_few : (inputs ids : List ℕ) → AllPairs (λ (m n : ℕ). m < n) ids →
 among_few [] ids up = omega (arith, none_of ids)
 among_few (x ∷ xs) ids up = omega (arith, joined_le x xs ids, met_once x ids up, among_few xs ids up)
 
-pins_counted : (inputs : List ℕ) (parts : List Part) → count_by (λ pin. pin) (pinned inputs parts) ≡ count_by (is_among inputs) (ids_of parts)
+pins_counted : (inputs : List ℕ) (parts : List LiveSegment) → count_by (λ pin. pin) (pinned inputs parts) ≡ count_by (is_among inputs) (ids_of parts)
 pins_counted inputs [] = refl
 pins_counted inputs (p ∷ ps) =
     sum_by-cons (λ (b : Bool). one_if b) (is_among inputs p.head.id) (pinned inputs ps)
@@ -100,7 +100,7 @@ pins_counted inputs (p ∷ ps) =
     ∙ sym (sum_by-cons (λ (m : ℕ). one_if (is_among inputs m)) p.head.id (ids_of ps))
 
 -- where few segments are left beside the inputs, and few are inputs, there are few
-pub few_segments : (inputs : List ℕ) (parts : List Part) → IsStrictlyIncreasing (ids_of parts) → length inputs ≤ 64
+pub few_segments : (inputs : List ℕ) (parts : List LiveSegment) → IsStrictlyIncreasing (ids_of parts) → length inputs ≤ 64
     → length parts ≤ 72 + count_by (λ pin. pin) (pinned inputs parts) → length parts < 200
 few_segments inputs parts up few left =
     omega (arith, left, pins_counted inputs parts, among_few inputs (ids_of parts) (AllPairs-from_increasing (ids_of parts) up), few)

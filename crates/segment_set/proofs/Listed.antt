@@ -6,7 +6,7 @@ use Rattle.live_bits.specs.LiveSet.{IsLiveSet, LiveSet}
 use Rattle.commit_list.specs.declared.listed.Listed.{Listed}
 use Rattle.commit_list.specs.Commits.{CommitData}
 use Rattle.segment_file.specs.Heads.{Head}
-use Rattle.segment_view.specs.Parts.{Part, heads_of, lives_of}
+use Rattle.segment_view.specs.LiveSegments.{LiveSegment, heads_of, lives_of}
 use Rattle.segment_view.proofs.Beside.{ids_heads}
 use Rattle.segment_set.specs.Sets.{SetData}
 use Rattle.segment_set.specs.Kept.{IsAsCommitted}
@@ -27,13 +27,14 @@ same_length f g xs ys same = sym (length-map xs f) ∙ ap length same ∙ length
 
 -- ---- the live sets of segments
 
-pub counts_lives : (parts : List Part) → map (λ (s : LiveSet). length s.live) (lives_of parts) ≡ map (λ (p : Part). length p.live.live) parts
+pub counts_lives : (parts : List LiveSegment) → map (λ (s : LiveSet). length s.live) (lives_of parts) ≡ map (λ (p : LiveSegment). length p.live.live) parts
 counts_lives [] = refl
 counts_lives (p ∷ ps) = ap (λ ns. length p.live.live ∷ ns) (counts_lives ps)
 
-pub sets_parts : (parts : List Part) → All IsLiveSet (lives_of parts) → All (λ (p : Part). IsLiveSet p.live) parts
+pub sets_parts : (parts : List LiveSegment) → All IsLiveSet (lives_of parts) → All (λ (p : LiveSegment). IsLiveSet p.live) parts
 sets_parts parts all k p lt =
-    subst IsLiveSet (get_or-map (λ (q : Part). q.live) parts k p p.live lt) (all k p.live (omega (arith, lt, length-map parts (λ (q : Part). q.live))))
+    subst IsLiveSet (get_or-map (λ (q : LiveSegment). q.live) parts k p p.live lt)
+        (all k p.live (omega (arith, lt, length-map parts (λ (q : LiveSegment). q.live))))
 
 -- ---- a set and a commit
 

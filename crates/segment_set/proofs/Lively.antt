@@ -21,11 +21,11 @@ use Rattle.segment_file.proofs.Counted.{segment_counted}
 use Rattle.segment_file.proofs.Unique.{tree_once}
 use Rattle.stored_index.proofs.Listing.{live_fit}
 use Rattle.stored_index.proofs.Places.{entry_there, some_entry}
-use Rattle.segment_view.specs.Parts.{Part, Contents, IsPlaced, IsRead, AreRead, ids_of, parts_among, parts_but}
+use Rattle.segment_view.specs.LiveSegments.{LiveSegment, Contents, IsPlaced, IsRead, AreRead, ids_of, parts_among, parts_but}
 use Rattle.segment_build.specs.NewSegments.{NewSegmentData}
 use Rattle.file_names.specs.Names.{NameList, is_named}
 use Rattle.segment_set.specs.Merged.{IsWhole}
-use Rattle.segment_set.specs.Merges.{HasLiveEntries, IsGathered, IsMerged, IsPut, Replaces, part_at}
+use Rattle.segment_set.specs.Merges.{HasLiveEntries, IsGathered, IsMerged, Swaps, Replaces, part_at}
 use Rattle.segment_set.proofs.Carried.{placed_cases}
 use Rattle.segment_set.proofs.Replaced.{all_but, but_placed}
 use Rattle.segment_set.proofs.Weller.{free_id}
@@ -55,7 +55,8 @@ all_pass p (x ∷ xs) few = by (p x) refl (λ le. all_pass p xs le)
 -- ---- segments
 
 -- as many numbers are live as there are entries, and each is that of one of them
-pub whole_lives : (D : ℕ) (files : Files) (c : Contents) (p : Part) → IsWhole p → IsRead D files c p → All (λ x. is_live p.live x.doc ≡ true) (c p.head.id)
+pub whole_lives : (D : ℕ) (files : Files) (c : Contents) (p : LiveSegment) → IsWhole p → IsRead D files c p
+    → All (λ x. is_live p.live x.doc ≡ true) (c p.head.id)
 whole_lives D files c p whole read =
     let entries = c p.head.id in
     let live = filter (λ (x : Item). is_live p.live x.doc) entries in
@@ -76,20 +77,21 @@ whole_lives D files c p whole read =
         (in_filter (λ (x : Item). is_live p.live x.doc) (c p.head.id) found.0 found.1 passes))
 
 -- a segment that was built of what was live
-pub built_lives : (D : ℕ) (told : Type 0) (before after : NameList) (files : Files) (ids : List ℕ) (n : NewSegmentData) (old new : List Part) (c : Contents)
+pub built_lives : (D : ℕ) (told : Type 0) (before after : NameList) (files : Files) (ids : List ℕ) (n : NewSegmentData) (old new : List LiveSegment)
+    (c : Contents)
     → told → ∥ HasLiveEntries D n ∥₁
-    → (put : IsPut D told before after files ids n old new) → IsRead D files c (part_at put.id n) → All (λ x. is_live n.live x.doc ≡ true) (c put.id)
+    → (put : Swaps D told before after files ids n old new) → IsRead D files c (part_at put.id n) → All (λ x. is_live n.live x.doc ≡ true) (c put.id)
 built_lives D told before after files ids n old new c is_told all put read k d lt = ∥∥₁_elim all (hlevel props) (λ h.
     subst (λ (xs : List Item). All (λ x. is_live n.live x.doc ≡ true) xs)
     (entries_once D (bytes_of (files (Segment put.id))) (part_at put.id n).head h.items (c put.id) (put.written is_told h.items h.has) read.held) h.all k d lt)
 
 -- ---- a merge of all segments
 
-abbrev pub AllLive : Contents → List Part → Type 0
+abbrev pub AllLive : Contents → List LiveSegment → Type 0
 AllLive c parts = All (λ p. All (λ x. is_live p.live x.doc ≡ true) (c p.head.id)) parts
 
 -- one that changes nothing
-pub settled_lives : (D : ℕ) (files : Files) (c : Contents) (inputs ids : List ℕ) (parts : List Part)
+pub settled_lives : (D : ℕ) (files : Files) (c : Contents) (inputs ids : List ℕ) (parts : List LiveSegment)
     → ids ≡ filter (λ id. not (is_among inputs id)) (ids_of parts) → All IsWhole (parts_among ids parts) → AreRead D files c parts
     → AllLive c (parts_but inputs parts)
 settled_lives D files c inputs ids parts are whole reads =
@@ -99,7 +101,7 @@ settled_lives D files c inputs ids parts are whole reads =
 
 -- one that builds a segment
 pub merged_lives : (D : ℕ) (told : Type 0) (leaf : ℕ) (before after : NameList) (files new_files : Files) (cache : PageCache) (inputs ids : List ℕ)
-    (old new : List Part) (c : Contents) → told
+    (old new : List LiveSegment) (c : Contents) → told
     → ids ≡ filter (λ id. not (is_among inputs id)) (ids_of old) → ((id : ℕ) → is_among inputs id ≡ true → is_named before.names (Segment id) ≡ true)
     → IsMerged D told leaf before after files new_files cache ids old new → AreRead D new_files c new → AllLive c (parts_but inputs new)
 merged_lives D told leaf before after files new_files cache inputs ids old new c is_told are named m reads = by m.built m.replaces m.gathered
@@ -109,9 +111,10 @@ merged_lives D told leaf before after files new_files cache inputs ids old new c
 
     by : (built : Option NewSegmentData) → Replaces D told before after new_files ids built old new
         → ((n : NewSegmentData) → built ≡ Some n → IsGathered D leaf (parts_among ids old) n) → AllLive c (parts_but inputs new)
-    by None r gathered = subst (AllLive c) (sym (ap (parts_but inputs) r ∙ none)) (All-nil (λ (p : Part). All (λ x. is_live p.live x.doc ≡ true) (c p.head.id)))
+    by None r gathered =
+        subst (AllLive c) (sym (ap (parts_but inputs) r ∙ none)) (All-nil (λ (p : LiveSegment). All (λ x. is_live p.live x.doc ≡ true) (c p.head.id)))
     by (Some n) r gathered =
-        All-weaker (Contains (parts_but inputs new)) (λ (p : Part). All (λ x. is_live p.live x.doc ≡ true) (c p.head.id)) each (parts_but inputs new)
+        All-weaker (Contains (parts_but inputs new)) (λ (p : LiveSegment). All (λ x. is_live p.live x.doc ≡ true) (c p.head.id)) each (parts_but inputs new)
         (All-contains_itself (parts_but inputs new))
       where
         placed : IsPlaced (part_at r.id n) (parts_but inputs (parts_but ids old)) (parts_but inputs new)
@@ -119,15 +122,15 @@ merged_lives D told leaf before after files new_files cache inputs ids old new c
             but_placed inputs (part_at r.id n) (parts_but ids old) new r.placed (free_id D told before after new_files ids old new inputs r.id r.fresh named)
 
         here : Contains new (part_at r.id n)
-        here = subst (λ (ps : List Part). Contains ps (part_at r.id n)) (sym r.placed.after)
+        here = subst (λ (ps : List LiveSegment). Contains ps (part_at r.id n)) (sym r.placed.after)
             (Contains-append_right r.placed.front (part_at r.id n ∷ r.placed.back) (part_at r.id n) (cons_head (part_at r.id n) r.placed.back))
 
         alive : All (λ x. is_live n.live x.doc ≡ true) (c r.id)
         alive = built_lives D told before after new_files ids n old new c is_told (gathered n refl).all r
             (All-contains (IsRead D new_files c) new (part_at r.id n) reads here)
 
-        each : (q : Part) → Contains (parts_but inputs new) q → All (λ x. is_live q.live x.doc ≡ true) (c q.head.id)
+        each : (q : LiveSegment) → Contains (parts_but inputs new) q → All (λ x. is_live q.live x.doc ≡ true) (c q.head.id)
         each q there =
             placed_cases (part_at r.id n) (parts_but inputs (parts_but ids old)) (parts_but inputs new) placed q there
-            (λ e. subst (λ (s : Part). All (λ x. is_live s.live x.doc ≡ true) (c s.head.id)) e alive)
-            (λ h. nil_none q _ (subst (λ (ps : List Part). Contains ps q) none h))
+            (λ e. subst (λ (s : LiveSegment). All (λ x. is_live s.live x.doc ≡ true) (c s.head.id)) e alive)
+            (λ h. nil_none q _ (subst (λ (ps : List LiveSegment). Contains ps q) none h))

@@ -5,7 +5,7 @@ use Rattle.std.specs.List.{filter}
 use Rattle.std.proofs.lemmas.List.{drop_at, get_or-drop, length-append, length-map, length-take-le, take-append-drop}
 use Rattle.std.proofs.lemmas.List.Edits.{map_over_more}
 use Rattle.point_codec.specs.declared.entries.Entry.{Entry}
-use Rattle.segment_set.specs.Runs.{IsRun}
+use Rattle.segment_set.specs.Runs.{IsRunOf}
 use Rattle.segment_set.specs.Waiting.{came_as, gone_as, waits}
 use Rattle.segment_set.proofs.Buffered.{count_set, entry_out, gone_waits_not, goes_out, one_where}
 
@@ -34,7 +34,7 @@ module _ {X : Type 0} (f : X → X) (xs ys : List X) (i : ℕ) (is : ys ≡ map 
 
 -- one more is marked
 pub mark_step : {D : ℕ} (number : ℕ) (xs ys : List (Entry D)) (first end i : ℕ) (x e : Entry D)
-    → IsRun (λ (z : Entry D). came_as z.doc) number xs first end
+    → IsRunOf (λ (z : Entry D). came_as z.doc) number xs first end
     → first ≤ i → i < end → end ≤ length xs → ys ≡ map (entry_out number) (take i xs) ++ drop i xs → x ≡ get_or ys i x → e ≡ record x { doc = gone_as x.doc }
     → set ys i e ≡ map (entry_out number) (take (i + 1) xs) ++ drop (i + 1) xs
 mark_step number xs ys first end i x e run from to most is read after =

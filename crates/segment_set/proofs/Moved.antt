@@ -18,7 +18,7 @@ use Rattle.page_cache.specs.declared.cache.PageCache.{PageCache}
 use Rattle.page_cache.specs.Cache.{Agrees, KeepsFile}
 use Rattle.page_cache.proofs.Agreement.{agrees_other}
 use Rattle.index_model.specs.State.{Index}
-use Rattle.segment_view.specs.Parts.{Part, Contents, has_live, ids_of, live_in_parts, parts_among, parts_but}
+use Rattle.segment_view.specs.LiveSegments.{LiveSegment, Contents, has_live, ids_of, live_in_parts, parts_among, parts_but}
 use Rattle.document_checks.specs.Crowded.{AreFew}
 use Rattle.segment_build.specs.NewSegments.{NewSegmentData, HasEntries, IsCanonical}
 use Rattle.file_names.specs.Names.{NameList, is_named}
@@ -33,12 +33,12 @@ use Rattle.segment_set.proofs.Grown.{Grown, grown}
 use Rattle.segment_set.proofs.Weller.{place_built, all_replaced, total_replaced, among_replaced, spread_replaced}
 
 -- the set with other names, segments, buffer, begun merge and cache
-abbrev pub moved : SetData → NameList → List Part → List Item → Option BegunMerge → PageCache → SetData
+abbrev pub moved : SetData → NameList → List LiveSegment → List Item → Option BegunMerge → PageCache → SetData
 moved s names parts buffer begun cache = record s { names = names; parts = parts; buffer = buffer; begun = begun; cache = cache }
 
 -- Names were added and files written, and what was built took the place of the segments of these ids. No number has more places than before,
 -- where some of the buffer's entries are left.
-pub record Moves (D : ℕ) (told : Type 0) (files new_files : Files) (s : SetData) (names : NameList) (ids : List ℕ) (parts : List Part)
+pub record Moves (D : ℕ) (told : Type 0) (files new_files : Files) (s : SetData) (names : NameList) (ids : List ℕ) (parts : List LiveSegment)
     (left : List Item) : Type 0 where
   pub kept : KeepsNamed told s.names names files new_files
   pub built : Option NewSegmentData
@@ -47,7 +47,7 @@ pub record Moves (D : ℕ) (told : Type 0) (files new_files : Files) (s : SetDat
   pub fewer : (number : ℕ)
       → place_built number built + one_if (has_entry number left) ≤ sum_by (place_in number) (parts_among ids s.parts) + one_if (has_entry number s.buffer)
 
-module _ (D : ℕ) (told : Type 0) (files new_files : Files) (s : SetData) (names : NameList) (ids : List ℕ) (parts : List Part) (left : List Item)
+module _ (D : ℕ) (told : Type 0) (files new_files : Files) (s : SetData) (names : NameList) (ids : List ℕ) (parts : List LiveSegment) (left : List Item)
     (m : Moves D told files new_files s names ids parts left) where
   -- ---- the set alone
 
@@ -81,9 +81,9 @@ module _ (D : ℕ) (told : Type 0) (files new_files : Files) (s : SetData) (name
     once = once;
     sixteen = sixteen;
     few = few;
-    leaf_size = all_replaced D told s.names names new_files ids s.parts parts (λ (p : Part). p.head.leaf ≡ s.leaf) m.built m.replaces
+    leaf_size = all_replaced D told s.names names new_files ids s.parts parts (λ (p : LiveSegment). p.head.leaf ≡ s.leaf) m.built m.replaces
         (λ id n is named. (m.made n is).leaf_size) well.leaf_size;
-    live_fits = all_replaced D told s.names names new_files ids s.parts parts (λ (p : Part). length p.live.live ≤ p.head.entries) m.built m.replaces
+    live_fits = all_replaced D told s.names names new_files ids s.parts parts (λ (p : LiveSegment). length p.live.live ≤ p.head.entries) m.built m.replaces
         (λ id n is named. (m.made n is).fits) well.live_fits;
     named = all_replaced D told s.names names new_files ids s.parts parts (IsNamed names) m.built m.replaces (λ id n is named. named)
         (All-weaker (IsNamed s.names) (IsNamed names) (λ p is. m.kept.more (Segment p.head.id) is) s.parts well.named);
@@ -108,7 +108,7 @@ module _ (D : ℕ) (told : Type 0) (files new_files : Files) (s : SetData) (name
       both true = refl
       both false = refl
 
-      places_from : (ps : List Part) (es : List Item) → cond (has_live number ps) true (has_entry number es) ≡ true
+      places_from : (ps : List LiveSegment) (es : List Item) → cond (has_live number ps) true (has_entry number es) ≡ true
           → 1 ≤ sum_by (place_in number) ps + one_if (has_entry number es)
       places_from ps es h = elim (cases_Bool (has_live number ps)) [
         | inl here ↦ omega (arith, some_place number ps here)
@@ -116,7 +116,7 @@ module _ (D : ℕ) (told : Type 0) (files new_files : Files) (s : SetData) (name
             omega (arith, ap one_if there)
       ]
 
-      live_from : (ps : List Part) (es : List Item) → 1 ≤ sum_by (place_in number) ps + one_if (has_entry number es)
+      live_from : (ps : List LiveSegment) (es : List Item) → 1 ≤ sum_by (place_in number) ps + one_if (has_entry number es)
           → cond (has_live number ps) true (has_entry number es) ≡ true
       live_from ps es h = elim (cases_Bool (has_entry number es)) [
         | inl there ↦ ap (cond (has_live number ps) true) there ∙ both (has_live number ps)
@@ -196,5 +196,5 @@ module _ (D : ℕ) (told : Type 0) (files new_files : Files) (s : SetData) (name
     where
       by : (begun : Option BegunMerge) → s.begun ≡ begun → BegunStands D d s.parts begun → BegunStands D d parts begun
       by None is h = tt
-      by (Some b) is h = subst (λ (ps : List Part). MergesInto D d ps b.built)
+      by (Some b) is h = subst (λ (ps : List LiveSegment). MergesInto D d ps b.built)
           (sym (subst (λ (o : Option BegunMerge). parts_among (inputs_of o) parts ≡ parts_among (inputs_of o) s.parts) is (inputs_stay well apart))) h

@@ -9,10 +9,10 @@ use Rattle.documents.proofs.Kept.{among_from, among_to}
 use Rattle.documents.proofs.Lists.{cons_cases, cons_head, cons_tail, in_map, nil_none, of_map}
 use Rattle.commit_list.specs.Commits.{CommitData}
 use Rattle.stored_index.specs.Kept.{ListsFile}
-use Rattle.segment_view.specs.Parts.{Part, ids_of}
+use Rattle.segment_view.specs.LiveSegments.{LiveSegment, ids_of}
 use Rattle.segment_set.specs.Sets.{NamedView, SetData}
 use Rattle.segment_set.specs.Kept.{IsNeeded, StaysButFiles, ViewNeeds}
-use Rattle.segment_set.specs.Swept.{IsShown, IsUnneeded, shows_file}
+use Rattle.segment_set.specs.Swept.{IsInView, IsUnneeded, shows_file}
 
 -- ---- which files a view needs
 
@@ -45,24 +45,24 @@ found_any p [] x there is = nil_none x _ there
 found_any p (y ∷ ys) x there is =
     ⊎_elim (λ e. or_left (p y) (list_any p ys) (ap p e ∙ is)) (λ later. or_right (p y) (list_any p ys) (found_any p ys x later is)) (cons_cases y ys x there)
 
-among_needs : (parts : List Part) (id : ℕ) → is_among (ids_of parts) id ≡ true → ViewNeeds parts (Segment id)
-among_needs parts id among = let r = of_map (λ (p : Part). p.head.id) parts id (among_to (ids_of parts) id among) in (r.0, r.1, ap Segment (sym r.2))
+among_needs : (parts : List LiveSegment) (id : ℕ) → is_among (ids_of parts) id ≡ true → ViewNeeds parts (Segment id)
+among_needs parts id among = let r = of_map (λ (p : LiveSegment). p.head.id) parts id (among_to (ids_of parts) id among) in (r.0, r.1, ap Segment (sym r.2))
 
-needs_among : (parts : List Part) (id : ℕ) → ViewNeeds parts (Segment id) → is_among (ids_of parts) id ≡ true
+needs_among : (parts : List LiveSegment) (id : ℕ) → ViewNeeds parts (Segment id) → is_among (ids_of parts) id ≡ true
 needs_among parts id (p, there, is) =
-    among_from (ids_of parts) id (subst (Contains (ids_of parts)) (same p is) (in_map (λ (q : Part). q.head.id) parts p there))
+    among_from (ids_of parts) id (subst (Contains (ids_of parts)) (same p is) (in_map (λ (q : LiveSegment). q.head.id) parts p there))
   where
-    same : (q : Part) → Segment id ≡ Segment q.head.id → q.head.id ≡ id
+    same : (q : LiveSegment) → Segment id ≡ Segment q.head.id → q.head.id ≡ id
     same q e = cc
 
-shown_by : (s : SetData) (id : ℕ) → shows_file s (Segment id) ≡ true → IsShown s (Segment id)
+shown_by : (s : SetData) (id : ℕ) → shows_file s (Segment id) ≡ true → IsInView s (Segment id)
 shown_by s id e = or_cases (is_among (ids_of s.parts) id) (list_any (λ (v : NamedView). is_among (ids_of v.parts) id) s.snapshots) e
     (λ now. inl (among_needs s.parts id now))
     (λ kept.
     let found = any_found (λ (v : NamedView). is_among (ids_of v.parts) id) s.snapshots kept in
     inr (found.0, found.1, among_needs found.0.parts id found.2))
 
-shown_has : (s : SetData) (id : ℕ) → IsShown s (Segment id) → shows_file s (Segment id) ≡ true
+shown_has : (s : SetData) (id : ℕ) → IsInView s (Segment id) → shows_file s (Segment id) ≡ true
 shown_has s id shown = ⊎_elim
     (λ now. or_left (is_among (ids_of s.parts) id) (list_any (λ (v : NamedView). is_among (ids_of v.parts) id) s.snapshots) (needs_among s.parts id now))
     (λ (v, there, need). or_right (is_among (ids_of s.parts) id) (list_any (λ (w : NamedView). is_among (ids_of w.parts) id) s.snapshots)
@@ -70,16 +70,16 @@ shown_has s id shown = ⊎_elim
     shown
 
 -- only files of segments are needed by views
-pub shown_segment : {P : Type 0} (s : SetData) (name : FileName) → IsShown s name → ((id : ℕ) → name ≡ Segment id → P) → P
+pub shown_segment : {P : Type 0} (s : SetData) (name : FileName) → IsInView s name → ((id : ℕ) → name ≡ Segment id → P) → P
 shown_segment s name shown here = ⊎_elim (λ (p, there, is). here p.head.id is) (λ (v, kept, need). here need.0.head.id need.2) shown
 
-pub file_shown : (s : SetData) (name : FileName) → shows_file s name ≡ true → IsShown s name
+pub file_shown : (s : SetData) (name : FileName) → shows_file s name ≡ true → IsInView s name
 file_shown s (Segment id) e = shown_by s id e
 file_shown s (Live segment generation) e = absurd cc
 file_shown s Commit e = absurd cc
 file_shown s CommitNew e = absurd cc
 
-file_not_shown : (s : SetData) (name : FileName) → shows_file s name ≡ false → IsShown s name → ⊥
+file_not_shown : (s : SetData) (name : FileName) → shows_file s name ≡ false → IsInView s name → ⊥
 file_not_shown s (Segment id) e shown = both_ways (shows_file s (Segment id)) e (shown_has s id shown)
 file_not_shown s (Live segment generation) e shown = shown_segment s (Live segment generation) shown (λ id is. cc)
 file_not_shown s Commit e shown = shown_segment s Commit shown (λ id is. cc)

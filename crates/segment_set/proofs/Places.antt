@@ -11,10 +11,10 @@ use Rattle.documents.specs.Entries.{is_among}
 use Rattle.documents.proofs.Kept.{among_from, among_to}
 use Rattle.documents.proofs.Lists.{in_map, of_map}
 use Rattle.segment_file.specs.Heads.{Head}
-use Rattle.segment_view.specs.Parts.{Part, heads_of, ids_of, parts_among}
+use Rattle.segment_view.specs.LiveSegments.{LiveSegment, heads_of, ids_of, parts_among}
 use Rattle.segment_set.specs.Merged.{each_once}
 
-pub map_heads : {X : Type 0} (f : ℕ → X) (parts : List Part) → map (λ h. f h.id) (heads_of parts) ≡ map (λ p. f p.head.id) parts
+pub map_heads : {X : Type 0} (f : ℕ → X) (parts : List LiveSegment) → map (λ h. f h.id) (heads_of parts) ≡ map (λ p. f p.head.id) parts
 map_heads f [] = refl
 map_heads f (p ∷ ps) = ap (λ xs. f p.head.id ∷ xs) (map_heads f ps)
 
@@ -155,7 +155,7 @@ places_full count seen rest full =
 
 -- ---- ids at places
 
-pub id_at : (parts : List Part) (i : ℕ) (d : Head) → i < length parts → (get_or (heads_of parts) i d).id ≡ get_or (ids_of parts) i 0
+pub id_at : (parts : List LiveSegment) (i : ℕ) (d : Head) → i < length parts → (get_or (heads_of parts) i d).id ≡ get_or (ids_of parts) i 0
 id_at [] i d lt = absurd (omega (arith, lt))
 id_at (p ∷ ps) zero d lt = refl
 id_at (p ∷ ps) (suc i) d lt = id_at ps i d (omega (arith, lt))
@@ -194,17 +194,17 @@ two_kept p (x ∷ xs) (suc i) (suc j) d lt in_range h k = by (p x) (two_kept p x
     by true rest = omega (arith, rest)
     by false rest = rest
 
-part_id : (parts : List Part) (i : ℕ) (d : Part) → i < length parts → (get_or parts i d).head.id ≡ get_or (ids_of parts) i 0
+part_id : (parts : List LiveSegment) (i : ℕ) (d : LiveSegment) → i < length parts → (get_or parts i d).head.id ≡ get_or (ids_of parts) i 0
 part_id [] i d lt = absurd (omega (arith, lt))
 part_id (p ∷ ps) zero d lt = refl
 part_id (p ∷ ps) (suc i) d lt = part_id ps i d (omega (arith, lt))
 
 -- rising positions name different segments
-pub two_there : (parts : List Part) (positions : List ℕ) → 2 ≤ length positions → IsStrictlyIncreasing positions → All (λ i. i < length parts) positions
+pub two_there : (parts : List LiveSegment) (positions : List ℕ) → 2 ≤ length positions → IsStrictlyIncreasing positions → All (λ i. i < length parts) positions
     → 2 ≤ length (parts_among (map (λ i. get_or (ids_of parts) i 0) positions) parts)
 two_there [] positions some rises within = absurd (omega (arith, within 0 0 (omega (arith, some))))
 two_there (q ∷ qs) positions some rises within =
-    two_kept (λ (p : Part). is_among ids p.head.id) (q ∷ qs) (get_or positions 0 0) (get_or positions 1 0) q (rises 0 (omega (arith, some)))
+    two_kept (λ (p : LiveSegment). is_among ids p.head.id) (q ∷ qs) (get_or positions 0 0) (get_or positions 1 0) q (rises 0 (omega (arith, some)))
     (within 1 0 (omega (arith, some)))
     (there 0 (omega (arith, some))) (there 1 (omega (arith, some)))
   where

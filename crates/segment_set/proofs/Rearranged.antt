@@ -18,7 +18,7 @@ use Rattle.page_cache.specs.declared.faults.Damage.TheVariants.{Page, Leaf, Body
 use Rattle.page_cache.specs.Cache.{Agrees, KeepsFile}
 use Rattle.page_cache.proofs.Agreement.{agrees_other}
 use Rattle.stored_index.proofs.Places.{entry_there}
-use Rattle.segment_view.specs.Parts.{Part, ids_of, live_in_parts, parts_among}
+use Rattle.segment_view.specs.LiveSegments.{LiveSegment, ids_of, live_in_parts, parts_among}
 use Rattle.segment_view.specs.Damages.{IsReadDamage}
 use Rattle.file_names.specs.Names.{NameList}
 use Rattle.segment_set.specs.Sets.{SetData, IsNamed, IsWell}
@@ -61,7 +61,7 @@ rearranges_then D told f g h a b c named first second = record {
 }
 
 -- what a call left that changed names, segments, buffer and cache
-pub rearranges_after : (D : ℕ) (told : Type 0) (files new_files : Files) {s : SetData} (names : NameList) (parts : List Part) (buffer : List Item)
+pub rearranges_after : (D : ℕ) (told : Type 0) (files new_files : Files) {s : SetData} (names : NameList) (parts : List LiveSegment) (buffer : List Item)
     (cache : PageCache) → KeepsNamed told s.names names files new_files
     → IsAfter D told files new_files s (moved s names parts buffer s.begun cache)
     → Rearranges D told files new_files s (moved s names parts buffer s.begun cache)
@@ -90,7 +90,8 @@ entries_then D told f g h a b c first second = record {
       (last.0, last.1, totals_then (live_in_parts d a.parts) (live_in_parts mid.0 b.parts) (live_in_parts last.0 c.parts) mid.2 last.2);
 }
 
-pub entries_merged : (D : ℕ) (told : Type 0) (files new_files : Files) {s : SetData} (well : IsWell D s) (names : NameList) (ids : List ℕ) (parts : List Part)
+pub entries_merged : (D : ℕ) (told : Type 0) (files new_files : Files) {s : SetData} (well : IsWell D s) (names : NameList) (ids : List ℕ)
+    (parts : List LiveSegment)
     (cache : PageCache)
     → KeepsNamed told s.names names files new_files
     → (told → Agrees files s.cache → Agrees files cache)

@@ -13,7 +13,7 @@ use Rattle.documents.specs.Entries.{is_among}
 use Rattle.documents.proofs.Kept.{among_from, among_to}
 use Rattle.documents.proofs.Lists.{filter_alike, filter_twice, in_filter, in_map, of_filter, of_map}
 use Rattle.stored_index.specs.Segments.{places}
-use Rattle.segment_view.specs.Parts.{Part, lives_of, ids_of, parts_among, parts_but, has_live, IsPlaced}
+use Rattle.segment_view.specs.LiveSegments.{LiveSegment, lives_of, ids_of, parts_among, parts_but, has_live, IsPlaced}
 
 -- ---- sums over segments
 
@@ -21,10 +21,10 @@ abbrev pub one_if : Bool → ℕ
 one_if b = cond b 1 0
 
 -- 1 where the number is live in the segment
-abbrev pub place_in : ℕ → Part → ℕ
+abbrev pub place_in : ℕ → LiveSegment → ℕ
 place_in number p = one_if (is_live p.live number)
 
-pub places_in : (number : ℕ) (parts : List Part) → places number (lives_of parts) ≡ sum_by (place_in number) parts
+pub places_in : (number : ℕ) (parts : List LiveSegment) → places number (lives_of parts) ≡ sum_by (place_in number) parts
 places_in number [] = refl
 places_in number (p ∷ ps) =
     sum_by-cons (λ (s : LiveSet). one_if (is_live s number)) p.live (lives_of ps)
@@ -32,26 +32,27 @@ places_in number (p ∷ ps) =
     ∙ sym (sum_by-cons (place_in number) p ps)
 
 -- those of these ids and the others are all
-pub parted : (g : Part → ℕ) (ids : List ℕ) (parts : List Part) → sum_by g (parts_among ids parts) + sum_by g (parts_but ids parts) ≡ sum_by g parts
-parted g ids parts = sum_by-filter_both (λ (p : Part). is_among ids p.head.id) (λ (p : Part). not (is_among ids p.head.id)) (λ p. refl) g parts
+pub parted : (g : LiveSegment → ℕ) (ids : List ℕ) (parts : List LiveSegment)
+    → sum_by g (parts_among ids parts) + sum_by g (parts_but ids parts) ≡ sum_by g parts
+parted g ids parts = sum_by-filter_both (λ (p : LiveSegment). is_among ids p.head.id) (λ (p : LiveSegment). not (is_among ids p.head.id)) (λ p. refl) g parts
 
-pub length_parted : (ids : List ℕ) (parts : List Part) → length (parts_among ids parts) + length (parts_but ids parts) ≡ length parts
-length_parted ids parts = length-filter_both (λ (p : Part). is_among ids p.head.id) (λ (p : Part). not (is_among ids p.head.id)) (λ p. refl) parts
+pub length_parted : (ids : List ℕ) (parts : List LiveSegment) → length (parts_among ids parts) + length (parts_but ids parts) ≡ length parts
+length_parted ids parts = length-filter_both (λ (p : LiveSegment). is_among ids p.head.id) (λ (p : LiveSegment). not (is_among ids p.head.id)) (λ p. refl) parts
 
-pub total_placed : (g : Part → ℕ) (p : Part) (old new : List Part) → IsPlaced p old new → sum_by g new ≡ g p + sum_by g old
+pub total_placed : (g : LiveSegment → ℕ) (p : LiveSegment) (old new : List LiveSegment) → IsPlaced p old new → sum_by g new ≡ g p + sum_by g old
 total_placed g p old new h =
     let whole : sum_by g new ≡ sum_by g h.front + sum_by g (p ∷ h.back) = ap (sum_by g) h.after ∙ sum_by-append g h.front (p ∷ h.back) in
     let before : sum_by g old ≡ sum_by g h.front + sum_by g h.back = ap (sum_by g) h.before ∙ sum_by-append g h.front h.back in
     omega (arith, whole, before, sum_by-cons g p h.back)
 
-pub length_placed : (p : Part) (old new : List Part) → IsPlaced p old new → length new ≡ 1 + length old
+pub length_placed : (p : LiveSegment) (old new : List LiveSegment) → IsPlaced p old new → length new ≡ 1 + length old
 length_placed p old new h =
     let whole : length new ≡ length h.front + length (p ∷ h.back) = ap length h.after ∙ length-append h.front (p ∷ h.back) in
     let before : length old ≡ length h.front + length h.back = ap length h.before ∙ length-append h.front h.back in
     omega arith
 
 -- a number that is live in one of them has a place
-pub some_place : (number : ℕ) (parts : List Part) → has_live number parts ≡ true → 1 ≤ sum_by (place_in number) parts
+pub some_place : (number : ℕ) (parts : List LiveSegment) → has_live number parts ≡ true → 1 ≤ sum_by (place_in number) parts
 some_place number [] h = cc
 some_place number (p ∷ ps) h = elim (cases_Bool (is_live p.live number)) [
   | inl here ↦ omega (arith, sum_by-cons (place_in number) p ps, ap one_if here)
@@ -61,7 +62,7 @@ some_place number (p ∷ ps) h = elim (cases_Bool (is_live p.live number)) [
 ]
 
 -- and the other way round
-pub live_placed : (number : ℕ) (parts : List Part) → 1 ≤ sum_by (place_in number) parts → has_live number parts ≡ true
+pub live_placed : (number : ℕ) (parts : List LiveSegment) → 1 ≤ sum_by (place_in number) parts → has_live number parts ≡ true
 live_placed number [] h = absurd (omega (arith, h))
 live_placed number (p ∷ ps) h = elim (cases_Bool (is_live p.live number)) [
   | inl here ↦ ap (λ (b : Bool). b || has_live number ps) here
@@ -80,25 +81,25 @@ pub all_back : {X : Type 0} (P : X → Type 0) (xs ys : List X) → All P (xs ++
 all_back {X} P xs ys all =
     All-weaker (Contains ys) P (λ (x : X) there. All-contains P (xs ++ ys) x all (Contains-append_right xs ys x there)) ys (All-contains_itself ys)
 
-pub all_placed : (P : Part → Type 0) (p : Part) (old new : List Part) → IsPlaced p old new → P p → All P old → All P new
+pub all_placed : (P : LiveSegment → Type 0) (p : LiveSegment) (old new : List LiveSegment) → IsPlaced p old new → P p → All P old → All P new
 all_placed P p old new h here all =
     let both : All P (h.front ++ h.back) = subst (All P) h.before all in
     subst (All P) (sym h.after)
     (All-append P h.front (p ∷ h.back) (all_front P h.front h.back both) (All-cons P p h.back here (all_back P h.front h.back both)))
 
-pub all_but : (P : Part → Type 0) (ids : List ℕ) (parts : List Part) → All P parts → All P (parts_but ids parts)
-all_but P ids parts all = All-filter (λ (p : Part). not (is_among ids p.head.id)) P parts all
+pub all_but : (P : LiveSegment → Type 0) (ids : List ℕ) (parts : List LiveSegment) → All P parts → All P (parts_but ids parts)
+all_but P ids parts all = All-filter (λ (p : LiveSegment). not (is_among ids p.head.id)) P parts all
 
-pub all_among : (P : Part → Type 0) (ids : List ℕ) (parts : List Part) → All P parts → All P (parts_among ids parts)
-all_among P ids parts all = All-filter (λ (p : Part). is_among ids p.head.id) P parts all
+pub all_among : (P : LiveSegment → Type 0) (ids : List ℕ) (parts : List LiveSegment) → All P parts → All P (parts_among ids parts)
+all_among P ids parts all = All-filter (λ (p : LiveSegment). is_among ids p.head.id) P parts all
 
 -- ---- ids
 
 -- a segment that isn't one of these came between, and changes nothing among these
-pub among_placed : (ids : List ℕ) (p : Part) (old new : List Part) → IsPlaced p old new → is_among ids p.head.id ≡ false
+pub among_placed : (ids : List ℕ) (p : LiveSegment) (old new : List LiveSegment) → IsPlaced p old new → is_among ids p.head.id ≡ false
     → parts_among ids new ≡ parts_among ids old
 among_placed ids p old new h not_this =
-    let here : Part → Bool = λ (q : Part). is_among ids q.head.id in
+    let here : LiveSegment → Bool = λ (q : LiveSegment). is_among ids q.head.id in
     let skipped : parts_among ids (p ∷ h.back) ≡ parts_among ids h.back =
     ap (λ (b : Bool). cond b (p ∷ parts_among ids h.back) (parts_among ids h.back)) not_this in
     ap (parts_among ids) h.after
@@ -108,11 +109,11 @@ among_placed ids p old new h not_this =
     ∙ ap (parts_among ids) (sym h.before)
 
 -- segments of some ids stay where segments of ids apart from them go
-pub among_but : (ids others : List ℕ) (parts : List Part) → ((id : ℕ) → is_among others id ≡ true → is_among ids id ≡ false)
+pub among_but : (ids others : List ℕ) (parts : List LiveSegment) → ((id : ℕ) → is_among others id ≡ true → is_among ids id ≡ false)
     → parts_among ids (parts_but others parts) ≡ parts_among ids parts
 among_but ids others parts apart =
-    filter_twice (λ (q : Part). is_among ids q.head.id) (λ (q : Part). not (is_among others q.head.id)) parts
-    ∙ filter_alike (λ (q : Part). not (is_among others q.head.id) && is_among ids q.head.id) (λ (q : Part). is_among ids q.head.id) parts
+    filter_twice (λ (q : LiveSegment). is_among ids q.head.id) (λ (q : LiveSegment). not (is_among others q.head.id)) parts
+    ∙ filter_alike (λ (q : LiveSegment). not (is_among others q.head.id) && is_among ids q.head.id) (λ (q : LiveSegment). is_among ids q.head.id) parts
     (λ q there. by (is_among others q.head.id) (is_among ids q.head.id) (apart q.head.id))
   where
     by : (other here : Bool) → (other ≡ true → here ≡ false) → (not other && here) ≡ here
@@ -120,7 +121,7 @@ among_but ids others parts apart =
     by false here apart = refl
 
 -- a segment that came between others that go or stay
-pub but_placed : (ids : List ℕ) (p : Part) (old new : List Part) → IsPlaced p old new → is_among ids p.head.id ≡ false
+pub but_placed : (ids : List ℕ) (p : LiveSegment) (old new : List LiveSegment) → IsPlaced p old new → is_among ids p.head.id ≡ false
     → IsPlaced p (parts_but ids old) (parts_but ids new)
 but_placed ids p old new h not_this = record {
   front = parts_but ids h.front;
@@ -131,17 +132,17 @@ but_placed ids p old new h not_this = record {
       ∙ ap (λ ps. parts_but ids h.front ++ ps) (ap (λ (b : Bool). cond (not b) (p ∷ parts_but ids h.back) (parts_but ids h.back)) not_this);
 }
   where
-    stays : Part → Bool
+    stays : LiveSegment → Bool
     stays q = not (is_among ids q.head.id)
 
-pub id_there : (parts : List Part) (id : ℕ) → is_among (ids_of parts) id ≡ true → (q : Part) × Contains parts q × (q.head.id ≡ id)
-id_there parts id there = of_map (λ (q : Part). q.head.id) parts id (among_to (ids_of parts) id there)
+pub id_there : (parts : List LiveSegment) (id : ℕ) → is_among (ids_of parts) id ≡ true → (q : LiveSegment) × Contains parts q × (q.head.id ≡ id)
+id_there parts id there = of_map (λ (q : LiveSegment). q.head.id) parts id (among_to (ids_of parts) id there)
 
-pub id_of_part : (parts : List Part) (q : Part) → Contains parts q → is_among (ids_of parts) q.head.id ≡ true
-id_of_part parts q there = among_from (ids_of parts) q.head.id (in_map (λ (p : Part). p.head.id) parts q there)
+pub id_of_part : (parts : List LiveSegment) (q : LiveSegment) → Contains parts q → is_among (ids_of parts) q.head.id ≡ true
+id_of_part parts q there = among_from (ids_of parts) q.head.id (in_map (λ (p : LiveSegment). p.head.id) parts q there)
 
 -- ids that name segments still do where these stay
-pub ids_stay : (ids : List ℕ) (old new : List Part) → parts_among ids new ≡ parts_among ids old → All (λ id. is_among (ids_of old) id ≡ true) ids
+pub ids_stay : (ids : List ℕ) (old new : List LiveSegment) → parts_among ids new ≡ parts_among ids old → All (λ id. is_among (ids_of old) id ≡ true) ids
     → All (λ id. is_among (ids_of new) id ≡ true) ids
 ids_stay ids old new same all =
     All-weaker (Contains ids) (λ id. is_among (ids_of new) id ≡ true)
@@ -152,6 +153,6 @@ ids_stay ids old new same all =
         let part = id_there old id before in
         let among : is_among ids part.0.head.id ≡ true = among_from ids part.0.head.id (subst (Contains ids) (sym part.2) there) in
         let kept : Contains (parts_among ids new) part.0 =
-        subst (λ (ps : List Part). Contains ps part.0) (sym same) (in_filter (λ (q : Part). is_among ids q.head.id) old part.0 part.1 among) in
-        let now : Contains new part.0 = (of_filter (λ (q : Part). is_among ids q.head.id) new part.0 kept).0 in
+        subst (λ (ps : List LiveSegment). Contains ps part.0) (sym same) (in_filter (λ (q : LiveSegment). is_among ids q.head.id) old part.0 part.1 among) in
+        let now : Contains new part.0 = (of_filter (λ (q : LiveSegment). is_among ids q.head.id) new part.0 kept).0 in
         subst (λ (n : ℕ). is_among (ids_of new) n ≡ true) part.2 (id_of_part new part.0 now)

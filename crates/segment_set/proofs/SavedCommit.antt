@@ -21,7 +21,7 @@ use Rattle.stored_index.specs.Stored.{HoldAll, HoldsFiles, IsStored, index_of}
 use Rattle.stored_index.proofs.Pairwise.{zip_map, zip_moved, zip_same}
 use Rattle.stored_index.proofs.Whole.{stored_from}
 use Rattle.index_model.specs.State.{Index, at_rest}
-use Rattle.segment_view.specs.Parts.{Contents, IsRead, Part, ids_of, live_in_parts, lives_of}
+use Rattle.segment_view.specs.LiveSegments.{Contents, IsRead, LiveSegment, ids_of, live_in_parts, lives_of}
 use Rattle.file_names.specs.Names.{NameList, is_named}
 use Rattle.segment_set.specs.Sets.{IsNamed, IsWell, SetData}
 use Rattle.segment_set.specs.Seen.{Sees}
@@ -32,10 +32,10 @@ use Rattle.segment_set.proofs.SavedSegments.{zip_length, zip_left, zip_beside}
 -- ---- the commit
 
 -- a line of the commit and its segment
-abbrev pub IsLine : ℕ → Listed → Part → Type 0
+abbrev pub IsLine : ℕ → Listed → LiveSegment → Type 0
 IsLine n l p = (l.segment ≡ p.head.id) × IsListed n l
 
-pub saved_lines : (told : Type 0) (before after : NameList) (files : Files) (n : ℕ) (listed : List Listed) (parts : List Part) → n ≡ after.next_segment
+pub saved_lines : (told : Type 0) (before after : NameList) (files : Files) (n : ℕ) (listed : List Listed) (parts : List LiveSegment) → n ≡ after.next_segment
     → AllZip (IsSaved told before after files) listed parts → AllZip (IsLine n) listed parts
 saved_lines told before after files n listed parts same =
     zip_moved (IsSaved told before after files) (IsLine n) listed parts (λ l p there saved. (saved.segment, subst (λ m. IsListed m l) (sym same) saved.may))
@@ -54,13 +54,15 @@ is_commit D s n listed well ascend all = record {
   };
   segments = record {
     rising =
-        subst IsStrictlyIncreasing (zip_same (IsLine n) (λ (l : Listed). l.segment) (λ (p : Part). p.head.id) (λ l p r. sym r.0) listed s.parts all) ascend;
+        subst IsStrictlyIncreasing (zip_same (IsLine n) (λ (l : Listed). l.segment) (λ (p : LiveSegment). p.head.id) (λ l p r. sym r.0) listed s.parts all)
+            ascend;
     each = zip_left (IsLine n) (IsListed n) listed s.parts (λ l p r. r.1) all;
   };
 }
 
 -- the files that are listed are named
-pub listed_named : (told : Type 0) (before : NameList) (files : Files) (names : NameList) (c : CommitData) (parts : List Part) → All (IsNamed names) parts
+pub listed_named : (told : Type 0) (before : NameList) (files : Files) (names : NameList) (c : CommitData) (parts : List LiveSegment)
+    → All (IsNamed names) parts
     → AllZip (IsSaved told before names files) c.listed parts
     → (m : FileName) → ListsFile c m → is_named names.names m ≡ true
 listed_named told before files names c parts named all (Segment id) (l, there, is) =
@@ -68,9 +70,10 @@ listed_named told before files names c parts named all (Segment id) (l, there, i
     (All-contains (λ (k : Listed). is_named names.names (Segment k.segment) ≡ true) c.listed l segments there)
   where
     segments : All (λ (k : Listed). is_named names.names (Segment k.segment) ≡ true) c.listed
-    segments = zip_left (λ (k : Listed) (p : Part). is_named names.names (Segment k.segment) ≡ true)
+    segments = zip_left (λ (k : Listed) (p : LiveSegment). is_named names.names (Segment k.segment) ≡ true)
         (λ (k : Listed). is_named names.names (Segment k.segment) ≡ true) c.listed parts (λ k p h. h)
-        (zip_beside (IsSaved told before names files) (λ (k : Listed) (p : Part). is_named names.names (Segment k.segment) ≡ true) (IsNamed names) c.listed
+        (zip_beside (IsSaved told before names files) (λ (k : Listed) (p : LiveSegment). is_named names.names (Segment k.segment) ≡ true) (IsNamed names)
+            c.listed
         parts
         (λ k p saved is. ap (λ n. is_named names.names (Segment n)) saved.segment ∙ is) named all)
 listed_named told before files names c parts named all (Live id generation) (l, there, is, at) =
@@ -92,7 +95,7 @@ commit_of_set D told before files s n listed same well all = record {
   given = refl;
   next_segment = same;
   lists = zip_moved (IsSaved told before s.names files)
-      (λ (l : Listed) (p : Part). (l.segment ≡ p.head.id) × (l.entries ≡ p.head.entries) × (l.live ≡ length p.live.live)) listed s.parts
+      (λ (l : Listed) (p : LiveSegment). (l.segment ≡ p.head.id) × (l.entries ≡ p.head.entries) × (l.live ≡ length p.live.live)) listed s.parts
       (λ l p there saved. (saved.segment, saved.entries, saved.live)) all;
   named = listed_named told before files s.names (record { dims = D; leaf = s.leaf; next = s.next; given = s.given; next_segment = n; listed = listed }) s.parts
       well.named all;
@@ -101,19 +104,19 @@ commit_of_set D told before files s n listed same well all = record {
 -- ---- what is stored with it
 
 -- a segment of the set, as the files hold it
-abbrev pub data_of : Contents → Part → SegmentData
+abbrev pub data_of : Contents → LiveSegment → SegmentData
 data_of c p = record { head = p.head; entries = c p.head.id; live = p.live }
 
-sets_of : (c : Contents) (parts : List Part) → live_sets (map (data_of c) parts) ≡ lives_of parts
+pub sets_of : (c : Contents) (parts : List LiveSegment) → live_sets (map (data_of c) parts) ≡ lives_of parts
 sets_of c [] = refl
 sets_of c (p ∷ ps) = ap (λ (ss : List LiveSet). p.live ∷ ss) (sets_of c ps)
 
-entries_of : (c : Contents) (parts : List Part) → all_live_entries (map (data_of c) parts) ≡ live_in_parts c parts
+pub entries_of : (c : Contents) (parts : List LiveSegment) → all_live_entries (map (data_of c) parts) ≡ live_in_parts c parts
 entries_of c [] = refl
 entries_of c (p ∷ ps) = ap (λ (xs : List Item). filter (λ (x : Item). is_live p.live x.doc) (c p.head.id) ++ xs) (entries_of c ps)
 
 -- what is known of a segment of the set and its line in the commit
-abbrev IsPartSaved : (D leaf : ℕ) (told : Type 0) (before : NameList) → Files → NameList → Contents → Listed → Part → Type 0
+abbrev IsPartSaved : (D leaf : ℕ) (told : Type 0) (before : NameList) → Files → NameList → Contents → Listed → LiveSegment → Type 0
 IsPartSaved D leaf told before now names contents l p = IsSaved told before names now l p × IsRead D now contents p × (p.head.leaf ≡ leaf)
 
 -- a commit that was saved of a set, whose buffer is empty, is stored once its file says it and as long as the files that it lists stay
@@ -134,7 +137,8 @@ saved_is_stored D told before now s c i t well empty commit all seen files says 
     entries = entries_of contents s.parts ∙ sym (append-nil (live_in_parts contents s.parts))
         ∙ ap (λ (xs : List Item). live_in_parts contents s.parts ++ xs) (sym empty)
 
-    one : (l : Listed) (p : Part) → Contains c.listed l → IsPartSaved D s.leaf told before now s.names contents l p → HoldsFiles files c l (data_of contents p)
+    one : (l : Listed) (p : LiveSegment) → Contains c.listed l → IsPartSaved D s.leaf told before now s.names contents l p
+        → HoldsFiles files c l (data_of contents p)
     one l p there (saved, read, leaf) =
         let bytes : bytes_of (files (Segment l.segment)) ≡ bytes_of (now (Segment p.head.id)) =
         ap bytes_of (same (Segment l.segment) (l, there, refl)) ∙ ap (λ n. bytes_of (now (Segment n))) saved.segment in
@@ -153,7 +157,7 @@ saved_is_stored D told before now s c i t well empty commit all seen files says 
     held : HoldAll files c parts
     held = zip_map (IsPartSaved D s.leaf told before now s.names contents) (HoldsFiles files c) (data_of contents) c.listed s.parts one
         (zip_beside (IsSaved told before s.names now) (IsPartSaved D s.leaf told before now s.names contents)
-        (λ (p : Part). IsRead D now contents p × (p.head.leaf ≡ s.leaf)) c.listed s.parts
+        (λ (p : LiveSegment). IsRead D now contents p × (p.head.leaf ≡ s.leaf)) c.listed s.parts
         (λ l p saved facts. (saved, facts.0, facts.1)) (λ k d lt. (seen.stands.now k d lt, well.leaf_size k d lt)) all)
 
     alone : (number : ℕ) → places number (live_sets parts) ≤ 1

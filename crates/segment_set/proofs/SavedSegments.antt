@@ -17,7 +17,7 @@ use Rattle.commit_list.specs.declared.listed.Listed.{Listed}
 use Rattle.commit_list.specs.Commits.{IsListed}
 use Rattle.segment_file.specs.LiveFiles.{IsLiveFile}
 use Rattle.stored_index.proofs.Pairwise.{zip_moved}
-use Rattle.segment_view.specs.Parts.{Part, ids_of}
+use Rattle.segment_view.specs.LiveSegments.{LiveSegment, ids_of}
 use Rattle.file_names.specs.Names.{NameList, IsNextGeneration, is_named}
 use Rattle.file_names.proofs.Listed.{others_stay}
 use Rattle.segment_set.specs.Kept.{KeepsNamed}
@@ -54,20 +54,20 @@ take_whole [] (suc i) le = refl
 take_whole (x ∷ xs) zero le = absurd (omega (arith, le))
 take_whole (x ∷ xs) (suc i) le = ap (λ ys. x ∷ ys) (take_whole xs i (omega (arith, le)))
 
-pub parts_before : (parts : List Part) (i : ℕ) (d : Part) → AllPairs (λ (m n : ℕ). m < n) (ids_of parts) → i < length parts
-    → All (λ (q : Part). q.head.id < (get_or parts i d).head.id) (take i parts)
+pub parts_before : (parts : List LiveSegment) (i : ℕ) (d : LiveSegment) → AllPairs (λ (m n : ℕ). m < n) (ids_of parts) → i < length parts
+    → All (λ (q : LiveSegment). q.head.id < (get_or parts i d).head.id) (take i parts)
 parts_before [] i d up lt = absurd (omega (arith, lt))
-parts_before (p ∷ ps) zero d up lt = All-nil (λ (q : Part). q.head.id < p.head.id)
+parts_before (p ∷ ps) zero d up lt = All-nil (λ (q : LiveSegment). q.head.id < p.head.id)
 parts_before (p ∷ ps) (suc i) d up lt =
     let less : i < length ps = omega (arith, lt) in
-    All-cons (λ (q : Part). q.head.id < (get_or ps i d).head.id) p (take i ps)
+    All-cons (λ (q : LiveSegment). q.head.id < (get_or ps i d).head.id) p (take i ps)
     (pairs_head (λ (m n : ℕ). m < n) p.head.id (ids_of ps) up (get_or ps i d).head.id
-    (in_map (λ (q : Part). q.head.id) ps (get_or ps i d) (All-contains_itself ps i d less)))
+    (in_map (λ (q : LiveSegment). q.head.id) ps (get_or ps i d) (All-contains_itself ps i d less)))
     (parts_before ps i d (pairs_tail (λ (m n : ℕ). m < n) p.head.id (ids_of ps) up) less)
 
 -- ---- a segment that is saved stays so
 
-pub saved_kept : (told : Type 0) (before mid after : NameList) (f g : Files) (l : Listed) (p : Part) → KeepsNamed told mid after f g
+pub saved_kept : (told : Type 0) (before mid after : NameList) (f g : Files) (l : Listed) (p : LiveSegment) → KeepsNamed told mid after f g
     → after.next_segment ≡ mid.next_segment
     → IsSaved told before mid f l p → IsSaved told before after g l p
 saved_kept told before mid after f g l p keeps next is = record {
@@ -82,7 +82,7 @@ saved_kept told before mid after f g l p keeps next is = record {
 }
 
 -- since a time when the list had fewer names, but no fewer of this segment's live bits
-pub saved_since : (told : Type 0) (first before after : NameList) (files : Files) (l : Listed) (p : Part)
+pub saved_since : (told : Type 0) (first before after : NameList) (files : Files) (l : Listed) (p : LiveSegment)
     → ((m : FileName) → is_named first.names m ≡ true → is_named before.names m ≡ true)
     → ((n : ℕ) → is_named before.names (Live p.head.id n) ≡ is_named first.names (Live p.head.id n)) → IsSaved told before after files l p
     → IsSaved told first after files l p
@@ -100,14 +100,16 @@ saved_since told first before after files l p more same is = record {
     like : (n : ℕ) → is_named before.names (Live l.segment n) ≡ is_named first.names (Live l.segment n)
     like n = subst (λ (id : ℕ). is_named before.names (Live id n) ≡ is_named first.names (Live id n)) (sym is.segment) (same n)
 
-pub all_saved_kept : (told : Type 0) (before mid after : NameList) (f g : Files) (listed : List Listed) (parts : List Part) → KeepsNamed told mid after f g
+pub all_saved_kept : (told : Type 0) (before mid after : NameList) (f g : Files) (listed : List Listed) (parts : List LiveSegment)
+    → KeepsNamed told mid after f g
     → after.next_segment ≡ mid.next_segment
     → AllZip (IsSaved told before mid f) listed parts → AllZip (IsSaved told before after g) listed parts
 all_saved_kept told before mid after f g listed parts keeps next =
     zip_moved (IsSaved told before mid f) (IsSaved told before after g) listed parts (λ l p there. saved_kept told before mid after f g l p keeps next)
 
 -- one more
-pub saved_more : (told : Type 0) (before mid after : NameList) (f g : Files) (listed : List Listed) (parts more : List Part) (l : Listed) (p : Part)
+pub saved_more : (told : Type 0) (before mid after : NameList) (f g : Files) (listed : List Listed) (parts more : List LiveSegment) (l : Listed)
+    (p : LiveSegment)
     → KeepsNamed told mid after f g
     → ((m : FileName) → is_named before.names m ≡ true → is_named mid.names m ≡ true)
     → ((n : ℕ) → is_named mid.names (Live p.head.id n) ≡ is_named before.names (Live p.head.id n))
@@ -121,11 +123,11 @@ saved_more told before mid after f g listed parts more l p keeps earlier same ne
 -- ---- names of live bits, one segment after another
 
 -- an id that is none of the segments and not that of one more
-pub later_among : (parts : List Part) (p : Part) (id : ℕ) → is_among (ids_of (parts ++ p ∷ [])) id ≡ false
+pub later_among : (parts : List LiveSegment) (p : LiveSegment) (id : ℕ) → is_among (ids_of (parts ++ p ∷ [])) id ≡ false
     → (is_among (ids_of parts) id ≡ false) × (id ≡ p.head.id → ⊥)
 later_among parts p id none = (
   false_from_ne_true (is_among (ids_of parts) id) (λ among.
-      let found = of_map (λ (q : Part). q.head.id) parts id (among_to (ids_of parts) id among) in
+      let found = of_map (λ (q : LiveSegment). q.head.id) parts id (among_to (ids_of parts) id among) in
       both_ways (is_among (ids_of (parts ++ p ∷ [])) id) none
       (subst (λ (n : ℕ). is_among (ids_of (parts ++ p ∷ [])) n ≡ true) found.2
       (id_of_part (parts ++ p ∷ []) found.0 (Contains-append_left parts (p ∷ []) found.0 found.1)))),
@@ -143,13 +145,13 @@ other_live names segment generation id n other = others_stay names (Live segment
     live_id a m b k e = cc
 
 -- the next segment's id is none of those before
-pub later_id : (parts : List Part) (i : ℕ) (p : Part) → IsStrictlyIncreasing (ids_of parts) → slice_get parts i ≡ Some p
+pub later_id : (parts : List LiveSegment) (i : ℕ) (p : LiveSegment) → IsStrictlyIncreasing (ids_of parts) → slice_get parts i ≡ Some p
     → is_among (ids_of (take i parts)) p.head.id ≡ false
 later_id parts i p up at = false_from_ne_true (is_among (ids_of (take i parts)) p.head.id) (λ among.
-    let found = of_map (λ (q : Part). q.head.id) (take i parts) p.head.id (among_to (ids_of (take i parts)) p.head.id among) in
-    omega (arith, found.2, All-contains (λ (q : Part). q.head.id < p.head.id) (take i parts) found.0 less found.1))
+    let found = of_map (λ (q : LiveSegment). q.head.id) (take i parts) p.head.id (among_to (ids_of (take i parts)) p.head.id among) in
+    omega (arith, found.2, All-contains (λ (q : LiveSegment). q.head.id < p.head.id) (take i parts) found.0 less found.1))
   where
-    less : All (λ (q : Part). q.head.id < p.head.id) (take i parts)
+    less : All (λ (q : LiveSegment). q.head.id < p.head.id) (take i parts)
     less =
-        subst (λ (r : Part). All (λ (q : Part). q.head.id < r.head.id) (take i parts)) (get_or_from_slice_get parts i p p at)
+        subst (λ (r : LiveSegment). All (λ (q : LiveSegment). q.head.id < r.head.id) (take i parts)) (get_or_from_slice_get parts i p p at)
         (parts_before parts i p (AllPairs-from_increasing (ids_of parts) up) (slice_get_within parts i p at))

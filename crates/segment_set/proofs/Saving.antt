@@ -22,7 +22,7 @@ use Rattle.commit_list.specs.Commits.{CommitData}
 use Rattle.segment_file.specs.LiveFiles.{IsLiveFile}
 use Rattle.stored_index.proofs.Pairwise.{zip_moved}
 use Rattle.index_model.specs.State.{Index}
-use Rattle.segment_view.specs.Parts.{Part}
+use Rattle.segment_view.specs.LiveSegments.{LiveSegment}
 use Rattle.file_names.specs.Names.{NameList, is_named}
 use Rattle.segment_set.specs.Sets.{IsNamed, IsWell, SetData}
 use Rattle.segment_set.specs.Seen.{Sees}
@@ -137,8 +137,10 @@ stays_saved s t alone = record {
   given = alone.given;
   snapshots = alone.snapshots;
   begun = ap is_some alone.begun;
-  live = λ number live. subst (λ (xs : List Item). cond (list_any (λ (p : Part). is_live p.live number) s.parts) true (has_entry number xs) ≡ true) alone.buffer
-      (subst (λ (ps : List Part). cond (list_any (λ (p : Part). is_live p.live number) ps) true (has_entry number t.buffer) ≡ true) alone.parts live);
+  live = λ number live.
+      subst (λ (xs : List Item). cond (list_any (λ (p : LiveSegment). is_live p.live number) s.parts) true (has_entry number xs) ≡ true) alone.buffer
+      (subst (λ (ps : List LiveSegment). cond (list_any (λ (p : LiveSegment). is_live p.live number) ps) true (has_entry number t.buffer) ≡ true) alone.parts
+          live);
 }
 
 -- the segments are the same, so those whose files weren't named before are canonical still
@@ -150,25 +152,26 @@ canon_saved D told first before after s t to well keeps more alone canon =
     (canon_then D told first s.names t.names before after s.parts s.parts to keeps more well.named canon (follows_none s.names s.parts)
     (canon_named D after s.names s.parts well.named))
 
-pub all_fresh : (told : Type 0) (first before after : NameList) (files : Files) (listed : List Listed) (parts : List Part)
+pub all_fresh : (told : Type 0) (first before after : NameList) (files : Files) (listed : List Listed) (parts : List LiveSegment)
     → ((m : FileName) → is_named first.names m ≡ true → is_named before.names m ≡ true)
     → AllZip (IsSaved told before after files) listed parts → All (λ (l : Listed). is_named first.names (Live l.segment l.generation) ≡ false) listed
 all_fresh told first before after files listed parts more all =
     zip_left (IsSaved told before after files) (λ (l : Listed). is_named first.names (Live l.segment l.generation) ≡ false) listed parts
     (λ l p saved. unnamed_before first.names before.names (Live l.segment l.generation) (more (Live l.segment l.generation)) saved.fresh) all
 
-pub all_next : (told : Type 0) (before after : NameList) (files : Files) (listed : List Listed) (parts : List Part)
+pub all_next : (told : Type 0) (before after : NameList) (files : Files) (listed : List Listed) (parts : List LiveSegment)
     → AllZip (IsSaved told before after files) listed parts → All (HasNextGeneration before) listed
 all_next told before after files listed parts all =
     zip_left (IsSaved told before after files) (HasNextGeneration before) listed parts (λ l p saved. saved.rule) all
 
-pub all_written : (told : Type 0) (before after : NameList) (files : Files) (listed : List Listed) (parts others : List Part) → told → others ≡ parts
+pub all_written : (told : Type 0) (before after : NameList) (files : Files) (listed : List Listed) (parts others : List LiveSegment) → told → others ≡ parts
     → AllZip (IsSaved told before after files) listed parts
-    → AllZip (λ (l : Listed) (p : Part). IsLiveFile l.segment l.generation (bytes_of (files (Live l.segment l.generation))) p.live) listed others
+    → AllZip (λ (l : Listed) (p : LiveSegment). IsLiveFile l.segment l.generation (bytes_of (files (Live l.segment l.generation))) p.live) listed others
 all_written told before after files listed parts others t same all =
-    subst (AllZip (λ (l : Listed) (p : Part). IsLiveFile l.segment l.generation (bytes_of (files (Live l.segment l.generation))) p.live) listed) (sym same)
+    subst (AllZip (λ (l : Listed) (p : LiveSegment). IsLiveFile l.segment l.generation (bytes_of (files (Live l.segment l.generation))) p.live) listed)
+        (sym same)
     (zip_moved (IsSaved told before after files)
-    (λ (l : Listed) (p : Part). IsLiveFile l.segment l.generation (bytes_of (files (Live l.segment l.generation))) p.live) listed parts
+    (λ (l : Listed) (p : LiveSegment). IsLiveFile l.segment l.generation (bytes_of (files (Live l.segment l.generation))) p.live) listed parts
     (λ l p there saved. saved.written t) all)
 
 -- ---- what an error says

@@ -4,12 +4,12 @@ use Rattle.outer_io.specs.Files.{Files}
 use Rattle.point_codec.specs.Points.{Item}
 use Rattle.page_cache.specs.declared.cache.PageCache.{PageCache}
 use Rattle.merge_policy.specs.Choice.{IsChoice}
-use Rattle.segment_view.specs.Parts.{Part, ids_of}
+use Rattle.segment_view.specs.LiveSegments.{LiveSegment, ids_of}
 use Rattle.file_names.specs.Names.{NameList}
 use Rattle.segment_set.specs.Sets.{SetData, pins_of, sizes_of}
 use Rattle.segment_set.specs.Kept.{IsAsBefore, StaysButParts}
 use Rattle.segment_set.specs.Merges.{IsMerged, IsSpilled}
-use Rattle.segment_set.specs.Settles.{Moment, moment, MergesChoice, MergesChoices, Settles, WritesBuffer, Flushes, IsLeft}
+use Rattle.segment_set.specs.Settles.{SetMoment, moment, MergesChoice, MergesChoices, Settles, WritesBuffer, Flushes, IsLeft}
 use Rattle.segment_set.proofs.Moved.{moved}
 
 -- ---- the set alone
@@ -21,31 +21,32 @@ pub before_same : (s t : SetData) → t ≡ s → IsAsBefore s t
 before_same s t same = subst (λ (u : SetData). IsAsBefore u t) same (before_itself t)
 
 -- after a refusal the set is told by its fields
-pub before_moved : (s was : SetData) → was ≡ s → (names : NameList) (parts : List Part) (buffer : List Item) (cache : PageCache) → parts ≡ was.parts
+pub before_moved : (s was : SetData) → was ≡ s → (names : NameList) (parts : List LiveSegment) (buffer : List Item) (cache : PageCache) → parts ≡ was.parts
     → buffer ≡ was.buffer
     → IsAsBefore s (moved was names parts buffer was.begun cache)
 before_moved s was view names parts buffer cache p b =
     subst (λ (u : SetData). IsAsBefore u (moved was names parts buffer was.begun cache)) view (record { is = λ i. moved was names (p i) (b i) was.begun cache })
 
-pub but_parts : (s was : SetData) → was ≡ s → (names : NameList) (parts : List Part) (cache : PageCache)
+pub but_parts : (s was : SetData) → was ≡ s → (names : NameList) (parts : List LiveSegment) (cache : PageCache)
     → StaysButParts s (moved was names parts was.buffer was.begun cache)
 but_parts s was view names parts cache = subst (λ (u : SetData). StaysButParts u (moved was names parts was.buffer was.begun cache)) view (record { is = refl })
 
 -- ---- merges
 
-choices_one : (D : ℕ) (told : Type 0) (old : Moment) (spots : List Moment) (mid new : Moment) → MergesChoices D told old spots mid → MergesChoice D told mid new
+choices_one : (D : ℕ) (told : Type 0) (old : SetMoment) (spots : List SetMoment) (mid new : SetMoment) → MergesChoices D told old spots mid
+    → MergesChoice D told mid new
     → MergesChoices D told old (spots ++ new ∷ []) new
-choices_one D told old [] mid new done one = (subst (λ (s : Moment). MergesChoice D told s new) done one, refl)
+choices_one D told old [] mid new done one = (subst (λ (s : SetMoment). MergesChoice D told s new) done one, refl)
 choices_one D told old (s ∷ spots) mid new done one = (done.0, choices_one D told s spots mid new done.1 one)
 
-pub settles_none : (D : ℕ) (told : Type 0) (s : Moment) → Settles D told s s
+pub settles_none : (D : ℕ) (told : Type 0) (s : SetMoment) → Settles D told s s
 settles_none D told s = record { spots = []; merges = refl }
 
-pub settles_one : (D : ℕ) (told : Type 0) (old mid new : Moment) → Settles D told old mid → MergesChoice D told mid new → Settles D told old new
+pub settles_one : (D : ℕ) (told : Type 0) (old mid new : SetMoment) → Settles D told old mid → MergesChoice D told mid new → Settles D told old new
 settles_one D told old mid new done one = record { spots = done.spots ++ new ∷ []; merges = choices_one D told old done.spots mid new done.merges one }
 
 -- a merge of the segments that were chosen
-pub merges_chosen : (D : ℕ) (told : Type 0) (old new : Moment) (ids these : List ℕ) → these ≡ ids
+pub merges_chosen : (D : ℕ) (told : Type 0) (old new : SetMoment) (ids these : List ℕ) → these ≡ ids
     → (positions : List ℕ) × IsChoice (sizes_of old.set.parts) (pins_of old.set.begun old.set.parts) positions
     × (ids ≡ map (λ i. get_or (ids_of old.set.parts) i 0) positions)
     → IsMerged D told old.set.leaf old.set.names new.set.names old.files new.files old.set.cache these old.set.parts new.set.parts
@@ -62,17 +63,18 @@ merges_chosen D told old new ids these same chosen merged alone = record {
 
 -- ---- flushes
 
-pub flushes_settled : (D : ℕ) (told : Type 0) (old new : Moment) → Settles D told old new → Flushes D told old new
+pub flushes_settled : (D : ℕ) (told : Type 0) (old new : SetMoment) → Settles D told old new → Flushes D told old new
 flushes_settled D told old new done = record { mid = new; settles = done; spills = inl refl }
 
-pub flushes_none : (D : ℕ) (told : Type 0) (s : Moment) → Flushes D told s s
+pub flushes_none : (D : ℕ) (told : Type 0) (s : SetMoment) → Flushes D told s s
 flushes_none D told s = flushes_settled D told s s (settles_none D told s)
 
-pub left_settled : (D : ℕ) (told : Type 0) (old : Moment) (t : SetData) → IsLeft (Settles D told old) t → IsLeft (Flushes D told old) t
+pub left_settled : (D : ℕ) (told : Type 0) (old : SetMoment) (t : SetData) → IsLeft (Settles D told old) t → IsLeft (Flushes D told old) t
 left_settled D told old t left = (left.0, flushes_settled D told old left.0 left.1, left.2)
 
 -- what waited went to a segment, where the set is told by its fields
-pub spills_moved : (D : ℕ) (told : Type 0) (files new_files : Files) (s was : SetData) → was ≡ s → (names : NameList) (parts : List Part) (buffer : List Item)
+pub spills_moved : (D : ℕ) (told : Type 0) (files new_files : Files) (s was : SetData) → was ≡ s
+    → (names : NameList) (parts : List LiveSegment) (buffer : List Item)
     → IsSpilled D told was.leaf was.names names new_files was.buffer was.parts parts → buffer ≡ []
     → WritesBuffer D told (moment files s) (moment new_files (moved was names parts buffer was.begun was.cache))
 spills_moved D told files new_files s was view names parts buffer spilled none =

@@ -9,7 +9,7 @@ use Rattle.outer_io.specs.Files.{Files}
 use Rattle.index_model.specs.State.{Index, Snapshot, at_rest}
 use Rattle.documents.specs.Entries.{is_among}
 use Rattle.point_codec.specs.Points.{Item}
-use Rattle.segment_view.specs.Parts.{AreRead, Contents, Part, ids_of}
+use Rattle.segment_view.specs.LiveSegments.{AreRead, Contents, LiveSegment, ids_of}
 use Rattle.segment_set.specs.Sets.{IsNamed, IsWell, NamedView, SetData}
 use Rattle.segment_set.specs.Faithful.{HasFileHead, IsFaithful}
 use Rattle.segment_set.specs.Seen.{Sees, ShowsSnapshot}
@@ -207,7 +207,8 @@ well_rested D s well = record {
 
 -- ---- the set from its fields
 
-pub snapped_is : (s : SetData) (name : List ℕ) (before now : List NamedView) (parts : List Part) (buffer : List Item) → before ≡ s.snapshots → parts ≡ s.parts
+pub snapped_is : (s : SetData) (name : List ℕ) (before now : List NamedView) (parts : List LiveSegment) (buffer : List Item) → before ≡ s.snapshots
+    → parts ≡ s.parts
     → buffer ≡ s.buffer
     → now ≡ before ++ record { name = name; parts = parts; buffer = buffer } ∷ [] → record s { snapshots = now } ≡ set_snapped name s
 snapped_is s name before now parts buffer b p x is = λ i. record s { snapshots = whole i }

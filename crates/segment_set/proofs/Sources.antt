@@ -13,7 +13,7 @@ use Rattle.documents.proofs.Kept.{among_from}
 use Rattle.page_cache.specs.declared.cache.PageCache.{PageCache}
 use Rattle.page_cache.specs.Cache.{Agrees, KeepsFile}
 use Rattle.index_model.specs.State.{Index}
-use Rattle.segment_view.specs.Parts.{Part, Contents, ids_of, live_in_parts, parts_among, parts_but}
+use Rattle.segment_view.specs.LiveSegments.{LiveSegment, Contents, ids_of, live_in_parts, parts_among, parts_but}
 use Rattle.segment_view.proofs.Living.{parted_totals}
 use Rattle.segment_build.specs.NewSegments.{NewSegmentData}
 use Rattle.file_names.specs.Names.{is_named}
@@ -27,7 +27,7 @@ use Rattle.segment_set.proofs.Moved.{moved}
 
 -- ---- what is read
 
-among_totals : (c : Contents) (ids : List ℕ) (parts : List Part) (buffer : List Item)
+among_totals : (c : Contents) (ids : List ℕ) (parts : List LiveSegment) (buffer : List Item)
     → SameTotals (live_in_parts c parts ++ buffer) (live_in_parts c (parts_among ids parts) ++ (live_in_parts c (parts_but ids parts) ++ buffer))
 among_totals c ids parts buffer f =
     omega (
@@ -112,7 +112,8 @@ begun_well D {s} well b cache inputs few gathered cached = record {
 }
 
 -- what was built of the inputs' live entries merges them
-pub gathered_merges : (D : ℕ) (c : Contents) (inputs : List Part) (o : Option NewSegmentData) → MakesLive D (live_in_parts c inputs) o → MergesInto D c inputs o
+pub gathered_merges : (D : ℕ) (c : Contents) (inputs : List LiveSegment) (o : Option NewSegmentData) → MakesLive D (live_in_parts c inputs) o
+    → MergesInto D c inputs o
 gathered_merges D c inputs None h = h
 gathered_merges D c inputs (Some n) h = record { items = h.items; has = h.has; found = h.found; same = h.same }
 
@@ -133,10 +134,11 @@ begun_seen D files s i h b cache merges agrees = record {
 }
 
 -- the ids at the first places are the inputs
-pub chosen_is : (which places inputs : List ℕ) (parts : List Part) → places ≡ take 64 (filter (λ i. ltb i (length parts)) (each_once which))
+pub chosen_is : (which places inputs : List ℕ) (parts : List LiveSegment) → places ≡ take 64 (filter (λ i. ltb i (length parts)) (each_once which))
     → inputs ≡ map (λ i. get_or (ids_of parts) i 0) places
     → inputs ≡ chosen_ids which (ids_of parts)
 chosen_is which places inputs parts are at =
     at
     ∙ ap (map (λ i. get_or (ids_of parts) i 0)) are
-    ∙ ap (λ n. map (λ i. get_or (ids_of parts) i 0) (take 64 (filter (λ i. ltb i n) (each_once which)))) (sym (length-map parts (λ (p : Part). p.head.id)))
+    ∙ ap (λ n. map (λ i. get_or (ids_of parts) i 0) (take 64 (filter (λ i. ltb i n) (each_once which))))
+        (sym (length-map parts (λ (p : LiveSegment). p.head.id)))

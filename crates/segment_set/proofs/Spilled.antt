@@ -10,7 +10,7 @@ use Rattle.leaf_codec.specs.LeafOrder.{NoneTwice}
 use Rattle.live_bits.specs.LiveSet.{is_live}
 use Rattle.documents.specs.Entries.{SameTotals, has_entry, is_among}
 use Rattle.index_model.specs.State.{Index}
-use Rattle.segment_view.specs.Parts.{Part, live_in_parts, parts_among}
+use Rattle.segment_view.specs.LiveSegments.{LiveSegment, live_in_parts, parts_among}
 use Rattle.document_checks.specs.Crowded.{AreFew}
 use Rattle.file_names.specs.Names.{NameList}
 use Rattle.segment_set.specs.Sets.{SetData, IsBuiltOf, IsWell, inputs_of}
@@ -33,7 +33,7 @@ few_none number = omega arith
 pub some_is : {X : Type 0} (x y : X) → Some x ≡ Some y → x ≡ y
 some_is x y h = cc
 
-module _ (D : ℕ) (told : Type 0) (files new_files : Files) {s : SetData} (names : NameList) (parts : List Part)
+module _ (D : ℕ) (told : Type 0) (files new_files : Files) {s : SetData} (names : NameList) (parts : List LiveSegment)
     (kept : KeepsNamed told s.names names files new_files)
     (sp : IsSpilled D told s.leaf s.names names new_files s.buffer s.parts parts) (well : IsWell D s) where
   spill_moves : Moves D told files new_files s names [] parts []
@@ -58,7 +58,7 @@ module _ (D : ℕ) (told : Type 0) (files new_files : Files) {s : SetData} (name
       (omega (arith, few, length_replaced D told s.names names new_files [] s.parts parts (Some sp.n) sp.put)) (omega arith)
       (λ i j d le lt. absurd (omega (arith, lt))) none_twice_none few_none
       (ids_stay (inputs_of s.begun) s.parts parts stay well.inputs) well.few_inputs
-      (λ n is. subst (λ (ps : List Part). IsBuiltOf D s.leaf ps n) (sym stay) (well.built n is)) well.cached
+      (λ n is. subst (λ (ps : List LiveSegment). IsBuiltOf D s.leaf ps n) (sym stay) (well.built n is)) well.cached
 
   pub spill_stays : StaysAlone s (moved s names parts [] s.begun s.cache)
   spill_stays = stays_moved D told files new_files s names [] parts [] spill_moves s.begun s.cache refl
@@ -80,7 +80,7 @@ module _ (D : ℕ) (told : Type 0) (files new_files : Files) {s : SetData} (name
       same : SameTotals (live_in_parts h.contents (parts_among [] s.parts) ++ s.buffer) (s.buffer ++ [])
       same f =
           let none : sum_by f (live_in_parts h.contents (parts_among [] s.parts)) ≡ 0 =
-          ap (λ (ps : List Part). sum_by f (live_in_parts h.contents ps)) (none_among s.parts) in
+          ap (λ (ps : List LiveSegment). sum_by f (live_in_parts h.contents ps)) (none_among s.parts) in
           omega (arith, none, sum_by-append f (live_in_parts h.contents (parts_among [] s.parts)) s.buffer, ap (sum_by f) (append-nil s.buffer))
 
 -- nothing was written but perhaps a file under a new name, and the set is as it was
@@ -90,7 +90,8 @@ pub refused_after : (D : ℕ) (told : Type 0) (files new_files : Files) {s : Set
 refused_after D told files new_files {s} well names kept =
     merge_after D told files new_files well names [] s.parts s.cache kept (λ id h. cc) (λ t agrees. agrees) (λ id h. inl h) {T = ℕ} {E = ℕ} (Err 0) tt refl
 
-pub spill_after : (D : ℕ) (told : Type 0) (files new_files : Files) {s : SetData} (well : IsWell D s) (names : NameList) (parts : List Part) (left : List Item)
+pub spill_after : (D : ℕ) (told : Type 0) (files new_files : Files) {s : SetData} (well : IsWell D s) (names : NameList) (parts : List LiveSegment)
+    (left : List Item)
     → length s.parts < 200
     → KeepsNamed told s.names names files new_files → {T E : Type 0} (r : Result T E)
     → OnOk r (IsSpilled D told s.leaf s.names names new_files s.buffer s.parts parts × (left ≡ [])) → OnErr r ((parts ≡ s.parts) × (left ≡ s.buffer))
@@ -105,6 +106,6 @@ spill_after D told files new_files {s} well names parts left few kept r spilled 
   })
   | inr same ↦
       subst (λ (es : List Item). IsAfter D told files new_files s (moved s names parts es s.begun s.cache)) (sym same.1)
-      (subst (λ (ps : List Part). IsAfter D told files new_files s (moved s names ps s.buffer s.begun s.cache)) (sym same.0)
+      (subst (λ (ps : List LiveSegment). IsAfter D told files new_files s (moved s names ps s.buffer s.begun s.cache)) (sym same.0)
       (refused_after D told files new_files well names kept))
 ]

@@ -15,7 +15,7 @@ use Rattle.documents.proofs.Totals.{permuted}
 use Rattle.page_cache.specs.Cache.{Agrees}
 use Rattle.page_cache.proofs.Agreement.{agrees_other}
 use Rattle.index_model.specs.State.{Index, Snapshot}
-use Rattle.segment_view.specs.Parts.{Part, Contents, AreRead, ids_of, live_in_parts, parts_among}
+use Rattle.segment_view.specs.LiveSegments.{LiveSegment, Contents, AreRead, ids_of, live_in_parts, parts_among}
 use Rattle.segment_view.proofs.Living.{live_alike, read_alike}
 use Rattle.segment_build.specs.NewSegments.{NewSegmentData}
 use Rattle.file_names.specs.Names.{NameList, is_named}
@@ -51,10 +51,10 @@ totals_length xs ys same = sym (counts ys) ∙ same (λ _. 1) ∙ counts xs
 -- ---- the files of the segments
 
 -- the list has the names of the segments' files
-pub ids_named : (names : NameList) (parts : List Part) → All (IsNamed names) parts → (id : ℕ) → Contains (ids_of parts) id
+pub ids_named : (names : NameList) (parts : List LiveSegment) → All (IsNamed names) parts → (id : ℕ) → Contains (ids_of parts) id
     → is_named names.names (Segment id) ≡ true
 ids_named names parts all id there =
-    let r = of_map (λ (p : Part). p.head.id) parts id there in
+    let r = of_map (λ (p : LiveSegment). p.head.id) parts id there in
     subst (λ n. is_named names.names (Segment n) ≡ true) r.2 (All-contains (IsNamed names) parts r.0 all r.1)
 
 -- what is said of segments holds of files and entries too that are the same for each name of the list
@@ -70,17 +70,19 @@ alike_kept told names more old new c t keeps = record { files = λ id named. kee
 abbrev pub with_entries : Contents → ℕ → List Item → Contents
 with_entries c id items = λ n. cond (eqb n id) items (c n)
 
-pub alike_read : (D : ℕ) (names : NameList) (old new : Files) (c d : Contents) (parts : List Part) → IsAlike names old new c d → All (IsNamed names) parts
+pub alike_read : (D : ℕ) (names : NameList) (old new : Files) (c d : Contents) (parts : List LiveSegment) → IsAlike names old new c d
+    → All (IsNamed names) parts
     → AreRead D old c parts → AreRead D new d parts
 alike_read D names old new c d parts same named read =
     read_alike D old new c d parts (λ id there. same.files id (ids_named names parts named id there))
     (λ id there. same.entries id (ids_named names parts named id there)) read
 
-pub alike_live : (names : NameList) (old new : Files) (c d : Contents) (parts : List Part) → IsAlike names old new c d → All (IsNamed names) parts
+pub alike_live : (names : NameList) (old new : Files) (c d : Contents) (parts : List LiveSegment) → IsAlike names old new c d → All (IsNamed names) parts
     → live_in_parts d parts ≡ live_in_parts c parts
 alike_live names old new c d parts same named = live_alike c d parts (λ id there. same.entries id (ids_named names parts named id there))
 
-pub named_among : (names : NameList) (keep : Part → Bool) (parts : List Part) → All (IsNamed names) parts → All (IsNamed names) (filter keep parts)
+pub named_among : (names : NameList) (keep : LiveSegment → Bool) (parts : List LiveSegment) → All (IsNamed names) parts
+    → All (IsNamed names) (filter keep parts)
 named_among names keep parts all = All-filter keep (IsNamed names) parts all
 
 -- ---- snapshots
@@ -114,7 +116,8 @@ shown_later c m n (v ∷ vs) (t ∷ ts) le shown =
 
 -- ---- the set stands
 
-pub alike_merges : (D : ℕ) (names : NameList) (old new : Files) (c d : Contents) (inputs : List Part) (n : Option NewSegmentData) → IsAlike names old new c d
+pub alike_merges : (D : ℕ) (names : NameList) (old new : Files) (c d : Contents) (inputs : List LiveSegment) (n : Option NewSegmentData)
+    → IsAlike names old new c d
     → All (IsNamed names) inputs
     → MergesInto D c inputs n → MergesInto D d inputs n
 alike_merges D names old new c d inputs None same named none = alike_live names old new c d inputs same named ∙ none
@@ -126,12 +129,14 @@ alike_merges D names old new c d inputs (Some n) same named is = record {
       is.same;
 }
 
-pub alike_begun : (D : ℕ) (names : NameList) (old new : Files) (c d : Contents) (parts : List Part) (begun : Option BegunMerge) → IsAlike names old new c d
+pub alike_begun : (D : ℕ) (names : NameList) (old new : Files) (c d : Contents) (parts : List LiveSegment) (begun : Option BegunMerge)
+    → IsAlike names old new c d
     → All (IsNamed names) parts
     → BegunStands D c parts begun → BegunStands D d parts begun
 alike_begun D names old new c d parts None same named stands = tt
 alike_begun D names old new c d parts (Some b) same named stands =
-    alike_merges D names old new c d (parts_among b.inputs parts) b.built same (named_among names (λ (p : Part). is_among b.inputs p.head.id) parts named)
+    alike_merges D names old new c d (parts_among b.inputs parts) b.built same
+        (named_among names (λ (p : LiveSegment). is_among b.inputs p.head.id) parts named)
     stands
 
 -- over other files, which have the same for each named segment
@@ -151,7 +156,7 @@ pub stands_like : (D : ℕ) (files : Files) (c : Contents) (s t : SetData) → t
 stands_like D files c s t parts snapshots begun agrees stands = record {
   now = subst (AreRead D files c) (sym parts) stands.now;
   kept = subst (λ (vs : List NamedView). All (λ v. AreRead D files c v.parts) vs) (sym snapshots) stands.kept;
-  begun = subst (λ (ps : List Part). BegunStands D c ps t.begun) (sym parts) (subst (BegunStands D c s.parts) (sym begun) stands.begun);
+  begun = subst (λ (ps : List LiveSegment). BegunStands D c ps t.begun) (sym parts) (subst (BegunStands D c s.parts) (sym begun) stands.begun);
   agrees = agrees;
 }
 
@@ -230,4 +235,4 @@ sees_like D files s t i like parts buffer begun agrees seen = record {
 }
   where
     entries : entries_seen seen.contents t.parts t.buffer ≡ entries_seen seen.contents s.parts s.buffer
-    entries = ap (λ (ps : List Part). entries_seen seen.contents ps t.buffer) parts ∙ ap (entries_seen seen.contents s.parts) buffer
+    entries = ap (λ (ps : List LiveSegment). entries_seen seen.contents ps t.buffer) parts ∙ ap (entries_seen seen.contents s.parts) buffer

@@ -13,7 +13,7 @@ use Rattle.documents.proofs.Lists.{cons_head}
 use Rattle.page_cache.specs.declared.cache.PageCache.{PageCache}
 use Rattle.page_cache.specs.Cache.{Agrees, KeepsFile}
 use Rattle.index_model.specs.State.{Index}
-use Rattle.segment_view.specs.Parts.{Part, Contents, AreRead, has_live, ids_of, live_in_parts, parts_among, parts_but}
+use Rattle.segment_view.specs.LiveSegments.{LiveSegment, Contents, AreRead, has_live, ids_of, live_in_parts, parts_among, parts_but}
 use Rattle.segment_build.specs.NewSegments.{NewSegmentData}
 use Rattle.file_names.specs.Names.{NameList, is_named}
 use Rattle.segment_set.specs.Sets.{SetData, IsBuiltOf, IsNamed, IsWell, inputs_of}
@@ -29,13 +29,13 @@ pub ok_or_err : {T E P Q : Type 0} (r : Result T E) → OnOk r P → OnErr r Q �
 ok_or_err (Ok v) p q = inl p
 ok_or_err (Err e) p q = inr q
 
-pub none_among : (parts : List Part) → parts_among [] parts ≡ []
+pub none_among : (parts : List LiveSegment) → parts_among [] parts ≡ []
 none_among [] = refl
 none_among (p ∷ ps) = none_among ps
 
-pub but_none : (parts : List Part) → parts_but [] parts ≡ parts
+pub but_none : (parts : List LiveSegment) → parts_but [] parts ≡ parts
 but_none [] = refl
-but_none (p ∷ ps) = ap (λ (qs : List Part). p ∷ qs) (but_none ps)
+but_none (p ∷ ps) = ap (λ (qs : List LiveSegment). p ∷ qs) (but_none ps)
 
 -- a live number of a segment that was built
 pub live_number : (D leaf : ℕ) (n : NewSegmentData) → IsMade D leaf n → (number : ℕ) × (is_live n.live number ≡ true)
@@ -50,14 +50,14 @@ live_number D leaf n made = by n.live.live refl made.some
 
 -- some of these segments, all or none, gave way to what was built of them
 pub record IsStep (D : ℕ) (told : Type 0) (files new_files : Files) (cache : PageCache) (s : SetData) (names : NameList) (ids : List ℕ)
-    (parts : List Part) : Type 0 where
+    (parts : List LiveSegment) : Type 0 where
   pub gone : List ℕ
   pub some : (id : ℕ) → is_among gone id ≡ true → is_among ids id ≡ true
   pub moves : Moves D told files new_files s names gone parts s.buffer
   pub makes : told → Agrees files cache → (c : Contents) → AreRead D files c s.parts → MakesLive D (live_in_parts c (parts_among gone s.parts)) moves.built
   pub few : length parts ≤ length s.parts
 
-module _ (D : ℕ) (told : Type 0) (files new_files : Files) (cache : PageCache) (s : SetData) (names : NameList) (ids : List ℕ) (parts : List Part)
+module _ (D : ℕ) (told : Type 0) (files new_files : Files) (cache : PageCache) (s : SetData) (names : NameList) (ids : List ℕ) (parts : List LiveSegment)
     (kept : KeepsNamed told s.names names files new_files) where
   step_none : parts ≡ s.parts → IsStep D told files new_files cache s names ids parts
   step_none same = record {
@@ -71,10 +71,10 @@ module _ (D : ℕ) (told : Type 0) (files new_files : Files) (cache : PageCache)
       fewer = λ number. let none : sum_by (place_in number) (parts_among [] s.parts) ≡ 0 = ap (sum_by (place_in number)) (none_among s.parts) in omega arith;
     };
     makes = λ t agrees c reads. ap (live_in_parts c) (none_among s.parts);
-    few = subst (λ (ps : List Part). length parts ≤ length ps) same (omega arith);
+    few = subst (λ (ps : List LiveSegment). length parts ≤ length ps) same (omega arith);
   }
 
-  fewer_built : (built : Option NewSegmentData) (inputs : List Part) (number : ℕ)
+  fewer_built : (built : Option NewSegmentData) (inputs : List LiveSegment) (number : ℕ)
       → ((n : NewSegmentData) → built ≡ Some n → is_live n.live number ≡ true → has_live number inputs ≡ true)
       → place_built number built ≤ sum_by (place_in number) inputs
   fewer_built None inputs number within = omega arith
@@ -83,14 +83,14 @@ module _ (D : ℕ) (told : Type 0) (files new_files : Files) (cache : PageCache)
     | inr dead ↦ omega (arith, ap one_if dead)
   ]
 
-  length_built : (built : Option NewSegmentData) (inputs : List Part) → ((n : NewSegmentData) → built ≡ Some n → IsGathered D s.leaf inputs n)
+  length_built : (built : Option NewSegmentData) (inputs : List LiveSegment) → ((n : NewSegmentData) → built ≡ Some n → IsGathered D s.leaf inputs n)
       → (built ≡ None) ⊎ (1 ≤ length inputs)
   length_built None inputs gathered = inl refl
   length_built (Some n) inputs gathered =
       let live = live_number D s.leaf n (gathered n refl).made in
       inr (some (place_in live.0) inputs (some_place live.0 inputs ((gathered n refl).within live.0 live.1)))
     where
-      some : (g : Part → ℕ) (ps : List Part) → 1 ≤ sum_by g ps → 1 ≤ length ps
+      some : (g : LiveSegment → ℕ) (ps : List LiveSegment) → 1 ≤ sum_by g ps → 1 ≤ length ps
       some g [] h = absurd (omega (arith, h))
       some g (p ∷ ps) h = omega arith
 
@@ -124,7 +124,7 @@ module _ (D : ℕ) (told : Type 0) (files new_files : Files) (cache : PageCache)
   step r merged refused = elim (ok_or_err r merged refused) [ inl m ↦ step_merged m | inr same ↦ step_none same ]
 
 -- a cache that keeps pages of more segments, all of them named
-pub cached_more : (names : NameList) (parts : List Part) (before after : PageCache) (ids : List ℕ) → All (IsNamed names) parts
+pub cached_more : (names : NameList) (parts : List LiveSegment) (before after : PageCache) (ids : List ℕ) → All (IsNamed names) parts
     → ((id : ℕ) → KeepsFile before id → is_named names.names (Segment id) ≡ true)
     → ((id : ℕ) → KeepsFile after id → KeepsFile before id ⊎ Contains (ids_of (parts_among ids parts)) id) → (id : ℕ) → KeepsFile after id
     → is_named names.names (Segment id) ≡ true
@@ -133,7 +133,7 @@ cached_more names parts before after ids named cached others id keeps = elim (ot
   | inr read ↦ ids_named names (parts_among ids parts) (all_among (IsNamed names) ids parts named) id read
 ]
 
-module _ (D : ℕ) (told : Type 0) (files new_files : Files) (before : PageCache) {s : SetData} (names : NameList) (ids : List ℕ) (parts : List Part)
+module _ (D : ℕ) (told : Type 0) (files new_files : Files) (before : PageCache) {s : SetData} (names : NameList) (ids : List ℕ) (parts : List LiveSegment)
     (st : IsStep D told files new_files before s names ids parts) (well : IsWell D s) where
   abbrev pub IsApart : Type 0
   IsApart = (id : ℕ) → is_among ids id ≡ true → is_among (inputs_of s.begun) id ≡ false
@@ -146,7 +146,7 @@ module _ (D : ℕ) (told : Type 0) (files new_files : Files) (before : PageCache
       well_moved D told files new_files s names st.gone parts s.buffer st.moves well s.begun cache
       (omega (arith, st.few, well.few)) well.room well.ordered well.once well.sixteen
       (ids_stay (inputs_of s.begun) s.parts parts stay well.inputs) well.few_inputs
-      (λ n is. subst (λ (ps : List Part). IsBuiltOf D s.leaf ps n) (sym stay) (well.built n is)) cached
+      (λ n is. subst (λ (ps : List LiveSegment). IsBuiltOf D s.leaf ps n) (sym stay) (well.built n is)) cached
 
   pub step_stays : (cache : PageCache) → StaysAlone s (moved s names parts s.buffer s.begun cache)
   step_stays cache = stays_moved D told files new_files s names st.gone parts s.buffer st.moves s.begun cache refl
@@ -180,7 +180,8 @@ pub record IsAfter (D : ℕ) (told : Type 0) (files new_files : Files) (s t : Se
   pub follows : Follows s.names s.parts t.parts
   pub canon : told → AreCanonical D new_files s.names t.parts
 
-pub merge_after : (D : ℕ) (told : Type 0) (files new_files : Files) {s : SetData} (well : IsWell D s) (names : NameList) (ids : List ℕ) (parts : List Part)
+pub merge_after : (D : ℕ) (told : Type 0) (files new_files : Files) {s : SetData} (well : IsWell D s) (names : NameList) (ids : List ℕ)
+    (parts : List LiveSegment)
     (cache : PageCache)
     → KeepsNamed told s.names names files new_files
     → ((id : ℕ) → is_among ids id ≡ true → is_among (inputs_of s.begun) id ≡ false)

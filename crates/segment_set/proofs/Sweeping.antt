@@ -17,7 +17,7 @@ use Rattle.page_cache.specs.declared.cache.PageCache.{PageCache}
 use Rattle.page_cache.specs.Cache.{Agrees, KeepsFile}
 use Rattle.commit_list.specs.Commits.{CommitData}
 use Rattle.index_model.specs.State.{Index}
-use Rattle.segment_view.specs.Parts.{Part}
+use Rattle.segment_view.specs.LiveSegments.{LiveSegment}
 use Rattle.file_names.specs.Names.{NameList, is_named}
 use Rattle.file_names.proofs.Listed.{contains-is_named, gone, is_named-contains, others_kept}
 use Rattle.segment_set.specs.Sets.{IsNamed, IsWell, SetData}
@@ -132,7 +132,7 @@ swept_removed told k s t before after name named own un is same none_there = rec
 module _ (D : ℕ) (s : SetData) (k : CommitData) (name : FileName) (cache : PageCache) (well : IsWell D s)
     (named : is_named s.names.names name ≡ true) (un : IsUnneeded s k name)
     (fewer : (id : ℕ) → KeepsFile cache id → KeepsFile s.cache id) (none : (id : ℕ) → name ≡ Segment id → KeepsFile cache id → ⊥) where
-  still_named : (parts : List Part) → All (IsNamed s.names) parts → ((p : Part) → Contains parts p → Segment p.head.id ≢ name)
+  still_named : (parts : List LiveSegment) → All (IsNamed s.names) parts → ((p : LiveSegment) → Contains parts p → Segment p.head.id ≢ name)
       → All (IsNamed (names_but name s.names)) parts
   still_named parts named apart k p lt =
       others_kept s.names.names name (Segment (get_or parts k p).head.id) (apart (get_or parts k p) (All-contains_itself parts k p lt)) ∙ named k p lt

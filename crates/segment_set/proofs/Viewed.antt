@@ -18,7 +18,7 @@ use Rattle.page_cache.specs.declared.cache.PageCache.{PageCache}
 use Rattle.page_cache.specs.Cache.{Agrees}
 use Rattle.index_model.specs.State.{Index, Snapshot, snapshot_of, viewed_docs}
 use Rattle.segment_view.specs.Calm.{IsCalm}
-use Rattle.segment_view.specs.Parts.{AreRead, Contents, Part, ids_of}
+use Rattle.segment_view.specs.LiveSegments.{AreRead, Contents, LiveSegment, ids_of}
 use Rattle.segment_view.specs.Found.{AreFound}
 use Rattle.segment_set.specs.Sets.{IsNamed, IsWell, NamedView, SetData, buffer_in, has_name, parts_in, view_of, viewed_buffer, viewed_parts}
 use Rattle.segment_set.specs.Seen.{Sees, ShowsSnapshot, StandsOver, entries_seen}
@@ -28,7 +28,7 @@ use Rattle.segment_set.proofs.Well.{well_cache}
 -- ---- the segments of a view
 
 -- what holds of the segments of each snapshot holds of those of one
-find_kept : (P : List Part → Type 0) → P [] → (name : List ℕ) (views : List NamedView) → All (λ v. P v.parts) views → P (parts_in (view_of name views))
+find_kept : (P : List LiveSegment → Type 0) → P [] → (name : List ℕ) (views : List NamedView) → All (λ v. P v.parts) views → P (parts_in (view_of name views))
 find_kept P none name [] all = none
 find_kept P none name (v ∷ vs) all = by (bytes_eq v.name name) (find_kept P none name vs (All-tail (λ w. P w.parts) v vs all))
   where
@@ -36,7 +36,7 @@ find_kept P none name (v ∷ vs) all = by (bytes_eq v.name name) (find_kept P no
     by true rest = All-head (λ w. P w.parts) v vs all
     by false rest = rest
 
-pub viewed_all : (P : List Part → Type 0) → P [] → (view : Option (List ℕ)) (s : SetData) → P s.parts → All (λ v. P v.parts) s.snapshots
+pub viewed_all : (P : List LiveSegment → Type 0) → P [] → (view : Option (List ℕ)) (s : SetData) → P s.parts → All (λ v. P v.parts) s.snapshots
     → P (viewed_parts view s)
 viewed_all P none None s now kept = now
 viewed_all P none (Some name) s now kept = find_kept P none name s.snapshots kept
@@ -120,12 +120,12 @@ none_named name (v ∷ vs) none = by (bytes_eq v.name name) none (none_named nam
 
 -- ---- a call that looks at a view and keeps pages of its segments alone. `s` is the set as its fields have it, `t` as the caller sees it
 
-pub looked_well : (D : ℕ) (told : Bool) (f g : Files) (s : SetData) (view : Option (List ℕ)) (segments : List Part) (cache : PageCache) → IsWell D s
+pub looked_well : (D : ℕ) (told : Bool) (f g : Files) (s : SetData) (view : Option (List ℕ)) (segments : List LiveSegment) (cache : PageCache) → IsWell D s
     → segments ≡ viewed_parts view s
     → IsCalm told f g s.cache cache (ids_of segments) → IsWell D (record s { cache = cache })
 looked_well D told f g s view segments cache well is calm = well_cache D s cache well (λ id kept.
     ⊎_elim (well.cached id)
-    (λ h. ids_named s.names (viewed_parts view s) (viewed_named D view s well) id (subst (λ (ps : List Part). Contains (ids_of ps) id) is h))
+    (λ h. ids_named s.names (viewed_parts view s) (viewed_named D view s well) id (subst (λ (ps : List LiveSegment). Contains (ids_of ps) id) is h))
     (calm.others id kept))
 
 pub looked_agrees : (D : ℕ) (told : Bool) (f g : Files) (s t : SetData) (ids : List ℕ) (cache : PageCache) (i : Index) → s ≡ t
@@ -139,28 +139,30 @@ looked_sees D told f g s t ids cache same calm told_is i seen =
     (sees_cache D f s i cache (looked_agrees D told f g s t ids cache i same calm told_is seen) (subst (λ (u : SetData). Sees D f u i) (sym same) seen))
 
 -- the view as the caller sees it
-pub looked_parts : (s t : SetData) (view : Option (List ℕ)) (segments : List Part) → s ≡ t → segments ≡ viewed_parts view s → segments ≡ viewed_parts view t
+pub looked_parts : (s t : SetData) (view : Option (List ℕ)) (segments : List LiveSegment) → s ≡ t → segments ≡ viewed_parts view s
+    → segments ≡ viewed_parts view t
 looked_parts s t view segments same is = is ∙ ap (viewed_parts view) same
 
 pub looked_buffer : (s t : SetData) (view : Option (List ℕ)) (buffer : List Item) → s ≡ t → buffer ≡ viewed_buffer view s → buffer ≡ viewed_buffer view t
 looked_buffer s t view buffer same is = is ∙ ap (viewed_buffer view) same
 
-pub looked_read : (D : ℕ) (files : Files) (t : SetData) (i : Index) (view : Option (List ℕ)) (segments : List Part) → segments ≡ viewed_parts view t
+pub looked_read : (D : ℕ) (files : Files) (t : SetData) (i : Index) (view : Option (List ℕ)) (segments : List LiveSegment) → segments ≡ viewed_parts view t
     → (seen : Sees D files t i) → AreRead D files seen.contents segments
 looked_read D files t i view segments is seen = subst (AreRead D files seen.contents) (sym is) (viewed_read D files seen.contents view t seen.stands)
 
-pub looked_found : {T E : Type 0} (items : T → List ℕ) (D : ℕ) (files : Files) (t : SetData) (i : Index) (view : Option (List ℕ)) (segments : List Part)
+pub looked_found : {T E : Type 0} (items : T → List ℕ) (D : ℕ) (files : Files) (t : SetData) (i : Index) (view : Option (List ℕ)) (segments : List LiveSegment)
     (buffer : List Item) (test : List ℤ → Bool) (docs : List Document)
     → segments ≡ viewed_parts view t → buffer ≡ viewed_buffer view t → (seen : Sees D files t i) → viewed_docs view i ≡ Some docs
     → (r : Result T E) → IfOk r (λ v. AreFound test (entries_seen seen.contents segments buffer) (items v)) → IfOk r (λ v. items v ≡ hits test docs)
 looked_found items D files t i view segments buffer test docs parts_are buffer_is seen is r found =
     on_ok (λ v. AreFound test (entries_seen seen.contents segments buffer) (items v)) (λ v. items v ≡ hits test docs)
     (λ v are. found_hits D files t i view test docs (items v) seen is
-    (subst (λ (ps : List Part). AreFound test (entries_seen seen.contents ps (viewed_buffer view t)) (items v)) parts_are
+    (subst (λ (ps : List LiveSegment). AreFound test (entries_seen seen.contents ps (viewed_buffer view t)) (items v)) parts_are
     (subst (λ (xs : List Item). AreFound test (entries_seen seen.contents segments xs) (items v)) buffer_is are)))
     r found
 
-pub looked_nearest : {T E : Type 0} (items : T → List Near) (D : ℕ) (files : Files) (t : SetData) (i : Index) (view : Option (List ℕ)) (segments : List Part)
+pub looked_nearest : {T E : Type 0} (items : T → List Near) (D : ℕ) (files : Files) (t : SetData) (i : Index) (view : Option (List ℕ))
+    (segments : List LiveSegment)
     (buffer : List Item) (k : ℕ) (at : List ℤ) (docs : List Document)
     → segments ≡ viewed_parts view t → buffer ≡ viewed_buffer view t → (seen : Sees D files t i) → viewed_docs view i ≡ Some docs
     → (r : Result T E) → IfOk r (λ v. IsNearest k (nears_of at (entries_seen seen.contents segments buffer)) (items v))
@@ -168,6 +170,6 @@ pub looked_nearest : {T E : Type 0} (items : T → List Near) (D : ℕ) (files :
 looked_nearest items D files t i view segments buffer k at docs parts_are buffer_is seen is r found =
     on_ok (λ v. IsNearest k (nears_of at (entries_seen seen.contents segments buffer)) (items v)) (λ v. found_of (items v) ≡ nearest k at docs)
     (λ v are. found_nearest D files t i view k at docs (items v) seen is
-    (subst (λ (ps : List Part). IsNearest k (nears_of at (entries_seen seen.contents ps (viewed_buffer view t))) (items v)) parts_are
+    (subst (λ (ps : List LiveSegment). IsNearest k (nears_of at (entries_seen seen.contents ps (viewed_buffer view t))) (items v)) parts_are
     (subst (λ (xs : List Item). IsNearest k (nears_of at (entries_seen seen.contents segments xs)) (items v)) buffer_is are)))
     r found

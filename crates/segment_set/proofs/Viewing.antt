@@ -19,7 +19,7 @@ use Rattle.segment_file.specs.Damages.{IsLeafDamageOf}
 use Rattle.stored_index.specs.Stored.{HasHead}
 use Rattle.segment_view.specs.Calm.{IsCalm}
 use Rattle.segment_view.specs.Damages.{IsPartDamage}
-use Rattle.segment_view.specs.Parts.{Part}
+use Rattle.segment_view.specs.LiveSegments.{LiveSegment}
 use Rattle.file_names.specs.Names.{NameList}
 use Rattle.segment_set.specs.Sets.{NamedView, SetData, viewed_parts}
 use Rattle.index_opening.specs.Opened.{IsOpened}
@@ -45,7 +45,7 @@ looked_faithful D told f g s t ids cache same calm told_is keeps =
     subst (λ (h : Files). IsFaithful D h (record s { cache = cache })) (sym (calm.files told_is))
     (record { pages = calm.agrees told_is here.pages; heads = here.heads; kept = here.kept })
 
-pub looked_evident : {X : Type 0} (D : ℕ) (told : Bool) (f g : Files) (s t : SetData) (view : Option (List ℕ)) (segments : List Part) (ids : List ℕ)
+pub looked_evident : {X : Type 0} (D : ℕ) (told : Bool) (f g : Files) (s t : SetData) (view : Option (List ℕ)) (segments : List LiveSegment) (ids : List ℕ)
     (cache : PageCache) (r : Result X PageFault) → s ≡ t
     → segments ≡ viewed_parts view t → IsCalm told f g s.cache cache ids → OnDamage r (IsPartDamage D segments)
     → (IsTrue told → Agrees f s.cache → OnDamage r (IsLeafDamageOf f))
@@ -82,12 +82,13 @@ faithful_empty D leaf names cache files agrees = record {
 }
 
 -- the head of a listed segment is that of the file of its own id
-listed_head : (D : ℕ) (files : Files) (c : CommitData) (s : Listed) (p : Part) → c.dims ≡ D → HasHead c.dims files s p.head → HasFileHead D files p
+listed_head : (D : ℕ) (files : Files) (c : CommitData) (s : Listed) (p : LiveSegment) → c.dims ≡ D → HasHead c.dims files s p.head → HasFileHead D files p
 listed_head D files c s p dims has =
     merely (subst (λ n. IsHeadOf D (bytes_of (files (Segment n))) p.head) (sym has.id)
     (subst (λ n. IsHeadOf n (bytes_of (files (Segment s.segment))) p.head) dims has.is))
 
-pub faithful_attached : (D : ℕ) (told : Type 0) (files : Files) (c : CommitData) (names : NameList) (parts : List Part) (cache : PageCache) → c.dims ≡ D → told
+pub faithful_attached : (D : ℕ) (told : Type 0) (files : Files) (c : CommitData) (names : NameList) (parts : List LiveSegment) (cache : PageCache) → c.dims ≡ D
+    → told
     → AllZip (IsOpened told files c) c.listed parts
     → Agrees files cache → IsFaithful D files (attached c names parts cache)
 faithful_attached D told files c names parts cache dims t all agrees = record {
@@ -99,8 +100,8 @@ faithful_attached D told files c names parts cache dims t all agrees = record {
 
 -- ---- the set after a file is taken away that no view needs
 
-heads_still : (D : ℕ) (before after : Files) (name : FileName) (parts : List Part) → SameBut name before after
-    → ((p : Part) → Contains parts p → Segment p.head.id ≢ name) → All (HasFileHead D before) parts
+heads_still : (D : ℕ) (before after : Files) (name : FileName) (parts : List LiveSegment) → SameBut name before after
+    → ((p : LiveSegment) → Contains parts p → Segment p.head.id ≢ name) → All (HasFileHead D before) parts
     → All (HasFileHead D after) parts
 heads_still D before after name parts same apart all k p lt =
     subst (λ (file : Option (List ℕ)). ∥ IsHeadOf D (bytes_of file) (get_or parts k p).head ∥₁)

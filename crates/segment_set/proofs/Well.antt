@@ -11,13 +11,13 @@ use Rattle.std.proofs.lemmas.Grind.{merely}
 use Rattle.std.proofs.lemmas.List.Sums.{count_by-le-length, length-filter, sum_by-cons}
 use Rattle.outer_io.specs.declared.file_name.FileName.TheVariants.{Segment}
 use Rattle.point_codec.specs.Points.{Item}
-use Rattle.live_bits.specs.LiveSet.{LiveSet, is_live, without}
+use Rattle.live_bits.specs.LiveSet.{LiveSet, is_live, live_set_without}
 use Rattle.live_bits.proofs.LiveNumbers.{is_live-without}
 use Rattle.documents.specs.Entries.{entries_but, has_entry, is_among}
 use Rattle.page_cache.specs.declared.cache.PageCache.{PageCache}
 use Rattle.page_cache.specs.Cache.{KeepsFile}
 use Rattle.stored_index.specs.Segments.{places}
-use Rattle.segment_view.specs.Parts.{Part, cleared, ids_of, lives_of, parts_among, has_live as is_live_in_parts}
+use Rattle.segment_view.specs.LiveSegments.{LiveSegment, cleared_parts, ids_of, lives_of, parts_among, has_live as is_live_in_parts}
 use Rattle.segment_view.proofs.Living.{any_cleared, ids_cleared}
 use Rattle.segment_build.specs.NewSegments.{NewSegmentData}
 use Rattle.file_names.specs.Names.{is_named}
@@ -63,12 +63,14 @@ fewer_entries keeps m xs = cond_le _ _ (λ e. left_of (has_entry m xs) (keeps m)
 pub places_cons : (m : ℕ) (s : LiveSet) (ss : List LiveSet) → places m (s ∷ ss) ≡ cond (is_live s m) 1 0 + places m ss
 places_cons m s ss = sum_by-cons (λ (t : LiveSet). cond (is_live t m) 1 0) s ss
 
-pub fewer_places : (number m : ℕ) (parts : List Part) → places m (lives_of (cleared number parts)) ≤ places m (lives_of parts)
+pub fewer_places : (number m : ℕ) (parts : List LiveSegment) → places m (lives_of (cleared_parts number parts)) ≤ places m (lives_of parts)
 fewer_places number m [] = omega arith
 fewer_places number m (p ∷ ps) =
-    let one = cond_le (is_live (without number p.live) m) (is_live p.live m)
+    let one = cond_le (is_live (live_set_without number p.live) m) (is_live p.live m)
     (λ e. left_of (is_live p.live m) (not (eqb m number)) (sym (is_live-without p.live number m) ∙ e)) in
-    omega (arith, one, places_cons m (without number p.live) (lives_of (cleared number ps)), places_cons m p.live (lives_of ps), fewer_places number m ps)
+    omega (
+        arith, one, places_cons m (live_set_without number p.live) (lives_of (cleared_parts number ps)), places_cons m p.live (lives_of ps), fewer_places number
+            m ps)
 
 -- the number is live exactly where it was and is another one
 pub live_but : (number m : ℕ) (s : SetData) → is_live_in (set_but number s) m ≡ (is_live_in s m && not (eqb m number))
@@ -83,7 +85,7 @@ live_but number m s = ap (λ b. cond b true (has_entry m (entries_but number s.b
     both true false false = refl
     both false b k = refl
 
-pub spread_fewer : (next : ℕ) (parts others : List Part) (buffer rest : List Item) → ((m : ℕ) → places m (lives_of others) ≤ places m (lives_of parts))
+pub spread_fewer : (next : ℕ) (parts others : List LiveSegment) (buffer rest : List Item) → ((m : ℕ) → places m (lives_of others) ≤ places m (lives_of parts))
     → ((m : ℕ) → has_entry m rest ≡ true → has_entry m buffer ≡ true) → IsSpread next parts buffer → IsSpread next others rest
 spread_fewer next parts others buffer rest fewer kept spread = record {
   alone = λ m. let one = cond_le (has_entry m rest) (has_entry m buffer) (kept m) in omega (arith, one, fewer m, spread.alone m);
@@ -96,17 +98,18 @@ spread_fewer next parts others buffer rest fewer kept spread = record {
 
 -- ---- a document taken out
 
-length_but : (number : ℕ) (s : LiveSet) → length (without number s).live ≤ length s.live
+length_but : (number : ℕ) (s : LiveSet) → length (live_set_without number s).live ≤ length s.live
 length_but number s = omega (arith, length-filter (λ n. not (eqb n number)) s.live, count_by-le-length (λ n. not (eqb n number)) s.live)
 
-pub among_cleared : (number : ℕ) (ids : List ℕ) (parts : List Part) → parts_among ids (cleared number parts) ≡ cleared number (parts_among ids parts)
+pub among_cleared : (number : ℕ) (ids : List ℕ) (parts : List LiveSegment)
+    → parts_among ids (cleared_parts number parts) ≡ cleared_parts number (parts_among ids parts)
 among_cleared number ids [] = refl
 among_cleared number ids (p ∷ ps) = by (is_among ids p.head.id) (among_cleared number ids ps)
   where
-    by : (b : Bool) → parts_among ids (cleared number ps) ≡ cleared number (parts_among ids ps)
-        → cond b (record p { live = without number p.live } ∷ parts_among ids (cleared number ps)) (parts_among ids (cleared number ps))
-        ≡ cleared number (cond b (p ∷ parts_among ids ps) (parts_among ids ps))
-    by true rest = ap (λ (qs : List Part). record p { live = without number p.live } ∷ qs) rest
+    by : (b : Bool) → parts_among ids (cleared_parts number ps) ≡ cleared_parts number (parts_among ids ps)
+        → cond b (record p { live = live_set_without number p.live } ∷ parts_among ids (cleared_parts number ps)) (parts_among ids (cleared_parts number ps))
+        ≡ cleared_parts number (cond b (p ∷ parts_among ids ps) (parts_among ids ps))
+    by true rest = ap (λ (qs : List LiveSegment). record p { live = live_set_without number p.live } ∷ qs) rest
     by false rest = rest
 
 inputs_but : (number : ℕ) (begun : Option BegunMerge) → inputs_of (begun_but number begun) ≡ inputs_of begun
@@ -115,17 +118,17 @@ inputs_but number (Some b) = refl
 
 -- what is built without a number is what was built, without it
 built_back : (number : ℕ) (begun : Option BegunMerge) (n : NewSegmentData) → built_of (begun_but number begun) ≡ Some n
-    → (old : NewSegmentData) × (built_of begun ≡ Some old) × (n ≡ record old { live = without number old.live })
+    → (old : NewSegmentData) × (built_of begun ≡ Some old) × (n ≡ record old { live = live_set_without number old.live })
 built_back number None n is = cc
 built_back number (Some b) n is = by b.built refl is
   where
     by : (o : Option NewSegmentData) → b.built ≡ o → built_but number o ≡ Some n
-        → (old : NewSegmentData) × (b.built ≡ Some old) × (n ≡ record old { live = without number old.live })
+        → (old : NewSegmentData) × (b.built ≡ Some old) × (n ≡ record old { live = live_set_without number old.live })
     by None e h = cc
     by (Some old) e h = (old, e, cc)
 
-built_of_but : (D leaf number : ℕ) (inputs : List Part) (n : NewSegmentData) → IsBuiltOf D leaf inputs n
-    → IsBuiltOf D leaf (cleared number inputs) (record n { live = without number n.live })
+built_of_but : (D leaf number : ℕ) (inputs : List LiveSegment) (n : NewSegmentData) → IsBuiltOf D leaf inputs n
+    → IsBuiltOf D leaf (cleared_parts number inputs) (record n { live = live_set_without number n.live })
 built_of_but D leaf number inputs n is = record {
   leaf_size = is.leaf_size;
   has = ∥∥₁_elim is.has ∥∥₁_prop
@@ -151,7 +154,7 @@ well_but D number s well = record {
   greatest_leaf = well.greatest_leaf;
   numbered = well.numbered;
   most_given = well.most_given;
-  spread = spread_fewer s.next s.parts (cleared number s.parts) s.buffer (entries_but number s.buffer) (λ m. fewer_places number m s.parts)
+  spread = spread_fewer s.next s.parts (cleared_parts number s.parts) s.buffer (entries_but number s.buffer) (λ m. fewer_places number m s.parts)
       (λ m e. left_of (has_entry m s.buffer) (not (eqb m number)) (sym (has_filtered (λ n. not (eqb n number)) m s.buffer) ∙ e)) well.spread;
   room = omega (
     arith,
@@ -163,29 +166,30 @@ well_but D number s well = record {
   once = none_twice_filter (λ (x : Item). not (eqb x.doc number)) s.buffer well.once;
   sixteen = few_filter (λ (x : Item). not (eqb x.doc number)) s.buffer well.sixteen;
   few = omega (arith, well.few, length-map s.parts clear);
-  leaf_size = All-map (λ (p : Part). p.head.leaf ≡ s.leaf) clear s.parts well.leaf_size;
-  live_fits = All-map (λ (p : Part). length p.live.live ≤ p.head.entries) clear s.parts
-      (All-weaker (λ (p : Part). length p.live.live ≤ p.head.entries) (λ (p : Part). length (without number p.live).live ≤ p.head.entries)
+  leaf_size = All-map (λ (p : LiveSegment). p.head.leaf ≡ s.leaf) clear s.parts well.leaf_size;
+  live_fits = All-map (λ (p : LiveSegment). length p.live.live ≤ p.head.entries) clear s.parts
+      (All-weaker (λ (p : LiveSegment). length p.live.live ≤ p.head.entries)
+          (λ (p : LiveSegment). length (live_set_without number p.live).live ≤ p.head.entries)
       (λ p h. omega (arith, h, length_but number p.live)) s.parts well.live_fits);
   named = All-map (IsNamed s.names) clear s.parts well.named;
   kept = well.kept;
   own = well.own;
   few_snapshots = well.few_snapshots;
   rooms = well.rooms;
-  inputs = subst (λ (ns : List ℕ). All (λ id. is_among (ids_of (cleared number s.parts)) id ≡ true) ns) (sym (inputs_but number s.begun))
+  inputs = subst (λ (ns : List ℕ). All (λ id. is_among (ids_of (cleared_parts number s.parts)) id ≡ true) ns) (sym (inputs_but number s.begun))
       (subst (λ (ids : List ℕ). All (λ id. is_among ids id ≡ true) (inputs_of s.begun)) (sym (ids_cleared number s.parts)) well.inputs);
   few_inputs = subst (λ (ns : List ℕ). length ns ≤ 64) (sym (inputs_but number s.begun)) well.few_inputs;
   built = λ n is.
       let old = built_back number s.begun n is in
-      subst (λ (ns : List ℕ). IsBuiltOf D s.leaf (parts_among ns (cleared number s.parts)) n) (sym (inputs_but number s.begun))
-      (subst (λ (ps : List Part). IsBuiltOf D s.leaf ps n) (sym (among_cleared number (inputs_of s.begun) s.parts))
-      (subst (IsBuiltOf D s.leaf (cleared number (parts_among (inputs_of s.begun) s.parts))) (sym old.2)
+      subst (λ (ns : List ℕ). IsBuiltOf D s.leaf (parts_among ns (cleared_parts number s.parts)) n) (sym (inputs_but number s.begun))
+      (subst (λ (ps : List LiveSegment). IsBuiltOf D s.leaf ps n) (sym (among_cleared number (inputs_of s.begun) s.parts))
+      (subst (IsBuiltOf D s.leaf (cleared_parts number (parts_among (inputs_of s.begun) s.parts))) (sym old.2)
       (built_of_but D s.leaf number (parts_among (inputs_of s.begun) s.parts) old.0 (well.built old.0 old.1))));
   cached = well.cached;
 }
   where
-    clear : Part → Part
-    clear p = record p { live = without number p.live }
+    clear : LiveSegment → LiveSegment
+    clear p = record p { live = live_set_without number p.live }
 
 -- ---- another cache
 

@@ -8,7 +8,7 @@ use Rattle.point_codec.specs.Points.{Item}
 use Rattle.live_bits.specs.LiveSet.{is_live}
 use Rattle.documents.specs.Entries.{has_entry, is_among}
 use Rattle.stored_index.specs.Segments.{places}
-use Rattle.segment_view.specs.Parts.{Part, lives_of, parts_among, parts_but}
+use Rattle.segment_view.specs.LiveSegments.{LiveSegment, lives_of, parts_among, parts_but}
 use Rattle.segment_build.specs.NewSegments.{NewSegmentData}
 use Rattle.file_names.specs.Names.{NameList, is_named}
 use Rattle.segment_set.specs.Sets.{IsSpread}
@@ -21,9 +21,9 @@ abbrev pub place_built : ℕ → Option NewSegmentData → ℕ
 place_built number None = 0
 place_built number (Some n) = one_if (is_live n.live number)
 
-module _ (D : ℕ) (told : Type 0) (before after : NameList) (files : Files) (ids : List ℕ) (old new : List Part) where
+module _ (D : ℕ) (told : Type 0) (before after : NameList) (files : Files) (ids : List ℕ) (old new : List LiveSegment) where
   -- what holds of the others and of the one that came holds of all
-  pub all_replaced : (P : Part → Type 0) (built : Option NewSegmentData) → Replaces D told before after files ids built old new
+  pub all_replaced : (P : LiveSegment → Type 0) (built : Option NewSegmentData) → Replaces D told before after files ids built old new
       → ((id : ℕ) (n : NewSegmentData) → built ≡ Some n → is_named after.names (Segment id) ≡ true → P (part_at id n)) → All P old → All P new
   all_replaced P None r here all = subst (All P) (sym r) (all_but P ids old all)
   all_replaced P (Some n) r here all = all_placed P (part_at r.id n) (parts_but ids old) new r.placed (here r.id n refl r.named) (all_but P ids old all)

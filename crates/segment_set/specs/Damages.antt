@@ -8,7 +8,7 @@ use Rattle.page_cache.specs.declared.faults.Damage.TheVariants.{Page, Leaf, Body
 use Rattle.page_cache.specs.declared.faults.Damage.TheVariants.{Doubled}
 use Rattle.segment_file.specs.Heads.{Head}
 use Rattle.segment_file.specs.Damages.{IsLeafDamageOf}
-use Rattle.segment_view.specs.Parts.{Part}
+use Rattle.segment_view.specs.LiveSegments.{LiveSegment}
 use Rattle.segment_view.specs.Damages.{IsReadDamage}
 use Rattle.document_checks.specs.Crowded.{IsCrowded}
 use Rattle.file_names.specs.Names.{NameList, is_named}
@@ -30,8 +30,8 @@ IsDoubt given items (Beyond doc next) = ⊥
 
 -- Merging these segments, or such as the call wrote itself under names that the list didn't have, shows a leaf to be
 -- damaged, or live entries to be none of documents.
-pub data IsMergeDamage (D given : ℕ) (names : NameList) (parts : List Part) (d : Damage) : Type 0 where
-  Read : (p : Part) → Contains parts p → IsReadDamage D p.head d → IsMergeDamage D given names parts d
+pub data IsMergeDamage (D given : ℕ) (names : NameList) (parts : List LiveSegment) (d : Damage) : Type 0 where
+  Read : (p : LiveSegment) → Contains parts p → IsReadDamage D p.head d → IsMergeDamage D given names parts d
   New : (head : Head) → is_named names.names (Segment head.id) ≡ false → IsReadDamage D head d
       → IsMergeDamage D given names parts d
   Doubt : (items : List Item) → IsDoubt given items d → IsMergeDamage D given names parts d

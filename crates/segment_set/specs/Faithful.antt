@@ -2,12 +2,12 @@
 use Rattle.std.specs.Prelude.{ℕ, All}
 use Rattle.outer_io.specs.Files.{Files}
 use Rattle.page_cache.specs.Cache.{Agrees}
-use Rattle.segment_view.specs.Parts.{Part}
+use Rattle.segment_view.specs.LiveSegments.{LiveSegment}
 use Rattle.segment_set.specs.Sets.{SetData}
 use Rattle.index_opening.specs.Evidence.{IsHeadIn}
 
 -- the segment's head is that of its file
-abbrev pub HasFileHead : ℕ → Files → Part → Type 0
+abbrev pub HasFileHead : ℕ → Files → LiveSegment → Type 0
 HasFileHead D files p = ∥ IsHeadIn files D p.head ∥₁
 
 -- the kept pages are those of the files, and so is the head of each segment of each view

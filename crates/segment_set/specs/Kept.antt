@@ -10,7 +10,7 @@ use Rattle.commit_list.specs.Commits.{CommitData}
 use Rattle.stored_index.specs.Kept.{ListsFile}
 use Rattle.segment_file.specs.Heads.{Head}
 use Rattle.segment_file.specs.Segments.{IsSegment}
-use Rattle.segment_view.specs.Parts.{Part, ids_of}
+use Rattle.segment_view.specs.LiveSegments.{LiveSegment, ids_of}
 use Rattle.document_checks.specs.Crowded.{AreUncrowded}
 use Rattle.segment_build.specs.NewSegments.{IsCanonical}
 use Rattle.file_names.specs.Names.{NameList, is_named}
@@ -37,8 +37,8 @@ pub record StaysAlone (old new : SetData) : Type 0 where
   pub live : (number : ℕ) → is_live_in new number ≡ true → is_live_in old number ≡ true
 
 -- a segment of a view needs the file
-abbrev pub ViewNeeds : List Part → FileName → Type 0
-ViewNeeds parts name = (p : Part) × Contains parts p × (name ≡ Segment p.head.id)
+abbrev pub ViewNeeds : List LiveSegment → FileName → Type 0
+ViewNeeds parts name = (p : LiveSegment) × Contains parts p × (name ≡ Segment p.head.id)
 
 -- a view needs the file, or the commit lists it. A begun merge needs its inputs alone, which are segments of now
 abbrev pub IsNeeded : SetData → CommitData → FileName → Type 0
@@ -46,15 +46,15 @@ IsNeeded s c name = ListsFile c name ⊎ ViewNeeds s.parts name
     ⊎ ((v : NamedView) × Contains s.snapshots v × ViewNeeds v.parts name)
 
 -- no number is live in the first that isn't in the second; base and span are the same
-pub record IsWithin (s t : LiveSet) : Type 0 where
+pub record IsSubset (s t : LiveSet) : Type 0 where
   pub base : s.base ≡ t.base
   pub span : s.span ≡ t.span
   pub live : (number : ℕ) → is_live s number ≡ true → is_live t number ≡ true
 
 -- each segment of now is one of before, with no number more live, or its file has a name that wasn't in the list
-pub record Follows (names : NameList) (old new : List Part) : Type 0 where
-  pub each : (p : Part) → Contains new p → (is_named names.names (Segment p.head.id) ≡ false)
-      ⊎ ((q : Part) × Contains old q × (p.head ≡ q.head) × IsWithin p.live q.live)
+pub record Follows (names : NameList) (old new : List LiveSegment) : Type 0 where
+  pub each : (p : LiveSegment) → Contains new p → (is_named names.names (Segment p.head.id) ≡ false)
+      ⊎ ((q : LiveSegment) × Contains old q × (p.head ≡ q.head) × IsSubset p.live q.live)
 
 -- the file of this head has entries of which it is the canonical tree, with the index in form 3, and which are such as
 -- documents have
@@ -64,8 +64,9 @@ HasCanonical D files head =
     × AreUncrowded items) ∥₁
 
 -- each segment whose file has a name that wasn't in the list is canonical
-abbrev pub AreCanonical : ℕ → Files → NameList → List Part → Type 0
-AreCanonical D files names parts = (p : Part) → Contains parts p → is_named names.names (Segment p.head.id) ≡ false
+abbrev pub AreCanonical : ℕ → Files → NameList → List LiveSegment → Type 0
+AreCanonical D files names parts = (p : LiveSegment) → Contains parts p
+    → is_named names.names (Segment p.head.id) ≡ false
     → HasCanonical D files p.head
 
 -- the set is as the commit says: its numbers, its segments with as many live numbers each, and nothing waits in the

@@ -7,7 +7,7 @@ use Rattle.live_bits.specs.LiveSet.{IsLiveSet}
 use Rattle.documents.specs.Entries.{SameTotals, is_among}
 use Rattle.page_cache.specs.Cache.{Agrees}
 use Rattle.index_model.specs.State.{Index}
-use Rattle.segment_view.specs.Parts.{Part, Contents, AreRead, IsPlaced, ids_of, live_in_parts, parts_but}
+use Rattle.segment_view.specs.LiveSegments.{LiveSegment, Contents, AreRead, IsPlaced, ids_of, live_in_parts, parts_but}
 use Rattle.segment_build.specs.NewSegments.{NewSegmentData}
 use Rattle.segment_set.specs.Sets.{BegunMerge, SetData, inputs_of}
 use Rattle.segment_set.specs.Seen.{Sees}
@@ -23,27 +23,27 @@ abbrev pub chosen_ids : (positions ids : List ℕ) → List ℕ
 chosen_ids positions ids = map (slice_index ids) (take 64 (filter (λ i. nat_lt i (length ids)) (each_once positions)))
 
 -- the segment is the one that was built, under whatever id
-abbrev pub IsWritten : NewSegmentData → Part → Type 0
+abbrev pub IsWritten : NewSegmentData → LiveSegment → Type 0
 IsWritten n p = (p.head ≡ head_of p.head.id n.entries n.leaf n.index) × (p.live ≡ n.live)
 
 -- the segment that was built came to the others where something of it is live, and else nothing came
-abbrev pub HasCome : Option NewSegmentData → (others new : List Part) → Type 0
+abbrev pub HasCome : Option NewSegmentData → (others new : List LiveSegment) → Type 0
 HasCome None others new = new ≡ others
 HasCome (Some n) others new = ((n.live.live ≡ []) × (new ≡ others))
-    ⊎ ((n.live.live ≢ []) × ((p : Part) × IsWritten n p × IsPlaced p others new))
+    ⊎ ((n.live.live ≢ []) × ((p : LiveSegment) × IsWritten n p × IsPlaced p others new))
 
 -- the begun merge is ended: its inputs went, and what it has built came
-abbrev pub IsEnded : BegunMerge → (old new : List Part) → Type 0
+abbrev pub IsEnded : BegunMerge → (old new : List LiveSegment) → Type 0
 IsEnded b old new = HasCome b.built (parts_but b.inputs old) new
 
 -- the segment has an index of form 3 and as many live numbers as entries, so that merging it alone changes nothing
-pub record IsWhole (p : Part) : Type 0 where
+pub record IsWhole (p : LiveSegment) : Type 0 where
   pub set : IsLiveSet p.live
   pub form : p.head.index.form ≡ 3
   pub live : length p.live.live ≡ p.head.entries
 
 -- the segments that are no inputs of the begun merge
-abbrev pub free_parts : SetData → List Part
+abbrev pub free_parts : SetData → List LiveSegment
 free_parts s = parts_but (inputs_of s.begun) s.parts
 
 abbrev pub free_ids : SetData → List ℕ
@@ -54,7 +54,7 @@ abbrev pub IsTidy : SetData → Type 0
 IsTidy s = (length (free_parts s) ≤ 1) × All IsWhole (free_parts s)
 
 -- the ids are those of some of these segments, of which none is one of the inputs
-pub record IsApart (ids inputs : List ℕ) (parts : List Part) : Type 0 where
+pub record IsApart (ids inputs : List ℕ) (parts : List LiveSegment) : Type 0 where
   pub among : (id : ℕ) → is_among ids id ≡ true → is_among (ids_of parts) id ≡ true
   pub apart : (id : ℕ) → is_among ids id ≡ true → is_among inputs id ≡ false
 

@@ -9,8 +9,9 @@ use Rattle.page_cache.specs.declared.cache.PageCache.{PageCache}
 use Rattle.page_cache.specs.Cache.{Agrees}
 use Rattle.segment_file.specs.Segments.{IsSegment}
 use Rattle.segment_file.specs.Written.{head_of}
-use Rattle.segment_view.specs.Parts.{Part, Contents, AreRead, part_of, parts_among, parts_but, live_in_parts, has_live}
-use Rattle.segment_view.specs.Parts.{IsPlaced}
+use Rattle.segment_view.specs.LiveSegments.{LiveSegment, Contents, AreRead, live_segment, parts_among, parts_but}
+use Rattle.segment_view.specs.LiveSegments.{live_in_parts, has_live}
+use Rattle.segment_view.specs.LiveSegments.{IsPlaced}
 use Rattle.segment_build.specs.NewSegments.{NewSegmentData, HasEntries}
 use Rattle.file_names.specs.Names.{NameList, is_named}
 use Rattle.segment_set.specs.Sets.{HasUncrowded}
@@ -37,13 +38,13 @@ pub record IsMade (D leaf : ℕ) (n : NewSegmentData) : Type 0 where
   pub some : 1 ≤ length n.live.live
 
 -- the segment as it is under this id
-abbrev pub part_at : ℕ → NewSegmentData → Part
-part_at id n = part_of (head_of id n.entries n.leaf n.index) n.live
+abbrev pub part_at : ℕ → NewSegmentData → LiveSegment
+part_at id n = live_segment (head_of id n.entries n.leaf n.index) n.live
 
 -- The segment was written under the next id, whose name wasn't in the list and is in it now, and stands in the place
 -- of its id among those that are not of these ids, which went.
-pub record IsPut (D : ℕ) (told : Type 0) (before after : NameList) (files : Files) (ids : List ℕ) (n : NewSegmentData)
-    (old new : List Part) : Type 0 where
+pub record Swaps (D : ℕ) (told : Type 0) (before after : NameList) (files : Files) (ids : List ℕ) (n : NewSegmentData)
+    (old new : List LiveSegment) : Type 0 where
   pub id : ℕ
   pub fresh : is_named before.names (Segment id) ≡ false
   pub named : is_named after.names (Segment id) ≡ true
@@ -54,9 +55,9 @@ pub record IsPut (D : ℕ) (told : Type 0) (before after : NameList) (files : Fi
 
 -- what was built took the place of the segments of these ids; where nothing was, they only went
 abbrev pub Replaces : (D : ℕ) (told : Type 0) (before after : NameList) → Files → (ids : List ℕ) → Option NewSegmentData
-    → (old new : List Part) → Type 0
+    → (old new : List LiveSegment) → Type 0
 Replaces D told before after files ids None old new = new ≡ parts_but ids old
-Replaces D told before after files ids (Some n) old new = IsPut D told before after files ids n old new
+Replaces D told before after files ids (Some n) old new = Swaps D told before after files ids n old new
 
 -- what is built has all its entries live
 pub record HasLiveEntries (D : ℕ) (n : NewSegmentData) : Type 0 where
@@ -65,7 +66,7 @@ pub record HasLiveEntries (D : ℕ) (n : NewSegmentData) : Type 0 where
   pub all : All (λ x. is_live n.live x.doc ≡ true) items
 
 -- a segment was built of what is live in these: each of its numbers is live in one of them
-pub record IsGathered (D leaf : ℕ) (inputs : List Part) (n : NewSegmentData) : Type 0 where
+pub record IsGathered (D leaf : ℕ) (inputs : List LiveSegment) (n : NewSegmentData) : Type 0 where
   pub made : IsMade D leaf n
   pub all : ∥ HasLiveEntries D n ∥₁
   pub within : (number : ℕ) → is_live n.live number ≡ true → has_live number inputs ≡ true
@@ -73,7 +74,7 @@ pub record IsGathered (D leaf : ℕ) (inputs : List Part) (n : NewSegmentData) :
 -- The live entries of the segments of these ids were read and a segment was built of them, which took their place;
 -- where there were none, the segments only went.
 pub record IsMerged (D : ℕ) (told : Type 0) (leaf : ℕ) (before after : NameList) (files new_files : Files)
-    (cache : PageCache) (ids : List ℕ) (old new : List Part) : Type 0 where
+    (cache : PageCache) (ids : List ℕ) (old new : List LiveSegment) : Type 0 where
   pub built : Option NewSegmentData
   pub replaces : Replaces D told before after new_files ids built old new
   pub unnamed : built ≡ None → after ≡ before
@@ -92,10 +93,10 @@ living (Some n) = with_live n.live.live n
 
 -- the buffer went to a segment, all of whose entries are live
 pub record IsSpilled (D : ℕ) (told : Type 0) (leaf : ℕ) (before after : NameList) (new_files : Files)
-    (buffer : List Item) (old new : List Part) : Type 0 where
+    (buffer : List Item) (old new : List LiveSegment) : Type 0 where
   pub n : NewSegmentData
   pub made : IsMade D leaf n
-  pub put : IsPut D told before after new_files [] n old new
+  pub put : Swaps D told before after new_files [] n old new
   pub live : is_live n.live ≡ (λ number. has_entry number buffer)
   pub holds : HoldsLive D buffer n
   pub all : ∥ HasLiveEntries D n ∥₁

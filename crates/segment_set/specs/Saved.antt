@@ -5,7 +5,7 @@ use Rattle.outer_io.specs.Files.{Files, bytes_of}
 use Rattle.commit_list.specs.declared.listed.Listed.{Listed}
 use Rattle.commit_list.specs.Commits.{IsListed}
 use Rattle.segment_file.specs.LiveFiles.{IsLiveFile}
-use Rattle.segment_view.specs.Parts.{Part}
+use Rattle.segment_view.specs.LiveSegments.{LiveSegment}
 use Rattle.file_names.specs.Names.{NameList, IsNextGeneration, is_named}
 use Rattle.segment_set.specs.Sets.{SetData}
 
@@ -15,7 +15,8 @@ HasNextGeneration names l = IsNextGeneration (λ n. is_named names.names (Live l
 
 -- A commit may list the segment so: its live bits are in a file of their own, under the next generation, whose name
 -- wasn't in the list and is in it now.
-pub record IsSaved (told : Type 0) (before after : NameList) (files : Files) (l : Listed) (p : Part) : Type 0 where
+pub record IsSaved (told : Type 0) (before after : NameList) (files : Files) (l : Listed) (p : LiveSegment)
+    : Type 0 where
   pub segment : l.segment ≡ p.head.id
   pub entries : l.entries ≡ p.head.entries
   pub live : l.live ≡ length p.live.live

@@ -7,26 +7,26 @@ use Rattle.live_bits.specs.LiveSet.{is_live}
 use Rattle.documents.specs.Entries.{AreDocs, SameTotals, has_entry}
 use Rattle.page_cache.specs.Cache.{Agrees}
 use Rattle.index_model.specs.State.{Index, Snapshot}
-use Rattle.segment_view.specs.Parts.{Part, Contents, AreRead, live_in_parts, parts_among}
+use Rattle.segment_view.specs.LiveSegments.{LiveSegment, Contents, AreRead, live_in_parts, parts_among}
 use Rattle.segment_build.specs.NewSegments.{NewSegmentData, HasEntries}
 use Rattle.segment_set.specs.Sets.{NamedView, BegunMerge, SetData}
 
 -- the live entries of the segments, and the buffer
-abbrev pub entries_seen : Contents → List Part → List Item → List Item
+abbrev pub entries_seen : Contents → List LiveSegment → List Item → List Item
 entries_seen c parts buffer = live_in_parts c parts ++ buffer
 
 -- the built entries whose number is live are just the live entries of the inputs, each once
-pub record IsMergeOf (D : ℕ) (c : Contents) (inputs : List Part) (n : NewSegmentData) : Type 0 where
+pub record IsMergeOf (D : ℕ) (c : Contents) (inputs : List LiveSegment) (n : NewSegmentData) : Type 0 where
   pub items : List Item
   pub has : HasEntries D items n
   pub found : (number : ℕ) → is_live n.live number ≡ true → has_entry number items ≡ true
   pub same : SameTotals (live_in_parts c inputs) (filter (λ x. is_live n.live x.doc) items)
 
-abbrev pub MergesInto : ℕ → Contents → List Part → Option NewSegmentData → Type 0
+abbrev pub MergesInto : ℕ → Contents → List LiveSegment → Option NewSegmentData → Type 0
 MergesInto D c inputs None = live_in_parts c inputs ≡ []
 MergesInto D c inputs (Some n) = IsMergeOf D c inputs n
 
-abbrev pub BegunStands : ℕ → Contents → List Part → Option BegunMerge → Type 0
+abbrev pub BegunStands : ℕ → Contents → List LiveSegment → Option BegunMerge → Type 0
 BegunStands D c parts None = Unit {0}
 BegunStands D c parts (Some b) = MergesInto D c (parts_among b.inputs parts) b.built
 

@@ -8,14 +8,14 @@ use Rattle.outer_io.specs.declared.file_name.FileName.TheVariants.{Commit, Segme
 use Rattle.point_codec.specs.Points.{Item}
 use Rattle.leaf_codec.specs.Leaves.{leaf_limit}
 use Rattle.leaf_codec.specs.LeafOrder.{NoneTwice}
-use Rattle.live_bits.specs.LiveSet.{is_live, without}
+use Rattle.live_bits.specs.LiveSet.{is_live, live_set_without}
 use Rattle.documents.specs.Entries.{entries_but, entries_of, has_entry, is_among}
 use Rattle.page_cache.specs.declared.cache.PageCache.{PageCache}
 use Rattle.page_cache.specs.Cache.{KeepsFile}
 use Rattle.commit_list.specs.Commits.{CommitData}
 use Rattle.merge_policy.specs.Choice.{free_count}
 use Rattle.stored_index.specs.Segments.{places}
-use Rattle.segment_view.specs.Parts.{Part, cleared, lives_of, ids_of, parts_among}
+use Rattle.segment_view.specs.LiveSegments.{LiveSegment, cleared_parts, lives_of, ids_of, parts_among}
 use Rattle.document_checks.specs.Crowded.{AreFew, AreUncrowded}
 use Rattle.segment_build.specs.NewSegments.{NewSegmentData, HasEntries}
 use Rattle.file_names.specs.Names.{NameList, is_named}
@@ -23,7 +23,7 @@ use Rattle.file_names.specs.Names.{NameList, is_named}
 -- a view that is kept under a name: its segments as they were live then, and what was in the buffer
 pub record NamedView : Type 0 where
   pub name : List ℕ
-  pub parts : List Part
+  pub parts : List LiveSegment
   pub buffer : List Item
 
 -- a merge that is begun: the ids of its inputs, and the segment that is built of their live entries; None, where there
@@ -39,7 +39,7 @@ pub record SetData : Type 0 where
   pub next : ℕ
   pub given : ℕ
   pub names : NameList
-  pub parts : List Part
+  pub parts : List LiveSegment
   pub buffer : List Item
   pub snapshots : List NamedView
   pub begun : Option BegunMerge
@@ -57,11 +57,11 @@ built_of None = None
 built_of (Some b) = b.built
 
 -- the number of entries of each segment, live or dead
-abbrev pub sizes_of : List Part → List ℕ
+abbrev pub sizes_of : List LiveSegment → List ℕ
 sizes_of parts = map (λ p. p.head.entries) parts
 
 -- which segments are inputs of the begun merge
-abbrev pub pins_of : Option BegunMerge → List Part → List Bool
+abbrev pub pins_of : Option BegunMerge → List LiveSegment → List Bool
 pins_of begun parts = map (λ p. is_among (inputs_of begun) p.head.id) parts
 
 -- the policy chooses nothing: of no level there are ten segments that are no inputs of the begun merge
@@ -76,7 +76,7 @@ is_live_in s number = if list_any (λ p. is_live p.live number) s.parts then tru
 -- segment that is built
 abbrev pub built_but : ℕ → Option NewSegmentData → Option NewSegmentData
 built_but number None = None
-built_but number (Some n) = Some (record n { live = without number n.live })
+built_but number (Some n) = Some (record n { live = live_set_without number n.live })
 
 abbrev pub begun_but : ℕ → Option BegunMerge → Option BegunMerge
 begun_but number None = None
@@ -84,7 +84,8 @@ begun_but number (Some b) = Some (record b { built = built_but number b.built })
 
 abbrev pub set_but : ℕ → SetData → SetData
 set_but number s =
-    record s { parts = cleared number s.parts; buffer = entries_but number s.buffer; begun = begun_but number s.begun }
+    record s { parts = cleared_parts number s.parts; buffer = entries_but number s.buffer; begun = begun_but number
+        s.begun }
 
 -- the set with one more document, of the next number, which waits in the buffer
 abbrev pub set_with : List (List ℤ) → SetData → SetData
@@ -107,7 +108,7 @@ abbrev pub view_of : List ℕ → List NamedView → Option NamedView
 view_of name views = find (λ v. bytes_eq v.name name) views
 
 -- the segments and the buffer of a view; none, where there is no such view
-abbrev pub parts_in : Option NamedView → List Part
+abbrev pub parts_in : Option NamedView → List LiveSegment
 parts_in None = []
 parts_in (Some v) = v.parts
 
@@ -116,7 +117,7 @@ buffer_in None = []
 buffer_in (Some v) = v.buffer
 
 -- those of now, where no name is given, or of the snapshot of a name
-abbrev pub parts_at : Option (List ℕ) → List Part → List NamedView → List Part
+abbrev pub parts_at : Option (List ℕ) → List LiveSegment → List NamedView → List LiveSegment
 parts_at None parts views = parts
 parts_at (Some name) parts views = parts_in (view_of name views)
 
@@ -124,7 +125,7 @@ abbrev pub buffer_at : Option (List ℕ) → List Item → List NamedView → Li
 buffer_at None buffer views = buffer
 buffer_at (Some name) buffer views = buffer_in (view_of name views)
 
-abbrev pub viewed_parts : Option (List ℕ) → SetData → List Part
+abbrev pub viewed_parts : Option (List ℕ) → SetData → List LiveSegment
 viewed_parts view s = parts_at view s.parts s.snapshots
 
 abbrev pub viewed_buffer : Option (List ℕ) → SetData → List Item
@@ -141,16 +142,16 @@ HasView view s = IsThere view s.snapshots
 -- ---- what every set keeps to, whatever the files say
 
 -- no number is live in two of the segments
-abbrev pub AreAlone : List Part → Type 0
+abbrev pub AreAlone : List LiveSegment → Type 0
 AreAlone parts = (number : ℕ) → places number (lives_of parts) ≤ 1
 
 -- each number is live in one segment alone or stands in the buffer alone, and no number is that wasn't given
-pub record IsSpread (next : ℕ) (parts : List Part) (buffer : List Item) : Type 0 where
+pub record IsSpread (next : ℕ) (parts : List LiveSegment) (buffer : List Item) : Type 0 where
   pub alone : (number : ℕ) → places number (lives_of parts) + (if has_entry number buffer then 1 else 0) ≤ 1
   pub below : (number : ℕ) → next ≤ number → (places number (lives_of parts) ≡ 0) × (has_entry number buffer ≡ false)
 
 -- the segment's file is in the list of names
-abbrev pub IsNamed : NameList → Part → Type 0
+abbrev pub IsNamed : NameList → LiveSegment → Type 0
 IsNamed names p = is_named names.names (Segment p.head.id) ≡ true
 
 -- a segment was built of entries such as documents have
@@ -161,7 +162,7 @@ pub record HasUncrowded (D : ℕ) (n : NewSegmentData) : Type 0 where
 
 -- a segment was built with the leaf size: it is the canonical tree of some entries, has no more live numbers than
 -- entries, and each of them is live in an input
-pub record IsBuiltOf (D leaf : ℕ) (inputs : List Part) (n : NewSegmentData) : Type 0 where
+pub record IsBuiltOf (D leaf : ℕ) (inputs : List LiveSegment) (n : NewSegmentData) : Type 0 where
   pub leaf_size : n.leaf ≡ leaf
   pub has : ∥ HasUncrowded D n ∥₁
   pub fits : length n.live.live ≤ n.entries

@@ -7,14 +7,14 @@ use Rattle.outer_io.specs.Files.{Files}
 use Rattle.documents.specs.Entries.{is_among}
 use Rattle.commit_list.specs.Commits.{CommitData}
 use Rattle.stored_index.specs.Kept.{ListsFile}
-use Rattle.segment_view.specs.Parts.{ids_of}
+use Rattle.segment_view.specs.LiveSegments.{ids_of}
 use Rattle.file_names.specs.Names.{is_named}
 use Rattle.segment_set.specs.Sets.{NamedView, SetData}
 use Rattle.segment_set.specs.Kept.{IsNeeded, StaysButFiles, ViewNeeds}
 
 -- a view needs the file
-abbrev pub IsShown : SetData → FileName → Type 0
-IsShown s name = ViewNeeds s.parts name ⊎ ((v : NamedView) × Contains s.snapshots v × ViewNeeds v.parts name)
+abbrev pub IsInView : SetData → FileName → Type 0
+IsInView s name = ViewNeeds s.parts name ⊎ ((v : NamedView) × Contains s.snapshots v × ViewNeeds v.parts name)
 
 -- the same as a test
 abbrev pub shows_file : SetData → FileName → Bool
@@ -25,7 +25,7 @@ shows_file s CommitNew = false
 
 -- neither a view needs the file nor the commit lists it
 pub record IsUnneeded (s : SetData) (c : CommitData) (name : FileName) : Type 0 where
-  pub shown : IsShown s name → ⊥
+  pub shown : IsInView s name → ⊥
   pub listed : ListsFile c name → ⊥
 
 -- Files of the list that aren't needed were taken away, and their names out of the list.

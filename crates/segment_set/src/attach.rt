@@ -15,7 +15,7 @@ ghost use Rattle.stored_index.specs.Kept.{ListsFile};
 ghost use Rattle.stored_index.specs.Opening.{segments_pages};
 ghost use Rattle.stored_index.specs.Stored.{HasLive, HaveHeads, HaveLive, IsStored, IsUndefined};
 ghost use Rattle.index_model.specs.State.{Index, State};
-ghost use Rattle.segment_view.specs.Parts.{lives_of};
+ghost use Rattle.segment_view.specs.LiveSegments.{lives_of};
 ghost use Rattle.file_names.specs.Names.{is_named};
 
 use crate::buffer::Buffer;

@@ -9,7 +9,7 @@ ghost use Rattle.std.specs.Prelude.{IfOk, OnOk, OnErr};
 ghost use Rattle.std.specs.List.Sorted.{IsNonDecreasingBy};
 ghost use Rattle.point_codec.specs.Seen.{items_of};
 ghost use Rattle.documents.specs.Entries.{entries_but, entries_of, has_entry};
-ghost use Rattle.segment_set.specs.Runs.{IsRun};
+ghost use Rattle.segment_set.specs.Runs.{IsRunOf};
 ghost use Rattle.segment_set.specs.Waiting.{came_as, gone_as, out_of, waiting, waits};
 
 use point_codec::{Entry, Points};
@@ -93,7 +93,7 @@ impl<const D: usize> Buffer<D> {
         ensures refused { OnErr result (self.new ≡ self.old) }
     {
         let number = self.next;
-        put_document(&mut self.entries, number, points)?;
+        push_document(&mut self.entries, number, points)?;
         self.next = number + 1;
         self.live += points.as_slice().len() as u32;
         Ok(number)
@@ -145,7 +145,7 @@ impl<const D: usize> Buffer<D> {
 }
 
 /// Puts a document's entries at the end. For want of memory the entries stay.
-fn put_document<const D: usize>(
+fn push_document<const D: usize>(
     entries: &mut Vec<Entry<D>>,
     number: u32,
     points: &Points<D>,
@@ -169,7 +169,7 @@ fn put_document<const D: usize>(
 /// Where the entries that came with a number begin and end.
 fn run_of<const D: usize>(entries: &[Entry<D>], number: u32) -> (usize, usize)
     requires { IsNonDecreasingBy (λ e. came_as e.doc) entries.now }
-    ensures run { IsRun (λ e. came_as e.doc) number entries.now result.0 result.1 }
+    ensures run { IsRunOf (λ e. came_as e.doc) number entries.now result.0 result.1 }
     ensures bound { result.1 ≤ length entries.now }
 {
     let first = entries.partition_point(

@@ -7,7 +7,7 @@ ghost use Rattle.page_cache.specs.Cache.{Agrees};
 ghost use Rattle.page_cache.specs.Causes.{HasPageCause};
 ghost use Rattle.page_cache.specs.Evidence.{OnDamage, NotDamaged};
 ghost use Rattle.index_model.specs.State.{Index};
-ghost use Rattle.segment_view.specs.Parts.{Contents, AreRead, live_in_parts};
+ghost use Rattle.segment_view.specs.LiveSegments.{Contents, AreRead, live_in_parts};
 
 use crate::faults::AddFault;
 use crate::set::SegmentSet;
@@ -30,7 +30,7 @@ impl<const D: usize> SegmentSet<D> {
     ghost use Rattle.segment_set.specs.Sets.{IsNamed, IsSettled, set_with};
     ghost use Rattle.segment_set.specs.Seen.{Sees};
     ghost use Rattle.segment_set.specs.Kept.{AreCanonical, Follows, KeepsNamed, StaysAlone};
-    ghost use Rattle.segment_set.specs.Settles.{Flushes, IsLeft, Settles, Moment, moment};
+    ghost use Rattle.segment_set.specs.Settles.{Flushes, IsLeft, Settles, SetMoment, moment};
     ghost use Rattle.segment_set.specs.Damages.{IsDoubt, IsMergeDamage, IsMergeDamageOf};
     ghost use Rattle.segment_set.specs.Faithful.{IsFaithful};
     ghost use Rattle.index_opening.specs.Evidence.{IsEvidentIn};
@@ -65,7 +65,7 @@ impl<const D: usize> SegmentSet<D> {
         ensures kept_full { IsErrOf result Full → (self.new ≡ self.old) × (F.reads folder.new ≡ F.reads folder.old) }
         ensures files_full { IsTrue F.told → IsErrOf result Full → F.files folder.new ≡ F.files folder.old }
         ensures added { OnOk result
-            ((s : Moment) × Flushes D (IsTrue F.told) (moment (F.files folder.old) self.old) s
+            ((s : SetMoment) × Flushes D (IsTrue F.told) (moment (F.files folder.old) self.old) s
             × (self.new ≡ set_with points.now s.set)) }
         ensures left { OnErr result
             (IsLeft (Flushes D (IsTrue F.told) (moment (F.files folder.old) self.old)) self.new) }
@@ -109,12 +109,12 @@ impl<const D: usize> SegmentSet<D> {
             return Err(AddFault::Full);
         }
         self.make_room(rt, alloc, folder, count, gate)?;
-        Ok(self.put(points)?)
+        Ok(self.push(points)?)
     }
 
     /// Puts a document of the next number at the end of the buffer, and answers the number. For want of memory nothing
     /// changes.
-    fn put(&mut self, points: &Points<D>) -> Result<u32, AllocError>
+    fn push(&mut self, points: &Points<D>) -> Result<u32, AllocError>
         requires room { length self.old.buffer + length points.now ≤ 16384 }
         requires given { self.old.given + length points.now ≤ 2 ^ 24 }
         ensures put { OnOk result (self.new ≡ set_with points.now self.old) }

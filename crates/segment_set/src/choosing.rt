@@ -5,7 +5,7 @@ ghost use Rattle.std.specs.Prelude.{take, slice_index, count_by, All, IsTrue, If
 ghost use Rattle.std.specs.List.Sorted.{IsStrictlyIncreasing};
 ghost use Rattle.documents.specs.Entries.{is_among};
 ghost use Rattle.merge_policy.specs.Choice.{IsChoice, free_count};
-ghost use Rattle.segment_view.specs.Parts.{heads_of, ids_of, part_of, parts_among};
+ghost use Rattle.segment_view.specs.LiveSegments.{heads_of, ids_of, live_segment, parts_among};
 ghost use Rattle.segment_set.specs.Sets.{inputs_of, sizes_of};
 ghost use Rattle.segment_set.specs.Merged.{IsApart, IsWhole, each_once};
 
@@ -159,7 +159,7 @@ pub(crate) fn is_settled<const D: usize>(segments: &Segments<D>, ids: &[u64]) ->
 
 /// Whether the segment has an index of form 3 and as many live numbers as entries.
 fn is_whole<const D: usize>(head: &SegmentHead<D>, live: &LiveBits) -> bool
-    ensures { IsTrue result ↔ IsWhole (part_of head.now live.now) }
+    ensures { IsTrue result ↔ IsWhole (live_segment head.now live.now) }
 {
     head.index().form() == 3 && live.live_count() == head.entries()
 }

@@ -9,10 +9,10 @@ ghost use Rattle.page_cache.specs.Cache.{Agrees};
 ghost use Rattle.page_cache.specs.Causes.{HasPageCause};
 ghost use Rattle.page_cache.specs.Evidence.{OnDamage, NotDamaged};
 ghost use Rattle.segment_file.specs.Damages.{IsLeafDamageOf};
-ghost use Rattle.documents.specs.Documents.{deleted, hits, is_live, without};
+ghost use Rattle.documents.specs.Documents.{docs_without, hits, is_live, docs_failing};
 ghost use Rattle.documents.specs.Entries.{is_among};
 ghost use Rattle.index_model.specs.State.{Index};
-ghost use Rattle.segment_view.specs.Parts.{heads_of};
+ghost use Rattle.segment_view.specs.LiveSegments.{heads_of};
 ghost use Rattle.segment_view.specs.Costs.{AreTouched};
 ghost use Rattle.segment_view.specs.Damages.{IsPartDamage};
 ghost use Rattle.segment_set.specs.Sets.{begun_but};
@@ -35,7 +35,7 @@ impl<const D: usize> SegmentSet<D> {
     pub fn delete(&mut self, doc: u32) -> bool
         ensures answer { result ≡ is_live_in self.old doc }
         ensures seen { (files : Files) (i : Index) → Sees D files self.old i
-            → Sees D files self.new (record i { docs = deleted doc i.docs }) }
+            → Sees D files self.new (record i { docs = docs_without doc i.docs }) }
         ensures live { (files : Files) (i : Index) → Sees D files self.old i → result ≡ is_live doc i.docs }
         ensures alone { self.new ≡ set_but doc self.old }
         ensures faithful { (files : Files) → IsFaithful D files self.old → IsFaithful D files self.new }
@@ -59,7 +59,7 @@ impl<const D: usize> SegmentSet<D> {
         ensures seen { IsTrue F.told → (i : Index) → Sees D (F.files folder.old) self.old i
             → OnOk result
             (Sees D (F.files folder.new) self.new
-            (record i { docs = without (in_box (record { lo = lo.now.c; hi = hi.now.c })) i.docs })) }
+            (record i { docs = docs_failing (in_box (record { lo = lo.now.c; hi = hi.now.c })) i.docs })) }
         ensures count { IsTrue F.told → (i : Index) → Sees D (F.files folder.old) self.old i
             → IfOk result (λ n. n ≡ length (hits (in_box (record { lo = lo.now.c; hi = hi.now.c })) i.docs)) }
         ensures refused { IsTrue F.told → (i : Index) → Sees D (F.files folder.old) self.old i

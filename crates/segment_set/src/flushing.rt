@@ -7,7 +7,7 @@ ghost use Rattle.page_cache.specs.Causes.{HasPageCause};
 ghost use Rattle.page_cache.specs.Evidence.{OnDamage, NotDamaged};
 ghost use Rattle.merge_policy.specs.Choice.{IsChoice, free_count};
 ghost use Rattle.index_model.specs.State.{Index};
-ghost use Rattle.segment_view.specs.Parts.{Contents, AreRead, ids_of, live_in_parts, parts_among};
+ghost use Rattle.segment_view.specs.LiveSegments.{Contents, AreRead, ids_of, live_in_parts, parts_among};
 
 use crate::choosing::{chosen, inputs_of};
 use crate::rewriting::write_buffer;

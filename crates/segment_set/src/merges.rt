@@ -8,7 +8,7 @@ ghost use Rattle.page_cache.specs.Causes.{HasPageCause};
 ghost use Rattle.page_cache.specs.Evidence.{OnDamage, NotDamaged};
 ghost use Rattle.index_model.specs.State.{Index};
 ghost use Rattle.segment_build.specs.NewSegments.{NewSegmentData};
-ghost use Rattle.segment_view.specs.Parts.{Contents, AreRead, ids_of, live_in_parts, parts_among};
+ghost use Rattle.segment_view.specs.LiveSegments.{Contents, AreRead, ids_of, live_in_parts, parts_among};
 
 use crate::build_plan::BuildPlan;
 use crate::choosing::{first_places, ids_at, inputs_of, is_settled, unpinned};

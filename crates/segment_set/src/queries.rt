@@ -11,9 +11,9 @@ ghost use Rattle.documents.specs.Documents.{Document, hits};
 ghost use Rattle.documents.specs.Nearest.{found_of, nearest};
 ghost use Rattle.documents.specs.NearestEntries.{IsNearest, nears_of};
 ghost use Rattle.nearest_query.specs.Segments.{AreNearLeaves, bound_of};
-ghost use Rattle.script_lang.specs.Seen.{viewed};
+ghost use Rattle.script_lang.specs.Seen.{view_name};
 ghost use Rattle.index_model.specs.State.{Index, viewed_docs};
-ghost use Rattle.segment_view.specs.Parts.{Contents, heads_of};
+ghost use Rattle.segment_view.specs.LiveSegments.{Contents, heads_of};
 ghost use Rattle.segment_view.specs.Costs.{AreTested, AreTouched, leaves_in};
 ghost use Rattle.segment_view.specs.Damages.{IsPartDamage};
 
@@ -44,9 +44,9 @@ impl<const D: usize> SegmentSet<D> {
         view: &View,
         shape: &mut S,
     ) -> Result<Vec<u32>, PageFault>
-        requires { HasView (viewed view.now) self.old }
+        requires { HasView (view_name view.now) self.old }
         ensures found { IsTrue F.told → (i : Index) → Sees D (F.files folder.old) self.old i → (docs : List Document)
-            → viewed_docs (viewed view.now) i ≡ Some docs
+            → viewed_docs (view_name view.now) i ≡ Some docs
             → IfOk result (λ v. v.items ≡ hits (S.has shape.old) docs) }
         // what stays
         ensures seen { IsTrue F.told → (i : Index) → Sees D (F.files folder.old) self.old i
@@ -59,17 +59,17 @@ impl<const D: usize> SegmentSet<D> {
         ensures crosses { S.crosses shape.new ≡ S.crosses shape.old }
         // what it costs, over every folder
         ensures tests { (n : ℕ)
-            → AreTested D (S.crosses shape.old) (heads_of (viewed_parts (viewed view.now) self.old)) n
-            → S.tests shape.new ≤ S.tests shape.old + n + length (viewed_buffer (viewed view.now) self.old) }
+            → AreTested D (S.crosses shape.old) (heads_of (viewed_parts (view_name view.now) self.old)) n
+            → S.tests shape.new ≤ S.tests shape.old + n + length (viewed_buffer (view_name view.now) self.old) }
         ensures compares { S.compares shape.new ≤ S.compares shape.old + 2 * leaves_in
-            (heads_of (viewed_parts (viewed view.now) self.old)) }
+            (heads_of (viewed_parts (view_name view.now) self.old)) }
         ensures reads { (n : ℕ) → AreTouched D (S.has shape.old) (S.crosses shape.old)
-            (heads_of (viewed_parts (viewed view.now) self.old)) n
+            (heads_of (viewed_parts (view_name view.now) self.old)) n
             → F.reads folder.new ≤ F.reads folder.old + n }
         // what an error says
         ensures cause { HasPageCause (F.faults folder.old) (F.faults folder.new) result }
         ensures whole { IsTrue F.told → (i : Index) → Sees D (F.files folder.old) self.old i → NotDamaged result }
-        ensures shown { OnDamage result (IsPartDamage D (viewed_parts (viewed view.now) self.old)) }
+        ensures shown { OnDamage result (IsPartDamage D (viewed_parts (view_name view.now) self.old)) }
         ensures damage { IsTrue F.told → Agrees (F.files folder.old) self.old.cache
             → OnDamage result (IsLeafDamageOf (F.files folder.old)) }
         ensures evident { OnDamage result
@@ -96,11 +96,11 @@ impl<const D: usize> SegmentSet<D> {
         at: &Point<D>,
         k: u16,
     ) -> Result<Vec<Near>, PageFault>
-        requires view { HasView (viewed view.now) self.old }
+        requires view { HasView (view_name view.now) self.old }
         requires some { 1 ≤ k }
         requires few { k ≤ 10000 }
         ensures found { IsTrue F.told → (i : Index) → Sees D (F.files folder.old) self.old i → (docs : List Document)
-            → viewed_docs (viewed view.now) i ≡ Some docs
+            → viewed_docs (view_name view.now) i ≡ Some docs
             → IfOk result (λ v. found_of v.items ≡ nearest k at.now.c docs) }
         // what stays
         ensures seen { IsTrue F.told → (i : Index) → Sees D (F.files folder.old) self.old i
@@ -114,15 +114,15 @@ impl<const D: usize> SegmentSet<D> {
             → (found : List Near)
             → IsNearest k
             (nears_of at.now.c
-            (entries_seen c (viewed_parts (viewed view.now) self.old) (viewed_buffer (viewed view.now) self.old)))
+            (entries_seen c (viewed_parts (view_name view.now) self.old) (viewed_buffer (view_name view.now) self.old)))
             found
             → (leaves : ℕ)
-            → AreNearLeaves D at.now.c (bound_of k found) (heads_of (viewed_parts (viewed view.now) self.old)) leaves
+            → AreNearLeaves D at.now.c (bound_of k found) (heads_of (viewed_parts (view_name view.now) self.old)) leaves
             → F.reads folder.new ≤ F.reads folder.old + leaves }
         // what an error says
         ensures cause { HasPageCause (F.faults folder.old) (F.faults folder.new) result }
         ensures whole { IsTrue F.told → (i : Index) → Sees D (F.files folder.old) self.old i → NotDamaged result }
-        ensures shown { OnDamage result (IsPartDamage D (viewed_parts (viewed view.now) self.old)) }
+        ensures shown { OnDamage result (IsPartDamage D (viewed_parts (view_name view.now) self.old)) }
         ensures damage { IsTrue F.told → Agrees (F.files folder.old) self.old.cache
             → OnDamage result (IsLeafDamageOf (F.files folder.old)) }
         ensures evident { OnDamage result
@@ -140,15 +140,15 @@ impl<const D: usize> SegmentSet<D> {
 
     /// What a visit of the view costs at most for this shape. It reads nothing and takes no memory.
     pub fn survey<S: Shape<D>>(&self, view: &View, shape: &mut S) -> Tally
-        requires { HasView (viewed view.now) self.now }
+        requires { HasView (view_name view.now) self.now }
         ensures tested { AreTested D (S.crosses shape.old)
-            (heads_of (viewed_parts (viewed view.now) self.now)) result.tested }
+            (heads_of (viewed_parts (view_name view.now) self.now)) result.tested }
         ensures touched { AreTouched D (S.has shape.old) (S.crosses shape.old)
-            (heads_of (viewed_parts (viewed view.now) self.now)) result.touched }
-        ensures leaves { result.leaves ≡ leaves_in (heads_of (viewed_parts (viewed view.now) self.now)) }
+            (heads_of (viewed_parts (view_name view.now) self.now)) result.touched }
+        ensures leaves { result.leaves ≡ leaves_in (heads_of (viewed_parts (view_name view.now) self.now)) }
         ensures tests { S.tests shape.new ≡ S.tests shape.old }
         ensures compares { S.compares shape.new ≤ S.compares shape.old + leaves_in
-            (heads_of (viewed_parts (viewed view.now) self.now)) }
+            (heads_of (viewed_parts (view_name view.now) self.now)) }
         ensures has { S.has shape.new ≡ S.has shape.old }
         ensures crosses { S.crosses shape.new ≡ S.crosses shape.old }
     {
@@ -160,8 +160,8 @@ impl<const D: usize> SegmentSet<D> {
     /// where there is none.
     /// It reads nothing and takes no memory.
     pub fn survey_near(&self, view: &View, at: &Point<D>, bound: Option<u128>) -> u64
-        requires { HasView (viewed view.now) self.now }
-        ensures { AreNearLeaves D at.now.c bound (heads_of (viewed_parts (viewed view.now) self.now)) result }
+        requires { HasView (view_name view.now) self.now }
+        ensures { AreNearLeaves D at.now.c bound (heads_of (viewed_parts (view_name view.now) self.now)) result }
     {
         let segments = segments_of(&self.segments, self.snapshots.as_slice(), view);
         segment_view::survey_near(segments, at, bound)
@@ -176,8 +176,8 @@ fn segments_of<'a, const D: usize>(
     snapshots: &'a [Snapshot<D>],
     view: &View,
 ) -> &'a Segments<D>
-    requires { IsThere (viewed view.now) snapshots.now }
-    ensures { result.now ≡ parts_at (viewed view.now) segments.now snapshots.now }
+    requires { IsThere (view_name view.now) snapshots.now }
+    ensures { result.now ≡ parts_at (view_name view.now) segments.now snapshots.now }
 {
     match view {
         View::Now => segments,
@@ -193,7 +193,7 @@ fn settle_for<const D: usize>(buffer: &mut Buffer<D>, view: &View)
     requires dims { D ≤ 8 }
     ensures items { buffer.new.items ≡ buffer.old.items }
     ensures next { buffer.new.next ≡ buffer.old.next }
-    ensures settled { viewed view.now ≡ None → buffer.new.gone ≡ 0 }
+    ensures settled { view_name view.now ≡ None → buffer.new.gone ≡ 0 }
 {
     if let View::Now = view {
         buffer.settle();
@@ -207,10 +207,10 @@ fn view_of<'a, const D: usize>(
     snapshots: &'a [Snapshot<D>],
     view: &View,
 ) -> (&'a Segments<D>, &'a [Entry<D>])
-    requires there { IsThere (viewed view.now) snapshots.now }
-    requires settled { viewed view.now ≡ None → buffer.now.gone ≡ 0 }
-    ensures segments { result.0.now ≡ parts_at (viewed view.now) segments.now snapshots.now }
-    ensures buffer { items_of result.1.now ≡ buffer_at (viewed view.now) buffer.now.items snapshots.now }
+    requires there { IsThere (view_name view.now) snapshots.now }
+    requires settled { view_name view.now ≡ None → buffer.now.gone ≡ 0 }
+    ensures segments { result.0.now ≡ parts_at (view_name view.now) segments.now snapshots.now }
+    ensures buffer { items_of result.1.now ≡ buffer_at (view_name view.now) buffer.now.items snapshots.now }
 {
     match view {
         View::Now => (segments, buffer.as_slice()),

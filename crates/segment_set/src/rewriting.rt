@@ -14,14 +14,14 @@ ghost use Rattle.page_cache.specs.Cache.{Agrees, KeepsFile};
 ghost use Rattle.page_cache.specs.Causes.{HasPageCause};
 ghost use Rattle.page_cache.specs.Evidence.{OnDamage, NotDamaged};
 ghost use Rattle.page_cache.specs.declared.faults.PageFault.TheVariants as fault;
-ghost use Rattle.segment_view.specs.Parts.{Contents, AreRead, ids_of, live_in_parts, parts_among};
+ghost use Rattle.segment_view.specs.LiveSegments.{Contents, AreRead, ids_of, live_in_parts, parts_among};
 ghost use Rattle.segment_view.specs.Calm.{IsCalm};
 ghost use Rattle.document_checks.specs.Crowded.{AreFew, AreUncrowded};
 ghost use Rattle.segment_build.specs.NewSegments.{NewSegmentData, HasEntries};
 ghost use Rattle.file_names.specs.Names.{NameList, is_named};
 ghost use Rattle.segment_set.specs.Sets.{AreAlone, IsNamed};
 ghost use Rattle.segment_set.specs.Kept.{KeepsNamed};
-ghost use Rattle.segment_set.specs.Merges.{IsGathered, IsMerged, IsPut, IsSpilled, MakesLive, Replaces, living};
+ghost use Rattle.segment_set.specs.Merges.{IsGathered, IsMerged, Swaps, IsSpilled, MakesLive, Replaces, living};
 ghost use Rattle.segment_set.specs.Damages.{IsDoubt, IsMergeDamage, IsMergeDamageOf};
 ghost use Rattle.index_opening.specs.Evidence.{IsEvidentIn};
 ghost use Rattle.segment_set.specs.Faithful.{HasFileHead};
@@ -139,7 +139,7 @@ pub(crate) fn gathered<const D: usize, R: Threads + Sync, F: Pages, G: Gate>(
 }
 
 /// Writes a segment under a new name, and puts it in place of the segments of these ids. A refusal leaves the segments.
-fn put<const D: usize, F: Folder>(
+fn swap<const D: usize, F: Folder>(
     alloc: Global,
     folder: &mut F,
     names: &mut FileNames,
@@ -151,7 +151,7 @@ fn put<const D: usize, F: Folder>(
     requires named { All (IsNamed names.old) segments.old }
     requires among { (id : ℕ) → is_among ids.now id ≡ true → is_named names.old.names (Segment id) ≡ true }
     ensures put { OnOk result
-        (IsPut D (IsTrue F.told) names.old names.new (F.files folder.new) ids.now new.now segments.old segments.new) }
+        (Swaps D (IsTrue F.told) names.old names.new (F.files folder.new) ids.now new.now segments.old segments.new) }
     ensures refused { OnErr result (segments.new ≡ segments.old) }
     ensures kept { KeepsNamed (IsTrue F.told) names.old names.new (F.files folder.old) (F.files folder.new) }
     ensures reads { F.reads folder.new ≡ F.reads folder.old }
@@ -190,7 +190,7 @@ pub(crate) fn replace<const D: usize, F: Folder>(
     ensures whole { NotDamaged result }
 {
     match built {
-        Some(new) if new.live().live_count() > 0 => put(alloc, folder, names, segments, new, ids),
+        Some(new) if new.live().live_count() > 0 => swap(alloc, folder, names, segments, new, ids),
         _ => {
             segments.remove(ids);
             Ok(())
@@ -276,7 +276,7 @@ pub(crate) fn write_buffer<const D: usize, R: Threads + Sync, F: Folder, G: Gate
     // a build leaves its entries in another order
     let mut copy = Vec::from_slice(alloc, buffer.as_slice())?;
     let new = build_segment(rt, alloc, copy.as_mut_slice(), plan.leaf, plan.forks, gate)?;
-    put(alloc, folder, names, segments, &new, &[])?;
+    swap(alloc, folder, names, segments, &new, &[])?;
     buffer.clear();
     Ok(())
 }

@@ -16,7 +16,7 @@ ghost use Rattle.merge_policy.specs.Choice.{free_count};
 ghost use Rattle.stored_index.specs.Kept.{ListsFile};
 ghost use Rattle.stored_index.specs.Stored.{IsStored};
 ghost use Rattle.index_model.specs.State.{Index, at_rest};
-ghost use Rattle.segment_view.specs.Parts.{Contents, AreRead, ids_of, live_in_parts, part_of};
+ghost use Rattle.segment_view.specs.LiveSegments.{Contents, AreRead, ids_of, live_in_parts, live_segment};
 ghost use Rattle.file_names.specs.Names.{is_named};
 ghost use Rattle.segment_set.specs.Sets.{IsNamed};
 ghost use Rattle.segment_set.specs.Kept.{KeepsNamed};
@@ -39,7 +39,7 @@ impl<const D: usize> SegmentSet<D> {
     ghost use Rattle.segment_set.specs.Sets.{IsSettled, IsWell, pins_of, sizes_of};
     ghost use Rattle.segment_set.specs.Seen.{Sees};
     ghost use Rattle.segment_set.specs.Kept.{AreCanonical, Follows, IsAsBefore, IsCommitOf, StaysAlone};
-    ghost use Rattle.segment_set.specs.Settles.{Flushes, IsLeft, Moment, moment};
+    ghost use Rattle.segment_set.specs.Settles.{Flushes, IsLeft, SetMoment, moment};
     ghost use Rattle.segment_set.specs.Damages.{IsDoubt, IsMergeDamage, IsMergeDamageOf};
     ghost use Rattle.segment_set.specs.Faithful.{IsFaithful};
     ghost use Rattle.index_opening.specs.Evidence.{IsEvidentIn};
@@ -70,7 +70,7 @@ impl<const D: usize> SegmentSet<D> {
             → ((m : FileName) → ListsFile c m → files m ≡ F.files folder.new m) → IsStored files (Some (at_rest i))) }
         // what is done, and after a fault what was done before: merges of the policy and a flush, each whole
         ensures flushed { IfOk result
-            (λ c. (s : Moment) × Flushes D (IsTrue F.told) (moment (F.files folder.old) self.old) s
+            (λ c. (s : SetMoment) × Flushes D (IsTrue F.told) (moment (F.files folder.old) self.old) s
             × StaysButSaved s.set self.new × All (HasNextGeneration s.set.names) c.listed) }
         ensures left { OnErr result
             (IsLeft (Flushes D (IsTrue F.told) (moment (F.files folder.old) self.old)) self.new) }
@@ -177,7 +177,7 @@ fn write_one<const D: usize, F: Folder>(
     ensures kept { KeepsNamed (IsTrue F.told) names.old names.new (F.files folder.old) (F.files folder.new) }
     ensures next { names.new.next_segment ≡ names.old.next_segment }
     ensures listed { IfOk result
-        (λ l. IsSaved (IsTrue F.told) names.old names.new (F.files folder.new) l (part_of head.now live.now)) }
+        (λ l. IsSaved (IsTrue F.told) names.old names.new (F.files folder.new) l (live_segment head.now live.now)) }
     ensures joined { IfOk result (λ l. names.new.names ≡ names.old.names ++ Live l.segment l.generation ∷ []) }
     ensures reads { F.reads folder.new ≡ F.reads folder.old }
     ensures cause { HasPageCause (F.faults folder.old) (F.faults folder.new) result }

@@ -12,7 +12,7 @@ ghost use Rattle.commit_list.specs.Commits.{CommitData};
 ghost use Rattle.documents.specs.Entries.{is_among};
 ghost use Rattle.stored_index.specs.Kept.{ListsFile};
 ghost use Rattle.index_model.specs.State.{Index};
-ghost use Rattle.segment_view.specs.Parts.{ids_of};
+ghost use Rattle.segment_view.specs.LiveSegments.{ids_of};
 ghost use Rattle.file_names.specs.Names.{is_named};
 
 use crate::set::SegmentSet;

@@ -11,9 +11,10 @@ use Rattle.std.proofs.lemmas.List.Filters.{length-filter_both}
 use Rattle.std.proofs.lemmas.List.Folds.{list_any_more}
 use Rattle.std.proofs.lemmas.List.Kept.{IsStrictlyIncreasing-filter}
 use Rattle.documents.specs.Entries.{is_among}
-use Rattle.live_bits.specs.LiveSet.{LiveSet, is_live, without}
+use Rattle.live_bits.specs.LiveSet.{LiveSet, is_live, live_set_without}
 use Rattle.segment_file.specs.Heads.{Head}
-use Rattle.segment_view.specs.Parts.{Part, part_of, parts_of, heads_of, lives_of, ids_of, cleared, has_live, parts_but, IsPlaced, AreInStep}
+use Rattle.segment_view.specs.LiveSegments.{LiveSegment, live_segment, parts_of, heads_of, lives_of, ids_of}
+use Rattle.segment_view.specs.LiveSegments.{cleared_parts, has_live, parts_but, IsPlaced, AreInStep}
 use Rattle.segment_view.proofs.Ascending.{ids_ascend}
 
 pub heads_parts : (heads : List Head) (lives : List LiveSet) → length lives ≡ length heads → heads_of (parts_of heads lives) ≡ heads
@@ -27,7 +28,7 @@ lives_parts [] (l ∷ ls) e = absurd (omega (arith, e))
 lives_parts (h ∷ hs) [] e = absurd (omega (arith, e))
 lives_parts (h ∷ hs) (l ∷ ls) e = ap (λ zs. l ∷ zs) (lives_parts hs ls (omega (arith, e)))
 
-pub ids_heads : (parts : List Part) → ids_of parts ≡ map (λ h. h.id) (heads_of parts)
+pub ids_heads : (parts : List LiveSegment) → ids_of parts ≡ map (λ h. h.id) (heads_of parts)
 ids_heads [] = refl
 ids_heads (p ∷ ps) = ap (λ zs. p.head.id ∷ zs) (ids_heads ps)
 
@@ -39,7 +40,7 @@ length_parts [] lives e = refl
 length_parts (h ∷ hs) [] e = absurd (omega (arith, e))
 length_parts (h ∷ hs) (l ∷ ls) e = let r = length_parts hs ls (omega (arith, e)) in omega (arith, r)
 
-pub parts_again : (parts : List Part) → parts_of (heads_of parts) (lives_of parts) ≡ parts
+pub parts_again : (parts : List LiveSegment) → parts_of (heads_of parts) (lives_of parts) ≡ parts
 parts_again [] = refl
 parts_again (p ∷ ps) = ap (λ zs. p ∷ zs) (parts_again ps)
 
@@ -48,7 +49,7 @@ pub parts-append : (heads more : List Head) (lives others : List LiveSet) → le
 parts-append [] more [] others e = refl
 parts-append [] more (l ∷ ls) others e = absurd (omega (arith, e))
 parts-append (h ∷ hs) more [] others e = absurd (omega (arith, e))
-parts-append (h ∷ hs) more (l ∷ ls) others e = ap (λ zs. part_of h l ∷ zs) (parts-append hs more ls others (omega (arith, e)))
+parts-append (h ∷ hs) more (l ∷ ls) others e = ap (λ zs. live_segment h l ∷ zs) (parts-append hs more ls others (omega (arith, e)))
 
 pub parts-take : (n : ℕ) (heads : List Head) (lives : List LiveSet) → length lives ≡ length heads
     → parts_of (take n heads) (take n lives) ≡ take n (parts_of heads lives)
@@ -56,7 +57,7 @@ parts-take zero heads lives e = refl
 parts-take (suc n) [] [] e = refl
 parts-take (suc n) [] (l ∷ ls) e = absurd (omega (arith, e))
 parts-take (suc n) (h ∷ hs) [] e = absurd (omega (arith, e))
-parts-take (suc n) (h ∷ hs) (l ∷ ls) e = ap (λ zs. part_of h l ∷ zs) (parts-take n hs ls (omega (arith, e)))
+parts-take (suc n) (h ∷ hs) (l ∷ ls) e = ap (λ zs. live_segment h l ∷ zs) (parts-take n hs ls (omega (arith, e)))
 
 pub parts-drop : (n : ℕ) (heads : List Head) (lives : List LiveSet) → length lives ≡ length heads
     → parts_of (drop n heads) (drop n lives) ≡ drop n (parts_of heads lives)
@@ -68,35 +69,36 @@ parts-drop (suc n) (h ∷ hs) (l ∷ ls) e = parts-drop n hs ls (omega (arith, e
 
 -- what stands at a place
 pub parts-get : (heads : List Head) (lives : List LiveSet) (i : ℕ) (head : Head) (live : LiveSet) → length lives ≡ length heads → i < length heads
-    → head ≡ get_or heads i head → live ≡ get_or lives i live → slice_get (parts_of heads lives) i ≡ Some (part_of head live)
+    → head ≡ get_or heads i head → live ≡ get_or lives i live → slice_get (parts_of heads lives) i ≡ Some (live_segment head live)
 parts-get [] lives i head live e lt a b = absurd (omega (arith, lt))
 parts-get (h ∷ hs) [] i head live e lt a b = absurd (omega (arith, e))
-parts-get (h ∷ hs) (l ∷ ls) zero head live e lt a b = ap (λ (x : Head). Some (part_of x l)) (sym a) ∙ ap (λ (x : LiveSet). Some (part_of head x)) (sym b)
+parts-get (h ∷ hs) (l ∷ ls) zero head live e lt a b =
+    ap (λ (x : Head). Some (live_segment x l)) (sym a) ∙ ap (λ (x : LiveSet). Some (live_segment head x)) (sym b)
 parts-get (h ∷ hs) (l ∷ ls) (suc i) head live e lt a b = parts-get hs ls i head live (omega (arith, e)) (omega (arith, lt)) a b
 
 lengths : {X Y : Type 0} (n : ℕ) (xs : List X) (ys : List Y) → length ys ≡ length xs → length (take n ys) ≡ length (take n xs)
 lengths n xs ys e = length-take n ys ∙ ap (min n) e ∙ sym (length-take n xs)
 
 pub parts-insert : (heads : List Head) (lives : List LiveSet) (i : ℕ) (head : Head) (live : LiveSet) → length lives ≡ length heads
-    → parts_of (insert heads i head) (insert lives i live) ≡ insert (parts_of heads lives) i (part_of head live)
+    → parts_of (insert heads i head) (insert lives i live) ≡ insert (parts_of heads lives) i (live_segment head live)
 parts-insert heads lives i head live e =
     parts-append (take i heads) (head ∷ drop i heads) (take i lives) (live ∷ drop i lives) (lengths i heads lives e)
-    ∙ ap (λ (zs : List Part). zs ++ part_of head live ∷ parts_of (drop i heads) (drop i lives)) (parts-take i heads lives e)
-    ∙ ap (λ (zs : List Part). take i (parts_of heads lives) ++ part_of head live ∷ zs) (parts-drop i heads lives e)
+    ∙ ap (λ (zs : List LiveSegment). zs ++ live_segment head live ∷ parts_of (drop i heads) (drop i lives)) (parts-take i heads lives e)
+    ∙ ap (λ (zs : List LiveSegment). take i (parts_of heads lives) ++ live_segment head live ∷ zs) (parts-drop i heads lives e)
 
 pub parts-remove : (heads : List Head) (lives : List LiveSet) (i : ℕ) → length lives ≡ length heads
     → parts_of (remove heads i) (remove lives i) ≡ remove (parts_of heads lives) i
 parts-remove heads lives i e =
     parts-append (take i heads) (drop (suc i) heads) (take i lives) (drop (suc i) lives) (lengths i heads lives e)
-    ∙ ap (λ (zs : List Part). zs ++ parts_of (drop (suc i) heads) (drop (suc i) lives)) (parts-take i heads lives e)
-    ∙ ap (λ (zs : List Part). take i (parts_of heads lives) ++ zs) (parts-drop (suc i) heads lives e)
+    ∙ ap (λ (zs : List LiveSegment). zs ++ parts_of (drop (suc i) heads) (drop (suc i) lives)) (parts-take i heads lives e)
+    ∙ ap (λ (zs : List LiveSegment). take i (parts_of heads lives) ++ zs) (parts-drop (suc i) heads lives e)
 
 -- the live sets changed in place
 pub parts-without : (number : ℕ) (heads : List Head) (lives : List LiveSet)
-    → parts_of heads (map (without number) lives) ≡ cleared number (parts_of heads lives)
+    → parts_of heads (map (live_set_without number) lives) ≡ cleared_parts number (parts_of heads lives)
 parts-without number [] lives = refl
 parts-without number (h ∷ hs) [] = refl
-parts-without number (h ∷ hs) (l ∷ ls) = ap (λ zs. part_of h (without number l) ∷ zs) (parts-without number hs ls)
+parts-without number (h ∷ hs) (l ∷ ls) = ap (λ zs. live_segment h (live_set_without number l) ∷ zs) (parts-without number hs ls)
 
 pub live_parts : (number : ℕ) (heads : List Head) (lives : List LiveSet) → length lives ≡ length heads
     → list_any (λ (s : LiveSet). is_live s number) lives ≡ has_live number (parts_of heads lives)
@@ -106,7 +108,7 @@ live_parts number (h ∷ hs) [] e = absurd (omega (arith, e))
 live_parts number (h ∷ hs) (l ∷ ls) e = ap (λ b. is_live l number || b) (live_parts number hs ls (omega (arith, e)))
 
 pub entries_parts : (heads : List Head) (lives : List LiveSet) → length lives ≡ length heads
-    → map (λ (h : Head). h.entries) heads ≡ map (λ (p : Part). p.head.entries) (parts_of heads lives)
+    → map (λ (h : Head). h.entries) heads ≡ map (λ (p : LiveSegment). p.head.entries) (parts_of heads lives)
 entries_parts [] lives e = refl
 entries_parts (h ∷ hs) [] e = absurd (omega (arith, e))
 entries_parts (h ∷ hs) (l ∷ ls) e = ap (λ ns. h.entries ∷ ns) (entries_parts hs ls (omega (arith, e)))
@@ -133,7 +135,7 @@ in_step-insert D heads lives i head live a room within below above =
     }
 
 pub placed-insert : (heads : List Head) (lives : List LiveSet) (i : ℕ) (head : Head) (live : LiveSet) → length lives ≡ length heads
-    → IsPlaced (part_of head live) (parts_of heads lives) (parts_of (insert heads i head) (insert lives i live))
+    → IsPlaced (live_segment head live) (parts_of heads lives) (parts_of (insert heads i head) (insert lives i live))
 placed-insert heads lives i head live e = record {
   front = take i (parts_of heads lives);
   back = drop i (parts_of heads lives);
@@ -153,12 +155,12 @@ in_step_put D heads seen put lives sets place number head live a same is room wi
     (subst (λ (hs : List Head). All (λ h. h.id < head.id) (take place hs)) same (subst (λ n. All (λ h. h.id < n) (take place seen)) is below))
     (subst (λ (hs : List Head). All (λ h. head.id < h.id) (drop place hs)) same (subst (λ n. All (λ h. n < h.id) (drop place seen)) is above))))
 
-pub placed_put : (heads put : List Head) (lives sets : List LiveSet) (parts : List Part) (place : ℕ) (head : Head) (live : LiveSet)
+pub placed_put : (heads put : List Head) (lives sets : List LiveSet) (parts : List LiveSegment) (place : ℕ) (head : Head) (live : LiveSet)
     → length lives ≡ length heads → parts_of heads lives ≡ parts
-    → put ≡ insert heads place head → sets ≡ insert lives place live → IsPlaced (part_of head live) parts (parts_of put sets)
+    → put ≡ insert heads place head → sets ≡ insert lives place live → IsPlaced (live_segment head live) parts (parts_of put sets)
 placed_put heads put lives sets parts place head live same is heads_put lives_put =
-    subst (λ (ps : List Part). IsPlaced (part_of head live) ps (parts_of put sets)) is
-    (subst (λ (ps : List Part). IsPlaced (part_of head live) (parts_of heads lives) ps)
+    subst (λ (ps : List LiveSegment). IsPlaced (live_segment head live) ps (parts_of put sets)) is
+    (subst (λ (ps : List LiveSegment). IsPlaced (live_segment head live) (parts_of heads lives) ps)
     (ap (λ (hs : List Head). parts_of hs (insert lives place live)) (sym heads_put) ∙ ap (parts_of put) (sym lives_put))
     (placed-insert heads lives place head live same))
 
@@ -167,7 +169,7 @@ ids_in_step D heads lives a = subst IsStrictlyIncreasing (sym (ids_parts heads l
 
 -- ---- segments go
 
-ids-but : (ids : List ℕ) (parts : List Part) → ids_of (parts_but ids parts) ≡ filter (λ n. not (is_among ids n)) (ids_of parts)
+ids-but : (ids : List ℕ) (parts : List LiveSegment) → ids_of (parts_but ids parts) ≡ filter (λ n. not (is_among ids n)) (ids_of parts)
 ids-but ids [] = refl
 ids-but ids (p ∷ ps) = by (is_among ids p.head.id) (ids-but ids ps)
   where
@@ -184,25 +186,28 @@ in_step_but D ids heads kept lives sets a same is =
     let up : IsStrictlyIncreasing (ids_of (parts_but ids (parts_of heads lives))) =
     subst IsStrictlyIncreasing (sym (ids-but ids (parts_of heads lives)))
     (IsStrictlyIncreasing-filter (λ n. not (is_among ids n)) (ids_of (parts_of heads lives)) (ids_in_step D heads lives a)) in
-    let fewer = length-filter_both (λ (p : Part). is_among ids p.head.id) (λ (p : Part). not (is_among ids p.head.id)) (λ p. refl) (parts_of heads lives) in
+    let fewer = length-filter_both (λ (p : LiveSegment). is_among ids p.head.id) (λ (p : LiveSegment). not (is_among ids p.head.id)) (λ p. refl)
+        (parts_of heads lives) in
     let left = sym (length_parts kept sets same) ∙ ap length is in
     record {
       few_dims = a.few_dims;
       same = same;
-      ascend = subst IsStrictlyIncreasing (ids_parts kept sets same) (subst (λ (ps : List Part). IsStrictlyIncreasing (ids_of ps)) (sym is) up);
+      ascend = subst IsStrictlyIncreasing (ids_parts kept sets same) (subst (λ (ps : List LiveSegment). IsStrictlyIncreasing (ids_of ps)) (sym is) up);
       few = omega (arith, fewer, left, length_parts heads lives a.same, a.few);
     }
 
 -- ---- a number taken out of one set after another
 
 pub cleared_more : (number : ℕ) (sets now : List LiveSet) (i : ℕ) (set : LiveSet) (was : Bool) → i < length sets
-    → now ≡ map (without number) (take i sets) ++ drop i sets → set ≡ get_or now i set
+    → now ≡ map (live_set_without number) (take i sets) ++ drop i sets → set ≡ get_or now i set
     → was ≡ list_any (λ s. is_live s number) (take i sets) → (was || is_live set number) ≡ list_any (λ s. is_live s number) (take (i + 1) sets)
 cleared_more number sets now i set was within is read so_far =
-    let front : length (map (without number) (take i sets)) ≡ i = length-map (take i sets) (without number) ∙ length-take-le i sets (omega (arith, within)) in
+    let front : length (map (live_set_without number) (take i sets)) ≡ i =
+        length-map (take i sets) (live_set_without number) ∙ length-take-le i sets (omega (arith, within)) in
     let same : set ≡ get_or sets i set =
-    read ∙ ap (λ (xs : List LiveSet). get_or xs i set) (is ∙ ap (λ (xs : List LiveSet). map (without number) (take i sets) ++ xs) (drop_more sets i set within))
-    ∙ get_or_at (map (without number) (take i sets)) (get_or sets i set) (drop (i + 1) sets) set i front in
+    read ∙ ap (λ (xs : List LiveSet). get_or xs i set)
+        (is ∙ ap (λ (xs : List LiveSet). map (live_set_without number) (take i sets) ++ xs) (drop_more sets i set within))
+    ∙ get_or_at (map (live_set_without number) (take i sets)) (get_or sets i set) (drop (i + 1) sets) set i front in
     ap (λ b. b || is_live set number) so_far
     ∙ ap (λ s. list_any (λ (t : LiveSet). is_live t number) (take i sets) || is_live s number) same
     ∙ sym (list_any_more (λ (t : LiveSet). is_live t number) sets i set within)

@@ -9,7 +9,7 @@ use Rattle.cell_relate.specs.Relations.{is_outside}
 use Rattle.inner_pack.specs.Trees.{IndexTree, Leaf, Split, leaf_count}
 use Rattle.inner_pack.specs.Bodies.{Body, HasTree, IsSpelled}
 use Rattle.segment_file.specs.Heads.{Head, HasRanges, count_of}
-use Rattle.bkd_reader.specs.Counts.{tested, touched}
+use Rattle.bkd_reader.specs.Counts.{tested_entries, touched_leaves}
 use Rattle.nearest_query.specs.Segments.{AreNearLeaves, near_leaves, is_within, least_dist2}
 use Rattle.segment_view.specs.Costs.{AreCounted}
 
@@ -59,7 +59,7 @@ same_by_tree D index seen e spelled a b f = ∥∥₁_elim spelled (hlevel props
 
 -- ---- no more than all leaves
 
-pub touched-le : (has : List ℤ → Bool) (crosses : Region → Bool) (t : IndexTree) → touched has crosses t ≤ leaf_count t
+pub touched-le : (has : List ℤ → Bool) (crosses : Region → Bool) (t : IndexTree) → touched_leaves has crosses t ≤ leaf_count t
 touched-le has crosses (Leaf len own) = by (is_outside has crosses own)
   where
     by : (b : Bool) → cond b 0 1 ≤ 1
@@ -68,7 +68,7 @@ touched-le has crosses (Leaf len own) = by (is_outside has crosses own)
 touched-le has crosses (Split d x l r) = omega (arith, touched-le has crosses l, touched-le has crosses r)
 
 pub tested-le : (crosses : Region → Bool) (count : ℕ → ℕ) (most : ℕ) → ((n : ℕ) → count n ≤ most) → (first : ℕ) (t : IndexTree)
-    → tested crosses count first t ≤ most * leaf_count t
+    → tested_entries crosses count first t ≤ most * leaf_count t
 tested-le crosses count most few first (Leaf len own) = by (crosses own)
   where
     by : (b : Bool) → cond b (count first) 0 ≤ most * 1

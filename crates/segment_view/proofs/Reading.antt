@@ -12,7 +12,7 @@ use Rattle.documents.specs.Entries.{is_among}
 use Rattle.documents.proofs.Lists.{cons_cases, cons_head, in_filter, in_map, nil_none, of_filter}
 use Rattle.nearest_query.specs.Segments.{HasId}
 use Rattle.nearest_query.proofs.Parts.{on_damage}
-use Rattle.segment_view.specs.Parts.{Part, heads_of, ids_of, parts_among}
+use Rattle.segment_view.specs.LiveSegments.{LiveSegment, heads_of, ids_of, parts_among}
 use Rattle.segment_view.specs.Calm.{IsCalm}
 use Rattle.segment_view.specs.Damages.{IsPartDamage}
 use Rattle.segment_view.proofs.Beside.{ids_heads}
@@ -42,30 +42,30 @@ agrees_after told old new before after ids a t h = subst (λ f. Agrees f after) 
 
 -- ---- a segment of a list
 
-pub id_in : (parts : List Part) (p : Part) → Contains parts p → (id : ℕ) → Contains (p.head.id ∷ []) id → Contains (ids_of parts) id
+pub id_in : (parts : List LiveSegment) (p : LiveSegment) → Contains parts p → (id : ℕ) → Contains (p.head.id ∷ []) id → Contains (ids_of parts) id
 id_in parts p there id h = ⊎_elim
-    (λ e. subst (Contains (ids_of parts)) e (in_map (λ (q : Part). q.head.id) parts p there))
+    (λ e. subst (Contains (ids_of parts)) e (in_map (λ (q : LiveSegment). q.head.id) parts p there))
     (λ k. nil_none id (Contains (ids_of parts) id) k)
     (cons_cases p.head.id [] id h)
 
 -- the segment's id, where it is among some, is among those of the list
-pub among_in : (ids : List ℕ) (parts : List Part) (p : Part) → Contains parts p → (id : ℕ) → Contains (ids_of (parts_among ids (p ∷ []))) id
+pub among_in : (ids : List ℕ) (parts : List LiveSegment) (p : LiveSegment) → Contains parts p → (id : ℕ) → Contains (ids_of (parts_among ids (p ∷ []))) id
     → Contains (ids_of (parts_among ids parts)) id
 among_in ids parts p there id h = by (is_among ids p.head.id) refl h
   where
     by : (b : Bool) → is_among ids p.head.id ≡ b → Contains (ids_of (cond b (p ∷ []) [])) id → Contains (ids_of (parts_among ids parts)) id
-    by true e k = id_in (parts_among ids parts) p (in_filter (λ (q : Part). is_among ids q.head.id) parts p there e) id k
+    by true e k = id_in (parts_among ids parts) p (in_filter (λ (q : LiveSegment). is_among ids q.head.id) parts p there e) id k
     by false e k = nil_none id (Contains (ids_of (parts_among ids parts)) id) k
 
 -- told by ids, as the nearest query tells it by heads
-pub id_of : (parts : List Part) (id : ℕ) → HasId (heads_of parts) id → Contains (ids_of parts) id
+pub id_of : (parts : List LiveSegment) (id : ℕ) → HasId (heads_of parts) id → Contains (ids_of parts) id
 id_of parts id h =
     subst (Contains (ids_of parts)) h.2
     (subst (λ (ns : List ℕ). Contains ns h.0.id) (sym (ids_heads parts)) (in_map (λ (x : Head). x.id) (heads_of parts) h.0 h.1))
 
 -- ---- one segment, whose id is among some
 
-pub among_one : (ids : List ℕ) (p : Part) → is_among ids p.head.id ≡ true → parts_among ids (p ∷ []) ≡ p ∷ []
+pub among_one : (ids : List ℕ) (p : LiveSegment) → is_among ids p.head.id ≡ true → parts_among ids (p ∷ []) ≡ p ∷ []
 among_one ids p e = ap (λ b. cond b (p ∷ []) []) e
 
 -- what a walk over its file keeps to
@@ -81,13 +81,13 @@ calm_alone told old new before after id files agrees others = record {
 -- ---- damages
 
 -- a damage of a segment, where its id is among some, is one of those of the list
-pub part_among : {T : Type 0} (D : ℕ) (ids : List ℕ) (parts : List Part) (p : Part) → Contains parts p → (r : Result T PageFault)
+pub part_among : {T : Type 0} (D : ℕ) (ids : List ℕ) (parts : List LiveSegment) (p : LiveSegment) → Contains parts p → (r : Result T PageFault)
     → OnDamage r (IsPartDamage D (parts_among ids (p ∷ []))) → OnDamage r (IsPartDamage D (parts_among ids parts))
 part_among D ids parts p there r =
     on_damage (IsPartDamage D (parts_among ids (p ∷ []))) (IsPartDamage D (parts_among ids parts)) r (λ d h. (h.0, here h.0 h.1, h.2))
   where
-    here : (q : Part) → Contains (parts_among ids (p ∷ [])) q → Contains (parts_among ids parts) q
+    here : (q : LiveSegment) → Contains (parts_among ids (p ∷ [])) q → Contains (parts_among ids parts) q
     here q is =
-        let of = of_filter (λ (x : Part). is_among ids x.head.id) (p ∷ []) q is in
-        in_filter (λ (x : Part). is_among ids x.head.id) parts q
+        let of = of_filter (λ (x : LiveSegment). is_among ids x.head.id) (p ∷ []) q is in
+        in_filter (λ (x : LiveSegment). is_among ids x.head.id) parts q
         (⊎_elim (λ e. subst (Contains parts) e there) (λ k. nil_none q (Contains parts q) k) (cons_cases p [] q of.0)) of.1

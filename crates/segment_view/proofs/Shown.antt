@@ -24,7 +24,7 @@ use Rattle.documents.specs.Entries.{is_among}
 use Rattle.documents.proofs.Kept.{among_from, among_to}
 use Rattle.documents.proofs.Lists.{cons_cases, in_map, nil_none, of_map, pairs_head, pairs_tail}
 use Rattle.nearest_query.specs.Segments.{HaveTrees, IsSegmentDamage, no_head}
-use Rattle.segment_view.specs.Parts.{Part, heads_of, ids_of}
+use Rattle.segment_view.specs.LiveSegments.{LiveSegment, heads_of, ids_of}
 use Rattle.segment_view.specs.Damages.{IsReadDamage, IsPartDamage}
 
 -- ---- of one segment
@@ -46,18 +46,19 @@ head_seen D head seen ranges e spelled = ∥∥₁_map spelled (λ q. record { r
 -- ---- one segment of a list
 
 -- segments of one id are one, where the ids ascend
-same_part : (parts : List Part) (p q : Part) → AllPairs (λ m n. m < n) (ids_of parts) → Contains parts p → Contains parts q → p.head.id ≡ q.head.id → p ≡ q
+same_part : (parts : List LiveSegment) (p q : LiveSegment) → AllPairs (λ m n. m < n) (ids_of parts) → Contains parts p → Contains parts q
+    → p.head.id ≡ q.head.id → p ≡ q
 same_part [] p q up a b e = nil_none p (p ≡ q) a
 same_part (x ∷ xs) p q up a b e =
     by (λ here there. same_part xs p q (pairs_tail (λ m n. m < n) x.head.id (ids_of xs) up) here there e) (cons_cases x xs p a) (cons_cases x xs q b)
   where
-    above : (r : Part) → Contains xs r → x.head.id < r.head.id
-    above r there = pairs_head (λ m n. m < n) x.head.id (ids_of xs) up r.head.id (in_map (λ (s : Part). s.head.id) xs r there)
+    above : (r : LiveSegment) → Contains xs r → x.head.id < r.head.id
+    above r there = pairs_head (λ m n. m < n) x.head.id (ids_of xs) up r.head.id (in_map (λ (s : LiveSegment). s.head.id) xs r there)
 
     by : (Contains xs p → Contains xs q → p ≡ q) → (x ≡ p) ⊎ Contains xs p → (x ≡ q) ⊎ Contains xs q → p ≡ q
     by rest (inl here) (inl there) = sym here ∙ there
-    by rest (inl here) (inr there) = absurd (omega (arith, above q there, ap (λ (s : Part). s.head.id) here, e))
-    by rest (inr here) (inl there) = absurd (omega (arith, above p here, ap (λ (s : Part). s.head.id) there, e))
+    by rest (inl here) (inr there) = absurd (omega (arith, above q there, ap (λ (s : LiveSegment). s.head.id) here, e))
+    by rest (inr here) (inl there) = absurd (omega (arith, above p here, ap (λ (s : LiveSegment). s.head.id) there, e))
     by rest (inr here) (inr there) = rest here there
 
 -- the id of the segment whose file it is
@@ -93,16 +94,16 @@ read_names : (D : ℕ) (head : Head) (d : Damage) → IsReadDamage D head d → 
 read_names D head d h = ∥∥₁_elim h (hlevel props) (λ r. leaf_names D head r.tree d r.shows)
 
 -- where some segment has the damage, the one whose file it names has
-part_named : (D : ℕ) (parts : List Part) (d : Damage) → IsStrictlyIncreasing (ids_of parts) → ∥ IsPartDamage D parts d ∥₁ → IsPartDamage D parts d
+part_named : (D : ℕ) (parts : List LiveSegment) (d : Damage) → IsStrictlyIncreasing (ids_of parts) → ∥ IsPartDamage D parts d ∥₁ → IsPartDamage D parts d
 part_named D parts d up some =
     let among : is_among (ids_of parts) (id_named d) ≡ true = ∥∥₁_elim some (hlevel props) (λ s.
     among_from (ids_of parts) (id_named d)
-    (subst (Contains (ids_of parts)) (sym (read_names D s.0.head d s.2)) (in_map (λ (q : Part). q.head.id) parts s.0 s.1))) in
-    let p = of_map (λ (q : Part). q.head.id) parts (id_named d) (among_to (ids_of parts) (id_named d) among) in (
+    (subst (Contains (ids_of parts)) (sym (read_names D s.0.head d s.2)) (in_map (λ (q : LiveSegment). q.head.id) parts s.0 s.1))) in
+    let p = of_map (λ (q : LiveSegment). q.head.id) parts (id_named d) (among_to (ids_of parts) (id_named d) among) in (
       p.0,
       p.1,
       ∥∥₁_elim some ∥∥₁_prop (λ s.
-          subst (λ (q : Part). IsReadDamage D q.head d)
+          subst (λ (q : LiveSegment). IsReadDamage D q.head d)
           (same_part parts s.0 p.0 (AllPairs-from_increasing (ids_of parts) up) s.1 p.1 (sym (read_names D s.0.head d s.2) ∙ sym p.2)) s.2),
     )
 
@@ -128,10 +129,11 @@ some_trees D (head ∷ heads) all =
     (λ some. (tree_before is.spelled.tree some.0, before_have D head heads some.0 is.spelled some.1)))
 
 -- the segment at the place of a damage
-part_at : (D : ℕ) (parts : List Part) (trees : ℕ → IndexTree) (d : Damage) → All (λ h. ∥ IsHead D h ∥₁) (heads_of parts) → HaveTrees D (heads_of parts) trees
+part_at : (D : ℕ) (parts : List LiveSegment) (trees : ℕ → IndexTree) (d : Damage) → All (λ h. ∥ IsHead D h ∥₁) (heads_of parts)
+    → HaveTrees D (heads_of parts) trees
     → IsSegmentDamage D (heads_of parts) trees d → IsPartDamage D parts d
 part_at D parts trees d all have (i, within, leaf) =
-    let p = of_map (λ (q : Part). q.head) parts (get_or (heads_of parts) i no_head) (All-contains_itself (heads_of parts) i no_head within) in (
+    let p = of_map (λ (q : LiveSegment). q.head) parts (get_or (heads_of parts) i no_head) (All-contains_itself (heads_of parts) i no_head within) in (
       p.0,
       p.1,
       subst (λ (h : Head). IsReadDamage D h d) (sym p.2)
@@ -140,7 +142,7 @@ part_at D parts trees d all have (i, within, leaf) =
     )
 
 -- what is shown of trees of all segments is shown
-pub parts_shown : {T : Type 0} (D : ℕ) (parts : List Part) (r : Result T PageFault) → IsStrictlyIncreasing (ids_of parts)
+pub parts_shown : {T : Type 0} (D : ℕ) (parts : List LiveSegment) (r : Result T PageFault) → IsStrictlyIncreasing (ids_of parts)
     → All (λ h. ∥ IsHead D h ∥₁) (heads_of parts)
     → ((trees : ℕ → IndexTree) → HaveTrees D (heads_of parts) trees → OnDamage r (IsSegmentDamage D (heads_of parts) trees)) → OnDamage r (IsPartDamage D parts)
 parts_shown D parts (Ok v) up all shown = tt

@@ -4,7 +4,7 @@ use Rattle.point_codec.specs.Points.{Region}
 use Rattle.inner_pack.specs.Trees.{IndexTree}
 use Rattle.inner_pack.specs.Bodies.{HasTree}
 use Rattle.segment_file.specs.Heads.{Head, count_of}
-use Rattle.bkd_reader.specs.Counts.{tested, touched}
+use Rattle.bkd_reader.specs.Counts.{tested_entries, touched_leaves}
 
 -- all leaves
 abbrev pub leaves_in : List Head → ℕ
@@ -19,8 +19,8 @@ AreCounted D count (h ∷ hs) n =
 
 -- the entries, live or dead, of leaves whose own cell is crossed
 abbrev pub AreTested : (D : ℕ) → (crosses : Region → Bool) → List Head → ℕ → Type 0
-AreTested D crosses heads n = AreCounted D (λ h t. tested crosses (count_of h) 0 t) heads n
+AreTested D crosses heads n = AreCounted D (λ h t. tested_entries crosses (count_of h) 0 t) heads n
 
 -- the leaves whose own cell is not outside
 abbrev pub AreTouched : (D : ℕ) → (has : List ℤ → Bool) → (crosses : Region → Bool) → List Head → ℕ → Type 0
-AreTouched D has crosses heads n = AreCounted D (λ h t. touched has crosses t) heads n
+AreTouched D has crosses heads n = AreCounted D (λ h t. touched_leaves has crosses t) heads n

@@ -1,4 +1,4 @@
-pub mod Parts
+pub mod LiveSegments
 pub mod Held
 pub mod Costs
 pub mod Found

@@ -8,8 +8,9 @@ ghost use Rattle.page_cache.specs.Cache.{Agrees};
 ghost use Rattle.page_cache.specs.Causes.{HasPageCause};
 ghost use Rattle.page_cache.specs.Evidence.{OnDamage, NotDamaged};
 ghost use Rattle.segment_file.specs.Damages.{IsLeafDamageOf};
-ghost use Rattle.segment_view.specs.Parts.{Contents, IsRead, AreRead, part_of, heads_of, ids_of, live_in_parts};
-ghost use Rattle.segment_view.specs.Parts.{parts_among, has_live};
+ghost use Rattle.segment_view.specs.LiveSegments.{Contents, IsRead, AreRead, live_segment, heads_of, ids_of};
+ghost use Rattle.segment_view.specs.LiveSegments.{live_in_parts};
+ghost use Rattle.segment_view.specs.LiveSegments.{parts_among, has_live};
 ghost use Rattle.segment_view.specs.Held.{HasOwnHead, IsHeld, AreHeld};
 ghost use Rattle.segment_view.specs.Costs.{leaves_in};
 ghost use Rattle.segment_view.specs.Calm.{IsCalm};
@@ -76,29 +77,29 @@ fn gather_one<const D: usize, F: Pages>(
     entries: &mut Vec<Entry<D>>,
 ) -> Result<(), PageFault>
     ensures entries { IsTrue F.told → Agrees (F.files folder.old) cache.old → (c : Contents)
-        → IsRead D (F.files folder.old) c (part_of head.now live.now)
+        → IsRead D (F.files folder.old) c (live_segment head.now live.now)
         → OnOk result
         (items_of entries.new.items ≡ items_of entries.old.items ++ live_in_parts c
-        (parts_among ids.now (part_of head.now live.now ∷ []))) }
+        (parts_among ids.now (live_segment head.now live.now ∷ []))) }
     ensures held { IsTrue F.told → Agrees (F.files folder.old) cache.old
-        → HasOwnHead D (F.files folder.old) (part_of head.now live.now)
+        → HasOwnHead D (F.files folder.old) (live_segment head.now live.now)
         → OnOk result ((more : List Item) × (items_of entries.new.items ≡ items_of entries.old.items ++ more)
-        × AreHeld D (F.files folder.old) (parts_among ids.now (part_of head.now live.now ∷ [])) more) }
+        × AreHeld D (F.files folder.old) (parts_among ids.now (live_segment head.now live.now ∷ [])) more) }
     ensures live { OnOk result
         ((more : List Item) × (items_of entries.new.items ≡ items_of entries.old.items ++ more)
-        × All (λ x. has_live x.doc (parts_among ids.now (part_of head.now live.now ∷ [])) ≡ true) more) }
+        × All (λ x. has_live x.doc (parts_among ids.now (live_segment head.now live.now ∷ [])) ≡ true) more) }
     ensures numbers { All (λ e. e.doc < 2 ^ 24) entries.old.items
         → OnOk result (All (λ e. e.doc < 2 ^ 24) entries.new.items) }
     ensures reads { F.reads folder.new ≤ F.reads folder.old + leaves_in
-        (heads_of (parts_among ids.now (part_of head.now live.now ∷ []))) }
+        (heads_of (parts_among ids.now (live_segment head.now live.now ∷ []))) }
     ensures calm { IsCalm F.told (F.files folder.old) (F.files folder.new) cache.old cache.new
-        (ids_of (parts_among ids.now (part_of head.now live.now ∷ []))) }
+        (ids_of (parts_among ids.now (live_segment head.now live.now ∷ []))) }
     ensures cause { HasPageCause (F.faults folder.old) (F.faults folder.new) result }
-    ensures shown { OnDamage result (IsPartDamage D (parts_among ids.now (part_of head.now live.now ∷ []))) }
+    ensures shown { OnDamage result (IsPartDamage D (parts_among ids.now (live_segment head.now live.now ∷ []))) }
     ensures damage { IsTrue F.told → Agrees (F.files folder.old) cache.old
         → OnDamage result (IsLeafDamageOf (F.files folder.old)) }
     ensures whole { IsTrue F.told → Agrees (F.files folder.old) cache.old → (c : Contents)
-        → IsRead D (F.files folder.old) c (part_of head.now live.now) → NotDamaged result }
+        → IsRead D (F.files folder.old) c (live_segment head.now live.now) → NotDamaged result }
 {
     if !ids.contains(&head.id()) {
         return Ok(());
@@ -116,14 +117,15 @@ fn append_live<const D: usize, F: Pages>(
     entries: &mut Vec<Entry<D>>,
 ) -> Result<(), PageFault>
     ensures entries { IsTrue F.told → Agrees (F.files folder.old) cache.old → (c : Contents)
-        → IsRead D (F.files folder.old) c (part_of head.now live.now)
+        → IsRead D (F.files folder.old) c (live_segment head.now live.now)
         → OnOk result
-        (items_of entries.new.items ≡ items_of entries.old.items ++ live_in_parts c (part_of head.now live.now ∷ [])) }
+        (items_of entries.new.items ≡ items_of entries.old.items ++ live_in_parts c
+            (live_segment head.now live.now ∷ [])) }
     ensures held { IsTrue F.told → Agrees (F.files folder.old) cache.old
-        → HasOwnHead D (F.files folder.old) (part_of head.now live.now)
+        → HasOwnHead D (F.files folder.old) (live_segment head.now live.now)
         → OnOk result
         ((more : List Item) × (items_of entries.new.items ≡ items_of entries.old.items ++ more)
-        × IsHeld D (F.files folder.old) (part_of head.now live.now) more) }
+        × IsHeld D (F.files folder.old) (live_segment head.now live.now) more) }
     ensures live { OnOk result
         ((more : List Item) × (items_of entries.new.items ≡ items_of entries.old.items ++ more)
         × All (λ x. is_live live.now x.doc ≡ true) more) }
@@ -136,7 +138,7 @@ fn append_live<const D: usize, F: Pages>(
     ensures damage { IsTrue F.told → Agrees (F.files folder.old) cache.old
         → OnDamage result (IsLeafDamageOf (F.files folder.old)) }
     ensures whole { IsTrue F.told → Agrees (F.files folder.old) cache.old → (c : Contents)
-        → IsRead D (F.files folder.old) c (part_of head.now live.now) → NotDamaged result }
+        → IsRead D (F.files folder.old) c (live_segment head.now live.now) → NotDamaged result }
 {
     if live.live_count() == 0 {
         return Ok(());

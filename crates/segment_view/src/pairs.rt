@@ -3,9 +3,9 @@
 ghost use Rattle.std.specs.Prelude.{◌≡◌, ◌<◌, ◌≤◌, false, length, take, drop, map, insert, All, IfOk, OnOk, OnErr};
 ghost use Rattle.std.specs.List.{list_any};
 ghost use Rattle.std.specs.List.Sorted.{IsStrictlyIncreasing};
-ghost use Rattle.live_bits.specs.LiveSet.{is_live, without};
+ghost use Rattle.live_bits.specs.LiveSet.{is_live, live_set_without};
 ghost use Rattle.documents.specs.Entries.{is_among};
-ghost use Rattle.segment_view.specs.Parts.{parts_of, parts_but};
+ghost use Rattle.segment_view.specs.LiveSegments.{parts_of, parts_but};
 
 use live_bits::LiveBits;
 use segment_file::SegmentHead;
@@ -78,7 +78,7 @@ pub(crate) fn is_live_in(lives: &[LiveBits], doc: u32) -> bool
 /// Takes the number out of each set, and answers whether it was live in one.
 pub(crate) fn clear_in(lives: &mut Vec<LiveBits>, doc: u32) -> bool
     ensures answer { result ≡ list_any (λ s. is_live s doc) lives.old.items }
-    ensures after { lives.new.items ≡ map (without doc) lives.old.items }
+    ensures after { lives.new.items ≡ map (live_set_without doc) lives.old.items }
 {
     let mut was_live = false;
     for live in lives.iter_mut() {
@@ -104,7 +104,7 @@ pub(crate) fn place_of<const D: usize>(heads: &[SegmentHead<D>], id: u64) -> usi
 }
 
 /// Puts a head and its live bits at a place. For want of memory both lists stay.
-pub(crate) fn put<const D: usize>(
+pub(crate) fn insert_pair<const D: usize>(
     heads: &mut Vec<SegmentHead<D>>,
     lives: &mut Vec<LiveBits>,
     place: usize,
@@ -126,7 +126,7 @@ pub(crate) fn put<const D: usize>(
 }
 
 /// Takes out the heads of these ids and their live bits.
-pub(crate) fn take_out<const D: usize>(
+pub(crate) fn remove_pairs<const D: usize>(
     heads: &mut Vec<SegmentHead<D>>,
     lives: &mut Vec<LiveBits>,
     ids: &[u64],

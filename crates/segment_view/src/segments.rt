@@ -1,7 +1,7 @@
 //! Segments with their live bits.
 
 use crate::pairs::{
-    clear_in, copy_heads, copy_lives, has_id, is_live_in, place_of, put, sizes_of, take_out,
+    clear_in, copy_heads, copy_lives, has_id, is_live_in, place_of, insert_pair, sizes_of, remove_pairs,
 };
 use live_bits::LiveBits;
 use segment_file::SegmentHead;
@@ -24,9 +24,9 @@ pub struct Segments<const D: usize> {
 
 impl<const D: usize> Model for Segments<D> {
     ghost use Rattle.std.specs.Prelude.{List};
-    ghost use Rattle.segment_view.specs.Parts.{Part, parts_of, AreInStep};
+    ghost use Rattle.segment_view.specs.LiveSegments.{LiveSegment, parts_of, AreInStep};
 
-    ghost Value = { List Part };
+    ghost Value = { List LiveSegment };
 
     ghost view = { λ s. parts_of s.heads.items s.lives.items };
 
@@ -38,8 +38,9 @@ impl<const D: usize> Segments<D> {
     ghost use Rattle.std.specs.Prelude.{OnOk, OnErr};
     ghost use Rattle.std.specs.List.Sorted.{IsStrictlyIncreasing};
     ghost use Rattle.documents.specs.Entries.{is_among};
-    ghost use Rattle.segment_view.specs.Parts.{part_of, heads_of, lives_of, ids_of, parts_but, has_live, cleared};
-    ghost use Rattle.segment_view.specs.Parts.{IsPlaced};
+    ghost use Rattle.segment_view.specs.LiveSegments.{live_segment, heads_of, lives_of, ids_of, parts_but, has_live};
+    ghost use Rattle.segment_view.specs.LiveSegments.{cleared_parts};
+    ghost use Rattle.segment_view.specs.LiveSegments.{IsPlaced};
 
     /// No segments.
     pub fn new(alloc: Global) -> Segments<D>
@@ -94,7 +95,7 @@ impl<const D: usize> Segments<D> {
     /// The head and the live bits at a place.
     pub fn part(&self, i: usize) -> (&SegmentHead<D>, &LiveBits)
         requires { i < length self.now }
-        ensures { slice_get self.now i ≡ Some (part_of result.0.now result.1.now) }
+        ensures { slice_get self.now i ≡ Some (live_segment result.0.now result.1.now) }
     {
         (&self.heads[i], &self.lives[i])
     }
@@ -116,7 +117,7 @@ impl<const D: usize> Segments<D> {
     /// Takes the number out of the live ones, and answers whether it was one. Takes no memory.
     pub fn clear(&mut self, doc: u32) -> bool
         ensures answer { result ≡ has_live doc self.old }
-        ensures after { self.new ≡ cleared doc self.old }
+        ensures after { self.new ≡ cleared_parts doc self.old }
     {
         clear_in(&mut self.lives, doc)
     }
@@ -133,7 +134,7 @@ impl<const D: usize> Segments<D> {
     /// Puts a segment at the place that its id gives. For want of memory nothing changes.
     pub fn insert(&mut self, head: SegmentHead<D>, live: LiveBits) -> Result<(), Memory>
         requires { is_among (ids_of self.old) head.id ≡ false }
-        ensures placed { OnOk result (IsPlaced (part_of head.entry live) self.old self.new) }
+        ensures placed { OnOk result (IsPlaced (live_segment head.entry live) self.old self.new) }
         ensures ascend { IsStrictlyIncreasing (ids_of self.new) }
         ensures refused { OnErr result (self.new ≡ self.old) }
     {
@@ -141,7 +142,7 @@ impl<const D: usize> Segments<D> {
             return Err(AllocError);
         }
         let place = place_of(self.heads.as_slice(), head.id());
-        put(&mut self.heads, &mut self.lives, place, head, live)?;
+        insert_pair(&mut self.heads, &mut self.lives, place, head, live)?;
         Ok(())
     }
 
@@ -150,6 +151,6 @@ impl<const D: usize> Segments<D> {
         ensures rest { self.new ≡ parts_but ids.now self.old }
         ensures ascend { IsStrictlyIncreasing (ids_of self.new) }
     {
-        take_out(&mut self.heads, &mut self.lives, ids);
+        remove_pairs(&mut self.heads, &mut self.lives, ids);
     }
 }

@@ -2,7 +2,7 @@
 
 ghost use Rattle.std.specs.Prelude.{◌≡◌, ◌≤◌, ◌+◌, ◌*◌, [], ◌∷◌};
 ghost use Rattle.nearest_query.specs.Segments.{AreNearLeaves};
-ghost use Rattle.segment_view.specs.Parts.{heads_of};
+ghost use Rattle.segment_view.specs.LiveSegments.{heads_of};
 ghost use Rattle.segment_view.specs.Costs.{leaves_in, AreTested, AreTouched};
 
 use crate::segments::Segments;

@@ -8,7 +8,8 @@ ghost use Rattle.page_cache.specs.Causes.{HasPageCause};
 ghost use Rattle.page_cache.specs.Evidence.{OnDamage, NotDamaged};
 ghost use Rattle.segment_file.specs.Damages.{IsLeafDamageOf};
 ghost use Rattle.documents.specs.Entries.{numbers_found};
-ghost use Rattle.segment_view.specs.Parts.{Contents, IsRead, AreRead, part_of, heads_of, ids_of, live_in_parts};
+ghost use Rattle.segment_view.specs.LiveSegments.{Contents, IsRead, AreRead, live_segment, heads_of, ids_of};
+ghost use Rattle.segment_view.specs.LiveSegments.{live_in_parts};
 ghost use Rattle.segment_view.specs.Costs.{leaves_in, AreTested, AreTouched};
 ghost use Rattle.segment_view.specs.Found.{AreFound};
 ghost use Rattle.segment_view.specs.Calm.{IsCalm};
@@ -113,10 +114,10 @@ fn visit_one<const D: usize, S: Shape<D>, F: Pages>(
     hits: &mut Vec<u32>,
 ) -> Result<(), PageFault>
     ensures found { IsTrue F.told → Agrees (F.files folder.old) cache.old → (c : Contents)
-        → IsRead D (F.files folder.old) c (part_of head.now live.now)
+        → IsRead D (F.files folder.old) c (live_segment head.now live.now)
         → OnOk result
         (hits.new.items ≡ hits.old.items ++ numbers_found (S.has shape.old)
-        (live_in_parts c (part_of head.now live.now ∷ []))) }
+        (live_in_parts c (live_segment head.now live.now ∷ []))) }
     ensures tests { (n : ℕ) → AreTested D (S.crosses shape.old) (head.now ∷ []) n
         → S.tests shape.new ≤ S.tests shape.old + n }
     ensures compares { S.compares shape.new ≤ S.compares shape.old + 2 * head.now.index.leaves }
@@ -130,7 +131,7 @@ fn visit_one<const D: usize, S: Shape<D>, F: Pages>(
     ensures damage { IsTrue F.told → Agrees (F.files folder.old) cache.old
         → OnDamage result (IsLeafDamageOf (F.files folder.old)) }
     ensures whole { IsTrue F.told → Agrees (F.files folder.old) cache.old → (c : Contents)
-        → IsRead D (F.files folder.old) c (part_of head.now live.now) → NotDamaged result }
+        → IsRead D (F.files folder.old) c (live_segment head.now live.now) → NotDamaged result }
 {
     if live.live_count() == 0 {
         return Ok(());

@@ -8,11 +8,11 @@ use Rattle.index_core.proofs.Sizes.{session_fits}
 use Rattle.batch_run.specs.Queries.{IsInRange, reply_of}
 use Rattle.batch_run.specs.Residents.{AreReplies}
 use Rattle.batch_run.specs.declared.queries.Query.{Query}
-use Rattle.batch_queries.specs.Asked.{asked_in, request_of}
+use Rattle.batch_queries.specs.Queries.{query_in, request_of}
 use Rattle.batch_queries.proofs.Beginning.{begins_done, begins_fault, begins_memory, begins_none}
 use Rattle.batch_queries.proofs.Replying.{counted_through, replies_told}
-use Rattle.batch_queries.proofs.Sizes.{query_fits}
 use Rattle.batch_queries.proofs.begun.answer_beside.Goals as goal
+use Rattle.batch_run.proofs.Sizes.{query_fits}
 
 pub beside-replies-requires-after_bounds : goal.beside-replies-requires-after_bounds
 beside-replies-requires-after_bounds g c κs = λ _. (
@@ -85,7 +85,7 @@ returns-clause-text g c = λ o i h.
     let said : AreReplies c.args.resident.now c.as_slice.result.now c.in_ok-replies.replies.items =
     rw c.in_ok-replies.was at c.beside-replies.ensures.replies in
     c.in_ok-tell_all.ensures i (o.seen i h).dims
-    (replies_told D i c.in_ok-queries.queries.items c.as_slice-2.result.now (flat_map (asked_in D) (lines_of c.args.lines.now)) (o.seen i h).dims
+    (replies_told D i c.in_ok-queries.queries.items c.as_slice-2.result.now (flat_map (query_in D) (lines_of c.args.lines.now)) (o.seen i h).dims
     (c.as_slice-2.ensures.value
     ∙ subst (λ (qs : List (Query D)). c.in_ok-replies.replies.items ≡ map (reply_of D i.docs) qs) c.as_slice.ensures.value (said.said i.docs (o.copy i h)))
     c.in_ok-queries.ensures.asked)

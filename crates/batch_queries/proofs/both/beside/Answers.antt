@@ -1,8 +1,9 @@
 -- Both halves may be called, and what they hold has room in memory.
 use Rattle.std.proofs.Common.{lit<, refl}
 use Rattle.index_core.proofs.Sizes.{session_fits}
-use Rattle.batch_queries.proofs.Sizes.{command_fits, query_fits}
+use Rattle.batch_queries.proofs.Sizes.{command_fits}
 use Rattle.batch_queries.proofs.both.beside.Goals as goal
+use Rattle.batch_run.proofs.Sizes.{query_fits}
 
 pub join_mut-requires-room-G-FnMut-2 : goal.join_mut-requires-room-G-FnMut-2
 join_mut-requires-room-G-FnMut-2 g c κs within = command_fits g.row.D c.requires.few

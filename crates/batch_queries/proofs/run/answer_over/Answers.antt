@@ -8,7 +8,7 @@ use Rattle.stored_index.specs.Stored.{index_of}
 use Rattle.stored_index.proofs.Whole.{held_for}
 use Rattle.batch_run.specs.Queries.{reply_of}
 use Rattle.batch_run.specs.declared.queries.Query.{Query}
-use Rattle.batch_queries.specs.Asked.{asked_in}
+use Rattle.batch_queries.specs.Queries.{query_in}
 use Rattle.batch_queries.specs.Batched.{TellsBatch}
 use Rattle.batch_queries.proofs.Replying.{replies_told}
 use Rattle.batch_queries.proofs.run.answer_over.Goals as goal
@@ -23,7 +23,7 @@ returns-clause-text g c = λ told says state stored.
     c.in_ok-tell_all.field-0.refused)
     (sym held.2)
     (c.in_ok-tell_all.ensures i c.requires.dims
-    (replies_told D i c.in_ok-queries.queries.items c.as_slice-2.result.now (flat_map (asked_in D) (lines_of c.args.lines.now)) c.requires.dims
+    (replies_told D i c.in_ok-queries.queries.items c.as_slice-2.result.now (flat_map (query_in D) (lines_of c.args.lines.now)) c.requires.dims
     (c.as_slice-2.ensures.value ∙ subst (λ (qs : List (Query D)). c.in_ok-replies.replies.items ≡ map (reply_of D held.0) qs) c.as_slice.ensures.value said)
     c.in_ok-queries.ensures.asked))
 

@@ -5,8 +5,8 @@ use Rattle.outer_io.specs.Files.{Files}
 use Rattle.outer_io.specs.MemFolder.{folder_files}
 use Rattle.documents.specs.Documents.{Document}
 use Rattle.page_cache.specs.Cache.{Agrees}
-use Rattle.segment_view.specs.Parts.{Part}
-use Rattle.batch_run.specs.Held.{Holds}
+use Rattle.segment_view.specs.LiveSegments.{LiveSegment}
+use Rattle.batch_run.specs.Held.{HoldsDocs}
 use Rattle.batch_run.specs.Queries.{IsInRange, reply_of}
 use Rattle.batch_run.specs.declared.queries.Query.{Query}
 use Rattle.batch_run.proofs.Replied.{replied_next}
@@ -22,8 +22,8 @@ answer-requires g c = (
       subst (IsInRange g.row.D) (sym c.query-item.is) (c.requires.range c.loop-query.query-index c.query-item.result c.loop-query-test.true),
       (
         subst (λ (f : Files). Agrees f c.loop-query.cache) (sym c.loop-query.invariant.files) c.loop-query.invariant.agrees,
-        subst (λ (f : Files). ∥ ((docs : List Document) × Holds g.row.D f c.segments-segments.result.now docs) ∥₁) (sym c.loop-query.invariant.files)
-            (subst (λ (ps : List Part). ∥ ((docs : List Document) × Holds g.row.D (folder_files c.args.resident.now.files) ps docs) ∥₁)
+        subst (λ (f : Files). ∥ ((docs : List Document) × HoldsDocs g.row.D f c.segments-segments.result.now docs) ∥₁) (sym c.loop-query.invariant.files)
+            (subst (λ (ps : List LiveSegment). ∥ ((docs : List Document) × HoldsDocs g.row.D (folder_files c.args.resident.now.files) ps docs) ∥₁)
             (sym c.segments-segments.ensures) c.args.resident.now.held),
       ),
     ),
@@ -37,8 +37,8 @@ loop-query-preserved g c = record {
       c.in_ok-reply.reply
       c.loop-query-test.true c.query-item.is (c.loop-query.invariant.replied docs h) c.in_ok-push.ensures.items
       (c.in_ok-reply.ensures.reply docs
-      (subst (λ (f : Files). Holds g.row.D f c.segments-segments.result.now docs) (sym c.loop-query.invariant.files)
-      (subst (λ (ps : List Part). Holds g.row.D (folder_files c.args.resident.now.files) ps docs) (sym c.segments-segments.ensures) h)));
+      (subst (λ (f : Files). HoldsDocs g.row.D f c.segments-segments.result.now docs) (sym c.loop-query.invariant.files)
+      (subst (λ (ps : List LiveSegment). HoldsDocs g.row.D (folder_files c.args.resident.now.files) ps docs) (sym c.segments-segments.ensures) h)));
   each = ap length c.in_ok-push.ensures.items ∙ length_push c.loop-query.replies.items c.in_ok-reply.reply ∙ ap (λ n. n + 1) c.loop-query.invariant.each;
   files = c.in_ok-reply.ensures.files ∙ c.loop-query.invariant.files;
   agrees = subst (λ (f : Files). Agrees f c.answer.new.cache) c.loop-query.invariant.files c.in_ok-reply.ensures.agrees;

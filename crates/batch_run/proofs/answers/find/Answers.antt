@@ -4,9 +4,9 @@ use Rattle.point_codec.specs.Points.{Item}
 use Rattle.documents.specs.Documents.{Document}
 use Rattle.documents.specs.Entries.{AreDocs}
 use Rattle.outer_io.specs.MemFolder.{folder_files}
-use Rattle.segment_view.specs.Parts.{live_in_parts}
+use Rattle.segment_view.specs.LiveSegments.{live_in_parts}
 use Rattle.segment_view.specs.Found.{AreFound}
-use Rattle.batch_run.specs.Held.{Holds}
+use Rattle.batch_run.specs.Held.{HoldsDocs}
 use Rattle.batch_run.specs.declared.queries.Reply.TheVariants.{Hits}
 use Rattle.batch_run.proofs.Replied.{undamaged}
 use Rattle.batch_run.proofs.Sizes.{entry_fits}
@@ -18,7 +18,7 @@ visit-found-requires g c = (omega arith, entry_fits g.row.D c.len-parts.ensures.
 pub of_whole-requires-clause-whole : goal.of_whole-requires-clause-whole
 of_whole-requires-clause-whole g c =
     undamaged c.visit-found.result c.requires.held
-    (λ (p : (docs : List Document) × Holds g.row.D (folder_files c.args.pages.now.files.now) c.args.segments.now docs).
+    (λ (p : (docs : List Document) × HoldsDocs g.row.D (folder_files c.args.pages.now.files.now) c.args.segments.now docs).
     c.visit-found.ensures.whole refl c.requires.agrees p.1.contents p.1.read)
 
 pub returns-clause-reply : goal.returns-clause-reply

@@ -6,8 +6,8 @@ use Rattle.documents.specs.Documents.{Document}
 use Rattle.documents.specs.Entries.{AreDocs}
 use Rattle.documents.specs.NearestEntries.{IsNearest, nears_of}
 use Rattle.outer_io.specs.MemFolder.{folder_files}
-use Rattle.segment_view.specs.Parts.{live_in_parts}
-use Rattle.batch_run.specs.Held.{Holds}
+use Rattle.segment_view.specs.LiveSegments.{live_in_parts}
+use Rattle.batch_run.specs.Held.{HoldsDocs}
 use Rattle.batch_run.specs.Queries.{near_of}
 use Rattle.batch_run.specs.declared.queries.Reply.TheVariants as reply
 use Rattle.batch_run.proofs.Replied.{nears_again, undamaged}
@@ -16,7 +16,7 @@ use Rattle.batch_run.proofs.answers.find_near.Goals as goal
 pub of_whole-requires-clause-whole : goal.of_whole-requires-clause-whole
 of_whole-requires-clause-whole g c =
     undamaged c.nearest-found.result c.requires.held
-    (λ (p : (docs : List Document) × Holds g.row.D (folder_files c.args.pages.now.files.now) c.args.segments.now docs).
+    (λ (p : (docs : List Document) × HoldsDocs g.row.D (folder_files c.args.pages.now.files.now) c.args.segments.now docs).
     c.nearest-found.ensures.whole refl c.requires.agrees p.1.contents p.1.read)
 
 pub returns-clause-reply : goal.returns-clause-reply

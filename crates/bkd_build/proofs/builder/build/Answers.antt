@@ -2,7 +2,7 @@ use Rattle.std.proofs.Common.{rules}
 use Rattle.point_codec.specs.Seen.{items_of, region_of}
 use Rattle.inner_pack.specs.Parts.{AreParts}
 use Rattle.bkd_build.specs.Canon.{index_tree_of}
-use Rattle.bkd_build.specs.Parts.{held}
+use Rattle.bkd_build.specs.Pieces.{held_pieces}
 use Rattle.bkd_build.proofs.Whole.{parts_lent, whole_built}
 use Rattle.bkd_build.proofs.builder.build.Goals as goal
 
@@ -27,5 +27,5 @@ returns-clause-built g c =
     c.requires.dims.0 c.requires.dims.1 c.requires.least_leaf c.requires.some c.requires.few c.cell_round-root.ensures c.as_slice.ensures.value
     c.as_slice-2.ensures.value c.as_slice-3.ensures.value a in
     let packed = c.in_ok-index.ensures.packed (index_tree_of g.row.D a.tree) are in
-    whole_built g.row.D c.args.leaf (items_of c.args.entries.now) root (held c.in_ok-part.part) c.in_ok-index.index c.cell_round-root.ensures a packed.0
+    whole_built g.row.D c.args.leaf (items_of c.args.entries.now) root (held_pieces c.in_ok-part.part) c.in_ok-index.index c.cell_round-root.ensures a packed.0
     packed.2

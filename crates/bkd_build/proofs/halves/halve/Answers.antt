@@ -2,7 +2,7 @@ use Rattle.std.proofs.Common.{rules, ◌≡◌, ◌<◌, length, take, drop, ℕ
 use Rattle.std.proofs.lemmas.List.Sorted.{length_permutation}
 use Rattle.point_codec.specs.Seen.{items_of}
 use Rattle.bkd_build.specs.Canon.{IsCanonSplit}
-use Rattle.bkd_build.specs.Parts.{AreEntries}
+use Rattle.bkd_build.specs.Pieces.{AreEntries}
 use Rattle.bkd_build.proofs.Nodes.{entries-IsPermutation, entries-take, entries-drop, split_of_cut}
 use Rattle.bkd_build.proofs.halves.halve.Given.{Over}
 use Rattle.bkd_build.proofs.halves.halve.Goals as goal

@@ -1,6 +1,6 @@
 use Rattle.point_codec.specs.Seen.{items_of}
 use Rattle.bkd_build.specs.Canon.{IsCanonSplit}
-use Rattle.bkd_build.specs.Parts.{held}
+use Rattle.bkd_build.specs.Pieces.{held_pieces}
 use Rattle.bkd_build.proofs.Nodes.{items_joined, halves_moved, halves_add}
 use Rattle.bkd_build.proofs.tree.+parts.Goals as goal
 
@@ -35,8 +35,8 @@ build_part-returns-clause-built g t c =
     let node = c.halve-node.result in
     let split : IsCanonSplit g.row.D c.args.leaf node.dimension node.at (items_of ls) (items_of rs) =
     rw (c.split_at_mut-left.ensures.front, c.split_at_mut-left.ensures.back) c.halve-node.ensures.split in
-    halves_add g.row.D c.args.leaf node.dimension node.at (items_of c.args.entries.now) (items_of ls) (items_of rs) (held c.in_ok-first.first)
-    (held c.in_ok-second.second) (held c.in_ok-part.part)
+    halves_add g.row.D c.args.leaf node.dimension node.at (items_of c.args.entries.now) (items_of ls) (items_of rs) (held_pieces c.in_ok-first.first)
+    (held_pieces c.in_ok-second.second) (held_pieces c.in_ok-part.part)
     (items_joined c.args.entries.now c.halve-node.new.entries ls rs c.halve-node.ensures.same c.split_at_mut-left.ensures.value)
     split
     (rw c.in_ok-first.was at c.both-first.ensures.left_built)

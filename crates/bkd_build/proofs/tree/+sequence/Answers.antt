@@ -1,7 +1,7 @@
 use Rattle.std.proofs.Common.{subst}
 use Rattle.point_codec.specs.Seen.{items_of}
 use Rattle.bkd_build.specs.Canon.{IsCanonSplit}
-use Rattle.bkd_build.specs.Parts.{Adds, held, Pieces}
+use Rattle.bkd_build.specs.Pieces.{AddsPieces, held_pieces, Pieces}
 use Rattle.bkd_build.proofs.Nodes.{items_joined, halves_moved, node_adds}
 use Rattle.bkd_build.proofs.tree.+sequence.Goals as goal
 
@@ -25,9 +25,9 @@ grow-returns-clause-added g t c =
     let both = c.in_ok-grow_halves.ensures.added in
     let split : IsCanonSplit g.row.D c.args.leaf node.dimension node.at (items_of ls) (items_of rs) =
     rw (c.split_at_mut-left.ensures.front, c.split_at_mut-left.ensures.back) c.halve-node.ensures.split in
-    node_adds g.row.D c.args.leaf node.dimension node.at (items_of c.args.entries.now) (items_of ls) (items_of rs) (held c.args.part.now) both.middle
-    (held c.grow_halves.new.part)
+    node_adds g.row.D c.args.leaf node.dimension node.at (items_of c.args.entries.now) (items_of ls) (items_of rs) (held_pieces c.args.part.now) both.middle
+    (held_pieces c.grow_halves.new.part)
     (items_joined c.args.entries.now c.halve-node.new.entries ls rs c.halve-node.ensures.same c.split_at_mut-left.ensures.value)
     split
-    (subst (λ (ps : Pieces). Adds g.row.D c.args.leaf (items_of ls) ps both.middle) c.in_ok-put_node.ensures both.left)
+    (subst (λ (ps : Pieces). AddsPieces g.row.D c.args.leaf (items_of ls) ps both.middle) c.in_ok-push_node.ensures both.left)
     both.right

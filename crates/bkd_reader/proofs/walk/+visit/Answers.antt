@@ -9,7 +9,7 @@ use Rattle.page_cache.specs.Cache.{Agrees}
 use Rattle.segment_file.specs.Heads.{count_of}
 use Rattle.segment_file.specs.Segments.{HoldsTree}
 use Rattle.segment_file.specs.Damages.{IsLeafDamage}
-use Rattle.bkd_reader.specs.Counts.{tested, touched}
+use Rattle.bkd_reader.specs.Counts.{tested_entries, touched_leaves}
 use Rattle.bkd_reader.specs.Hits.{AreHits, Appends}
 use Rattle.bkd_reader.proofs.HitLemmas.{begins_on}
 use Rattle.bkd_reader.proofs.Cells.{touched_all, crossed_touched}
@@ -37,7 +37,7 @@ returns-in-Outside-clause-compares g t c = λ first s path t' is.
 pub returns-in-Inside-clause-hits : goal.returns-in-Inside-clause-hits
 returns-in-Inside-clause-hits g t c = λ told agrees first s path t' root.
     let all = subst (AllAnswer (g.S.Shape.has c.args.shape.now) true) (c.cell.ensures first s path t' root.is) c.in-Inside.ensures.answer.all in
-    c.take.ensures.hits told agrees first s path t' root (g.S.Shape.has c.args.shape.now) all
+    c.collect_all.ensures.hits told agrees first s path t' root (g.S.Shape.has c.args.shape.now) all
 
 pub returns-in-Inside-clause-compares : goal.returns-in-Inside-clause-compares
 returns-in-Inside-clause-compares g t c = λ first s path t' is.
@@ -48,7 +48,7 @@ returns-in-Inside-clause-compares g t c = λ first s path t' is.
 pub returns-in-Inside-clause-reads : goal.returns-in-Inside-clause-reads
 returns-in-Inside-clause-reads g t c = λ first s path t' root.
     let all = subst (AllAnswer (g.S.Shape.has c.args.shape.now) true) (c.cell.ensures first s path t' root.is) c.in-Inside.ensures.answer.all in
-    let most = c.take.ensures.reads in
+    let most = c.collect_all.ensures.reads in
     let leaves = count_at c.args.node.now first s path t' root.is in
     let each = touched_all g.row.D (g.S.Shape.has c.args.shape.now) (g.S.Shape.crosses c.args.shape.now) path t' root.cells all in
     omega (arith, most, leaves, each)
@@ -58,10 +58,10 @@ returns-in-Inside-clause-reads g t c = λ first s path t' root.
 pub returns-in_err-visit-in-Some-clause-tests : goal.returns-in_err-visit-in-Some-clause-tests
 returns-in_err-visit-in-Some-clause-tests g t c = λ first s path t' root.
     let k = c.in-Some.ensures.some first s path t' root.is in
-    let left = subst (λ f. g.S.Shape.tests c.visit.new.shape ≤ g.S.Shape.tests c.compare.new.self + tested f (count_of c.args.head.now) first k.l)
+    let left = subst (λ f. g.S.Shape.tests c.visit.new.shape ≤ g.S.Shape.tests c.compare.new.self + tested_entries f (count_of c.args.head.now) first k.l)
     c.compare.ensures.crosses
     (c.in_err-visit-in-Some.ensures.tests first s _ k.l (left_root c.in-Some.left c.in-Some.right first s path t' k root.cells)) in
-    let both = ap (tested (g.S.Shape.crosses c.args.shape.now) (count_of c.args.head.now) first) k.is in
+    let both = ap (tested_entries (g.S.Shape.crosses c.args.shape.now) (count_of c.args.head.now) first) k.is in
     let same = c.compare.ensures.tests in
     omega (arith, left, both, same)
 
@@ -78,11 +78,11 @@ pub returns-in_err-visit-in-Some-clause-reads : goal.returns-in_err-visit-in-Som
 returns-in_err-visit-in-Some-clause-reads g t c = λ first s path t' root.
     let k = c.in-Some.ensures.some first s path t' root.is in
     let given = c.in_err-visit-in-Some.ensures.reads first s _ k.l (left_root c.in-Some.left c.in-Some.right first s path t' k root.cells) in
-    let has = subst (λ f. g.F.Pages.reads c.visit.new.folder ≤ g.F.Pages.reads c.args.folder.now + touched f (g.S.Shape.crosses c.compare.new.self) k.l)
+    let has = subst (λ f. g.F.Pages.reads c.visit.new.folder ≤ g.F.Pages.reads c.args.folder.now + touched_leaves f (g.S.Shape.crosses c.compare.new.self) k.l)
     c.compare.ensures.has given in
-    let left = subst (λ f. g.F.Pages.reads c.visit.new.folder ≤ g.F.Pages.reads c.args.folder.now + touched (g.S.Shape.has c.args.shape.now) f k.l)
+    let left = subst (λ f. g.F.Pages.reads c.visit.new.folder ≤ g.F.Pages.reads c.args.folder.now + touched_leaves (g.S.Shape.has c.args.shape.now) f k.l)
     c.compare.ensures.crosses has in
-    let both = ap (touched (g.S.Shape.has c.args.shape.now) (g.S.Shape.crosses c.args.shape.now)) k.is in
+    let both = ap (touched_leaves (g.S.Shape.has c.args.shape.now) (g.S.Shape.crosses c.args.shape.now)) k.is in
     omega (arith, left, both)
 
 pub returns-in_err-visit-in-Some-clause-shown : goal.returns-in_err-visit-in-Some-clause-shown
@@ -141,15 +141,16 @@ returns-in_ok-visit-in-Some-clause-hits g t c = λ told agrees first s path t' r
 pub returns-in_ok-visit-in-Some-clause-tests : goal.returns-in_ok-visit-in-Some-clause-tests
 returns-in_ok-visit-in-Some-clause-tests g t c = λ first s path t' root.
     let k = c.in-Some.ensures.some first s path t' root.is in
-    let left = subst (λ f. g.S.Shape.tests c.visit.new.shape ≤ g.S.Shape.tests c.compare.new.self + tested f (count_of c.args.head.now) first k.l)
+    let left = subst (λ f. g.S.Shape.tests c.visit.new.shape ≤ g.S.Shape.tests c.compare.new.self + tested_entries f (count_of c.args.head.now) first k.l)
     c.compare.ensures.crosses
     (c.visit.ensures.tests first s _ k.l (left_root c.in-Some.left c.in-Some.right first s path t' k root.cells)) in
     let right = subst
-    (λ f. g.S.Shape.tests c.visit-in-Some.new.shape ≤ g.S.Shape.tests c.visit.new.shape + tested f (count_of c.args.head.now) (first + leaf_count k.l) k.r)
+    (λ f. g.S.Shape.tests c.visit-in-Some.new.shape
+        ≤ g.S.Shape.tests c.visit.new.shape + tested_entries f (count_of c.args.head.now) (first + leaf_count k.l) k.r)
     (c.visit.ensures.crosses ∙ c.compare.ensures.crosses)
     (c.visit-in-Some.ensures.tests (first + leaf_count k.l) (right_begin s k.l k.r) _ k.r
     (right_root c.in-Some.left c.in-Some.right first s path t' k root.cells)) in
-    let both = ap (tested (g.S.Shape.crosses c.args.shape.now) (count_of c.args.head.now) first) k.is in
+    let both = ap (tested_entries (g.S.Shape.crosses c.args.shape.now) (count_of c.args.head.now) first) k.is in
     let same = c.compare.ensures.tests in
     omega (arith, left, right, both, same)
 
@@ -166,18 +167,19 @@ pub returns-in_ok-visit-in-Some-clause-reads : goal.returns-in_ok-visit-in-Some-
 returns-in_ok-visit-in-Some-clause-reads g t c = λ first s path t' root.
     let k = c.in-Some.ensures.some first s path t' root.is in
     let given = c.visit.ensures.reads first s _ k.l (left_root c.in-Some.left c.in-Some.right first s path t' k root.cells) in
-    let has = subst (λ f. g.F.Pages.reads c.visit.new.folder ≤ g.F.Pages.reads c.args.folder.now + touched f (g.S.Shape.crosses c.compare.new.self) k.l)
+    let has = subst (λ f. g.F.Pages.reads c.visit.new.folder ≤ g.F.Pages.reads c.args.folder.now + touched_leaves f (g.S.Shape.crosses c.compare.new.self) k.l)
     c.compare.ensures.has given in
-    let left = subst (λ f. g.F.Pages.reads c.visit.new.folder ≤ g.F.Pages.reads c.args.folder.now + touched (g.S.Shape.has c.args.shape.now) f k.l)
+    let left = subst (λ f. g.F.Pages.reads c.visit.new.folder ≤ g.F.Pages.reads c.args.folder.now + touched_leaves (g.S.Shape.has c.args.shape.now) f k.l)
     c.compare.ensures.crosses has in
     let given_right = c.visit-in-Some.ensures.reads (first + leaf_count k.l) (right_begin s k.l k.r) _ k.r
     (right_root c.in-Some.left c.in-Some.right first s path t' k root.cells) in
     let has_right = subst
-    (λ f. g.F.Pages.reads c.visit-in-Some.new.folder ≤ g.F.Pages.reads c.visit.new.folder + touched f (g.S.Shape.crosses c.visit.new.shape) k.r)
+    (λ f. g.F.Pages.reads c.visit-in-Some.new.folder ≤ g.F.Pages.reads c.visit.new.folder + touched_leaves f (g.S.Shape.crosses c.visit.new.shape) k.r)
     (c.visit.ensures.has ∙ c.compare.ensures.has) given_right in
-    let right = subst (λ f. g.F.Pages.reads c.visit-in-Some.new.folder ≤ g.F.Pages.reads c.visit.new.folder + touched (g.S.Shape.has c.args.shape.now) f k.r)
+    let right =
+        subst (λ f. g.F.Pages.reads c.visit-in-Some.new.folder ≤ g.F.Pages.reads c.visit.new.folder + touched_leaves (g.S.Shape.has c.args.shape.now) f k.r)
     (c.visit.ensures.crosses ∙ c.compare.ensures.crosses) has_right in
-    let both = ap (touched (g.S.Shape.has c.args.shape.now) (g.S.Shape.crosses c.args.shape.now)) k.is in
+    let both = ap (touched_leaves (g.S.Shape.has c.args.shape.now) (g.S.Shape.crosses c.args.shape.now)) k.is in
     omega (arith, left, right, both)
 
 pub returns-in_ok-visit-in-Some-clause-shown : goal.returns-in_ok-visit-in-Some-clause-shown
@@ -211,7 +213,7 @@ pub returns-in-None-clause-tests : goal.returns-in-None-clause-tests
 returns-in-None-clause-tests g t c = λ first s path t' root.
     let crossed = subst (λ r. g.S.Shape.crosses c.args.shape.now r ≡ true) (c.cell.ensures first s path t' root.is) c.in-Crosses.ensures.answer in
     let given = c.test_leaf.ensures.tests first s path t' root.is (subst (λ f. f (cell_of path t') ≡ true) (sym c.compare.ensures.crosses) crossed) in
-    let few = subst (λ f. g.S.Shape.tests c.test_leaf.new.shape ≤ g.S.Shape.tests c.compare.new.self + tested f (count_of c.args.head.now) first t')
+    let few = subst (λ f. g.S.Shape.tests c.test_leaf.new.shape ≤ g.S.Shape.tests c.compare.new.self + tested_entries f (count_of c.args.head.now) first t')
     c.compare.ensures.crosses given in
     let same = c.compare.ensures.tests in
     omega (arith, few, same)
@@ -228,7 +230,8 @@ returns-in-None-clause-reads g t c = λ first s path t' root.
     let one : c.args.node.now.leaves ≡ 1 = search rules in
     let crossed = subst (λ r. g.S.Shape.crosses c.args.shape.now r ≡ true) (c.cell.ensures first s path t' root.is) c.in-Crosses.ensures.answer in
     let it = only_leaf
-    (λ u. g.S.Shape.crosses c.args.shape.now (cell_of path u) ≡ true → 1 ≡ touched (g.S.Shape.has c.args.shape.now) (g.S.Shape.crosses c.args.shape.now) u) t'
+    (λ u. g.S.Shape.crosses c.args.shape.now (cell_of path u) ≡ true
+        → 1 ≡ touched_leaves (g.S.Shape.has c.args.shape.now) (g.S.Shape.crosses c.args.shape.now) u) t'
     (count_at c.args.node.now first s path t' root.is ∙ one)
     (λ len own e. crossed_touched (g.S.Shape.has c.args.shape.now) (g.S.Shape.crosses c.args.shape.now) (count_of c.args.head.now) first len own own refl e)
     crossed in

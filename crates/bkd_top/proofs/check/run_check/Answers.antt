@@ -4,11 +4,11 @@ use Rattle.index_opening.specs.Evidence.{IsEvident, IsFound, IsTwice}
 use Rattle.index_opening.proofs.Evident.{on_evident_at}
 use Rattle.run_status.specs.Ends.{DoesNothing, IsDamaged}
 use Rattle.run_status.specs.Stops.{status_of}
-use Rattle.script_run.proofs.Ending.{does_lines, folder_stopped, sink_stopped}
-use Rattle.script_run.proofs.Shown.{fault_status, sink_shows, status_shows}
+use Rattle.script_run.proofs.Shown.{fault_status}
 use Rattle.bkd_top.proofs.Finished.{fault_no_sink, fault_rose, sent_no_folder, sent_undamaged}
 use Rattle.bkd_top.proofs.Verdict.{fault_check, fault_whole, sent_check, told_text}
 use Rattle.bkd_top.proofs.check.run_check.Goals as goal
+use Rattle.run_status.proofs.Ending.{does_lines, folder_stopped, sink_stopped, sink_shows, status_shows}
 
 pub returns-in-Ok-clause-done : goal.returns-in-Ok-clause-done
 returns-in-Ok-clause-done g c = λ d. does_lines c.send.result (subst DoesNothing c.status_of.ensures d)

@@ -3,12 +3,11 @@ use Rattle.std.proofs.Common.{◌≡◌, Bool, ℕ, IsTrue, length, arith, refl,
 use Rattle.std.proofs.lemmas.Bool.Decides.{nat_tests}
 use Rattle.segment_set.specs.Faithful.{IsFaithful}
 use Rattle.segment_set.proofs.Sizes.{set_fits}
-use Rattle.script_run.proofs.Ending.{cause_from}
-use Rattle.script_run.proofs.Going.{at_most_one, refused_more}
-use Rattle.script_run.proofs.Lined.{cause_to}
-use Rattle.bkd_top.proofs.Telling.{left_end, left_here, left_on, line_stops, no_lines, stage_all, stage_here, stage_sent}
-use Rattle.script_run.proofs.Shown.{same_stop, stop_less}
+use Rattle.bkd_top.proofs.Telling.{left_end, left_here, left_on, line_stops, stage_all, stage_here, stage_sent}
+use Rattle.script_run.proofs.Shown.{stop_less}
 use Rattle.bkd_top.proofs.explain.explain_all.Goals as goal
+use Rattle.run_status.proofs.Ending.{cause_from, same_stop, cause_to, refused_more, at_most_one}
+use Rattle.count_queries.proofs.Asking.{no_lines}
 
 pub tell_line-requires : goal.tell_line-requires
 tell_line-requires g c = (set_fits g.row.D c.requires.few, (c.requires.some, c.requires.few))

@@ -1,12 +1,10 @@
 -- Each line is told after those before it.
 use Rattle.std.proofs.Common.{◌≡◌, Bool, ℕ, length, arith, refl}
 use Rattle.std.proofs.lemmas.Bool.Decides.{nat_tests}
-use Rattle.script_run.proofs.Ending.{cause_from}
-use Rattle.script_run.proofs.Going.{at_most_one, refused_more}
-use Rattle.script_run.proofs.Lined.{cause_to}
-use Rattle.bkd_top.proofs.Telling.{line_stops, no_lines, stage_all, stage_here, stage_sent}
-use Rattle.script_run.proofs.Shown.{same_stop}
+use Rattle.bkd_top.proofs.Telling.{line_stops, stage_all, stage_here, stage_sent}
 use Rattle.bkd_top.proofs.explain.explain_none.Goals as goal
+use Rattle.run_status.proofs.Ending.{cause_from, same_stop, cause_to, refused_more, at_most_one}
+use Rattle.count_queries.proofs.Asking.{no_lines}
 
 pub lines-init : goal.lines-init
 lines-init g c = record { going = stage_here _ _ _; room = omega (arith, c.requires); counted = omega arith; sink_later = omega arith }

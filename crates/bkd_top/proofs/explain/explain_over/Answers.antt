@@ -3,13 +3,12 @@ use Rattle.std.proofs.Common.{IsTrue, arith, refl, sym, subst, ◌∙◌}
 use Rattle.outer_io.specs.Files.{Files}
 use Rattle.segment_set.proofs.Sizes.{set_fits}
 use Rattle.explain_queries.specs.Explains.{IsExplaining}
-use Rattle.script_run.proofs.Ending.{cause_from}
-use Rattle.script_run.proofs.Lined.{fault_cause}
 use Rattle.script_run.proofs.Scoped.{attached_explains, scope_holds}
 use Rattle.bkd_top.proofs.Telling.{unread_ends}
-use Rattle.script_run.proofs.Shown.{fault_at, fault_shows, stop_less}
+use Rattle.script_run.proofs.Shown.{fault_at, stop_less}
 use Rattle.segment_set.specs.Faithful.{IsFaithful}
 use Rattle.bkd_top.proofs.explain.explain_over.Goals as goal
+use Rattle.run_status.proofs.Ending.{cause_from, fault_shows, fault_cause}
 
 pub attach-requires : goal.attach-requires
 attach-requires g c = (set_fits g.row.D c.requires.most_dims, c.requires.dims)

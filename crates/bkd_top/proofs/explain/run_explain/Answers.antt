@@ -1,11 +1,10 @@
 -- The lines that were read are the source's text, and the status says how they ended.
 use Rattle.std.proofs.Common.{refl, sym, subst, ◌∙◌, ◌≤◌, ◌^◌, ℕ, List, length}
 use Rattle.run_status.specs.Ends.{DoesNothing, IsDamaged}
-use Rattle.script_run.proofs.Ending.{does_lines, folder_stopped, sink_stopped}
 use Rattle.script_run.proofs.Scoped.{scope_of}
 use Rattle.bkd_top.proofs.Telling.{none_told, told_ends, told_undamaged}
-use Rattle.script_run.proofs.Shown.{status_shows}
 use Rattle.bkd_top.proofs.explain.run_explain.Goals as goal
+use Rattle.run_status.proofs.Ending.{does_lines, folder_stopped, sink_stopped, status_shows}
 
 pub returns-in-Ok-clause-never_usage : goal.returns-in-Ok-clause-never_usage
 returns-in-Ok-clause-never_usage g c = λ e. does_lines c.explain_lines.result (subst DoesNothing (sym (sym c.status_of.ensures ∙ e)) tt)

@@ -1,6 +1,6 @@
 -- What it did is told.
 use Rattle.std.proofs.Common.{refl}
-use Rattle.drawn_points.specs.Generated.{generated}
+use Rattle.drawn_points.specs.Generated.{generate_answer}
 use Rattle.bkd_top.proofs.Finished.{does_from, of_done, whole_undamaged}
 use Rattle.bkd_top.proofs.loads.run_generate.Goals as goal
 
@@ -16,7 +16,7 @@ returns-clause-canon g c = λ told state h answer. of_done c.generate-done.resul
 pub returns-clause-damage : goal.returns-clause-damage
 returns-clause-damage g c = record {
   never = λ told state h. c.tell.ensures.damaged
-      (whole_undamaged (g.F.Pages.files c.generate-done.new.folder) state (generated state c.args.docs c.args.seed) c.new-text.result.items
+      (whole_undamaged (g.F.Pages.files c.generate-done.new.folder) state (generate_answer state c.args.docs c.args.seed) c.new-text.result.items
       c.generate-done.new.text.items c.generate-done.result (c.generate-done.ensures.generates told state h));
   evident = c.tell.ensures.evident g.F.Pages.told (g.F.Pages.files c.generate-done.new.folder) c.generate-done.ensures.evident;
 }

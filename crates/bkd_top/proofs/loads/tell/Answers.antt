@@ -5,11 +5,11 @@ use Rattle.run_status.specs.Ends.{IsAnswer}
 use Rattle.run_status.specs.Ends.{DoesNothing, IsDamaged}
 use Rattle.run_status.specs.Stops.{status_of}
 use Rattle.script_run.proofs.Calling.{fault_keeps, sent_keeps}
-use Rattle.script_run.proofs.Ending.{does_lines, folder_stopped, sink_stopped}
 use Rattle.bkd_top.proofs.Finished.{count_sent, fault_ends, fault_no_answer, fault_no_sink, fault_rose, fault_undamaged, sent_ends, sent_no_folder}
 use Rattle.bkd_top.proofs.Finished.{sent_undamaged}
-use Rattle.script_run.proofs.Shown.{fault_status, sink_shows, status_shows}
+use Rattle.script_run.proofs.Shown.{fault_status}
 use Rattle.bkd_top.proofs.loads.tell.Goals as goal
+use Rattle.run_status.proofs.Ending.{does_lines, folder_stopped, sink_stopped, sink_shows, status_shows}
 
 pub returns-in-Ok-clause-done : goal.returns-in-Ok-clause-done
 returns-in-Ok-clause-done g c = λ d. does_lines c.send.result (subst DoesNothing c.status_of.ensures d)

@@ -1,6 +1,6 @@
 -- Each command ends as its own definition says.
 use Rattle.std.proofs.Common.{IsTrue, refl, sym, ap, subst, inl, inr}
-use Rattle.command_words.specs.Commands.{Asked, said}
+use Rattle.command_words.specs.Commands.{Task, task_of}
 use Rattle.bkd_top.specs.Commands.{is_session, reads_input, reads_whole}
 use Rattle.run_status.specs.Ends.{DoesNothing}
 use Rattle.bkd_top.proofs.Commanding.{batch_ends, called, check_ends, count_ends, explain_ends, generate_ends, is_so, left_by, load_ends, ranges_ends, run_ends}
@@ -14,7 +14,7 @@ returns-in-Generate-clause-ends g c = λ told state h source.
     generate_ends (IsTrue g.K.Sink.told) c.args.words
     (record { state = state; files = g.F.Pages.files c.args.folder.now; input = g.S.Source.left c.args.input.now; written = g.K.Sink.written c.args.out.now })
     (g.F.Pages.files c.run_generate.new.folder) (g.K.Sink.written c.run_generate.new.out) c.run_generate.result
-    _ _ _ (ap said c.in-Generate.is) (c.run_generate.ensures.ends told state h (g.S.Source.left c.args.input.now))
+    _ _ _ (ap task_of c.in-Generate.is) (c.run_generate.ensures.ends told state h (g.S.Source.left c.args.input.now))
 
 pub returns-in-Generate-clause-canon : goal.returns-in-Generate-clause-canon
 returns-in-Generate-clause-canon g c = c.run_generate.ensures.canon
@@ -34,22 +34,22 @@ returns-in-Generate-clause-untouched g c = λ other d. absurd (c.run_generate.en
 
 pub returns-in-Generate-clause-input : goal.returns-in-Generate-clause-input
 returns-in-Generate-clause-input g c = λ told.
-    taken_by c.args.words _ (g.S.Source.left c.args.input.now) (g.S.Source.left c.args.input.now) c.run_generate.result (ap said c.in-Generate.is) tt
+    taken_by c.args.words _ (g.S.Source.left c.args.input.now) (g.S.Source.left c.args.input.now) c.run_generate.result (ap task_of c.in-Generate.is) tt
 
 pub returns-in-Generate-clause-leaves : goal.returns-in-Generate-clause-leaves
 returns-in-Generate-clause-leaves g c = λ told.
     left_by c.args.words _
     (called g.S.Source.told g.K.Sink.told (g.S.Source.left c.args.input.now) (g.F.Pages.files c.args.folder.now) (g.F.Pages.files c.run_generate.new.folder)
     (g.K.Sink.written c.args.out.now) (g.K.Sink.written c.run_generate.new.out) (g.F.Pages.reads c.args.folder.now) (g.F.Pages.reads c.run_generate.new.folder))
-    c.run_generate.result (ap said c.in-Generate.is) (c.run_generate.ensures.whole told)
+    c.run_generate.result (ap task_of c.in-Generate.is) (c.run_generate.ensures.whole told)
 
 pub returns-in-Generate-clause-lasting : goal.returns-in-Generate-clause-lasting
 returns-in-Generate-clause-lasting g c = c.run_generate.ensures.lasting
 
 pub returns-in-Run : goal.returns-in-Run
 returns-in-Run g c =
-    let is = ap said c.in-Run.is in
-    let reads = ap (λ (a : Asked). reads_input a) is in
+    let is = ap task_of c.in-Run.is in
+    let reads = ap (λ (a : Task). reads_input a) is in
     let e = c.run_script.ensures in
     let input = g.S.Source.left c.args.input.now in
     let old = g.F.Pages.files c.args.folder.now in
@@ -61,7 +61,7 @@ returns-in-Run g c =
           (record { state = state; files = old; input = input; written = before }) new after c.run_script.result _ _ is (e.ends (source reads) told state h);
       input = λ told. taken_by c.args.words _ input (g.S.Source.left c.run_script.new.input) c.run_script.result is (e.input told);
       unread = is_so (λ a. reads_input a) c.args.words _ is refl;
-      large = λ w. ap (λ (a : Asked). reads_whole a) is;
+      large = λ w. ap (λ (a : Task). reads_whole a) is;
       untouched = λ other. e.untouched;
       canon = e.canon;
       leaves = λ told. left_by c.args.words _
@@ -74,8 +74,8 @@ returns-in-Run g c =
 
 pub returns-in-Load : goal.returns-in-Load
 returns-in-Load g c =
-    let is = ap said c.in-Load.is in
-    let reads = ap (λ (a : Asked). reads_input a) is in
+    let is = ap task_of c.in-Load.is in
+    let reads = ap (λ (a : Task). reads_input a) is in
     let e = c.run_load.ensures in
     let input = g.S.Source.left c.args.input.now in
     let old = g.F.Pages.files c.args.folder.now in
@@ -88,7 +88,7 @@ returns-in-Load g c =
           (rw c.as_slice.ensures.value at (e.ends (source reads) told state h));
       input = λ told. taken_by c.args.words _ input (g.S.Source.left c.run_load.new.input) c.run_load.result is (e.input told);
       unread = is_so (λ a. reads_input a) c.args.words _ is refl;
-      large = λ w. ap (λ (a : Asked). reads_whole a) is;
+      large = λ w. ap (λ (a : Task). reads_whole a) is;
       untouched = λ other. e.untouched;
       canon = e.canon;
       leaves = λ told. left_by c.args.words _
@@ -101,8 +101,8 @@ returns-in-Load g c =
 
 pub returns-in-Explain : goal.returns-in-Explain
 returns-in-Explain g c =
-    let is = ap said c.in-Explain.is in
-    let reads = ap (λ (a : Asked). reads_input a) is in
+    let is = ap task_of c.in-Explain.is in
+    let reads = ap (λ (a : Task). reads_input a) is in
     let e = c.run_explain.ensures in
     let input = g.S.Source.left c.args.input.now in
     let old = g.F.Pages.files c.args.folder.now in
@@ -114,7 +114,7 @@ returns-in-Explain g c =
           (record { state = state; files = old; input = input; written = before }) new after c.run_explain.result _ is (e.ends (source reads) told);
       input = λ told. taken_by c.args.words _ input (g.S.Source.left c.run_explain.new.input) c.run_explain.result is (e.input told);
       unread = is_so (λ a. reads_input a) c.args.words _ is refl;
-      large = λ w. ap (λ (a : Asked). reads_whole a) is;
+      large = λ w. ap (λ (a : Task). reads_whole a) is;
       untouched = λ other. e.untouched;
       canon = λ told state h a. canonical_still _ _ (e.files told);
       leaves = λ told. left_by c.args.words _
@@ -127,8 +127,8 @@ returns-in-Explain g c =
 
 pub returns-in-Session : goal.returns-in-Session
 returns-in-Session g c =
-    let is = ap said c.in-Session.is in
-    let reads = ap (λ (a : Asked). reads_input a) is in
+    let is = ap task_of c.in-Session.is in
+    let reads = ap (λ (a : Task). reads_input a) is in
     let e = c.run_session.ensures in
     let input = g.S.Source.left c.args.input.now in
     let old = g.F.Pages.files c.args.folder.now in
@@ -153,7 +153,7 @@ returns-in-Session g c =
 
 pub returns-in-Check : goal.returns-in-Check
 returns-in-Check g c =
-    let is = ap said c.in-Check.is in
+    let is = ap task_of c.in-Check.is in
     let e = c.run_check.ensures in
     let input = g.S.Source.left c.args.input.now in
     let old = g.F.Pages.files c.args.folder.now in
@@ -179,8 +179,8 @@ returns-in-Check g c =
 
 pub returns-in-Count : goal.returns-in-Count
 returns-in-Count g c =
-    let is = ap said c.in-Count.is in
-    let reads = ap (λ (a : Asked). reads_input a) is in
+    let is = ap task_of c.in-Count.is in
+    let reads = ap (λ (a : Task). reads_input a) is in
     let e = c.run_count.ensures in
     let input = g.S.Source.left c.args.input.now in
     let old = g.F.Pages.files c.args.folder.now in
@@ -192,7 +192,7 @@ returns-in-Count g c =
           (record { state = state; files = old; input = input; written = before }) new after c.run_count.result _ is (e.ends (source reads) told);
       input = λ told. taken_by c.args.words _ input (g.S.Source.left c.run_count.new.input) c.run_count.result is (e.input told);
       unread = is_so (λ a. reads_input a) c.args.words _ is refl;
-      large = λ w. ap (λ (a : Asked). reads_whole a) is;
+      large = λ w. ap (λ (a : Task). reads_whole a) is;
       untouched = λ other. e.untouched;
       canon = λ told state h a. canonical_still _ _ (e.files told);
       leaves = λ told. left_by c.args.words _
@@ -205,8 +205,8 @@ returns-in-Count g c =
 
 pub returns-in-Ranges : goal.returns-in-Ranges
 returns-in-Ranges g c =
-    let is = ap said c.in-Ranges.is in
-    let reads = ap (λ (a : Asked). reads_input a) is in
+    let is = ap task_of c.in-Ranges.is in
+    let reads = ap (λ (a : Task). reads_input a) is in
     let e = c.run_ranges.ensures in
     let input = g.S.Source.left c.args.input.now in
     let old = g.F.Pages.files c.args.folder.now in
@@ -218,7 +218,7 @@ returns-in-Ranges g c =
           (record { state = state; files = old; input = input; written = before }) new after c.run_ranges.result _ _ is (e.ends (source reads) told state h);
       input = λ told. taken_by c.args.words _ input (g.S.Source.left c.run_ranges.new.input) c.run_ranges.result is (e.input told);
       unread = is_so (λ a. reads_input a) c.args.words _ is refl;
-      large = λ w. ap (λ (a : Asked). reads_whole a) is;
+      large = λ w. ap (λ (a : Task). reads_whole a) is;
       untouched = λ other. e.untouched;
       canon = e.canon;
       leaves = λ told. left_by c.args.words _
@@ -231,8 +231,8 @@ returns-in-Ranges g c =
 
 pub returns-in-Batch : goal.returns-in-Batch
 returns-in-Batch g c =
-    let is = ap said c.in-Batch.is in
-    let reads = ap (λ (a : Asked). reads_input a) is in
+    let is = ap task_of c.in-Batch.is in
+    let reads = ap (λ (a : Task). reads_input a) is in
     let e = c.run_batch.ensures in
     let input = g.S.Source.left c.args.input.now in
     let old = g.F.Pages.files c.args.folder.now in
@@ -244,7 +244,7 @@ returns-in-Batch g c =
           (record { state = state; files = old; input = input; written = before }) new after c.run_batch.result _ is (e.ends (source reads) told state h);
       input = λ told. taken_by c.args.words _ input (g.S.Source.left c.run_batch.new.input) c.run_batch.result is (e.input told);
       unread = is_so (λ a. reads_input a) c.args.words _ is refl;
-      large = λ w. ap (λ (a : Asked). reads_whole a) is;
+      large = λ w. ap (λ (a : Task). reads_whole a) is;
       untouched = λ other. e.untouched;
       canon = λ told state h a. canonical_still _ _ (e.files told);
       leaves = λ told. left_by c.args.words _
@@ -258,8 +258,8 @@ returns-in-Batch g c =
 
 pub returns-in-MergingBatch : goal.returns-in-MergingBatch
 returns-in-MergingBatch g c =
-    let is = ap said c.in-MergingBatch.is in
-    let reads = ap (λ (a : Asked). reads_input a) is in
+    let is = ap task_of c.in-MergingBatch.is in
+    let reads = ap (λ (a : Task). reads_input a) is in
     let e = c.run_merging_batch.ensures in
     let input = g.S.Source.left c.args.input.now in
     let old = g.F.Pages.files c.args.folder.now in
@@ -272,7 +272,7 @@ returns-in-MergingBatch g c =
           c.run_merging_batch.result _ is (e.ends (source reads) told state h);
       input = λ told. taken_by c.args.words _ input (g.S.Source.left c.run_merging_batch.new.input) c.run_merging_batch.result is (e.input told);
       unread = is_so (λ a. reads_input a) c.args.words _ is refl;
-      large = λ w. ap (λ (a : Asked). reads_whole a) is;
+      large = λ w. ap (λ (a : Task). reads_whole a) is;
       untouched = λ other. e.untouched;
       canon = λ told state h a. (e.leaves told).canon a;
       leaves = λ told. left_by c.args.words _

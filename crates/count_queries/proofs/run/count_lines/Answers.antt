@@ -6,7 +6,7 @@ use Rattle.commit_list.specs.Commits.{CommitData}
 use Rattle.commit_list.specs.CommitFiles.{IsCommitFile}
 use Rattle.script_lang.specs.Lines.{lines_of}
 use Rattle.stored_index.specs.Opening.{segments_pages}
-use Rattle.segment_view.specs.Parts.{heads_of}
+use Rattle.segment_view.specs.LiveSegments.{heads_of}
 use Rattle.index_opening.proofs.Evident.{on_commit_evident}
 use Rattle.run_status.specs.Told.{EndsLines}
 use Rattle.run_status.proofs.Ending.{cause_from, fault_cause, fault_shows, none_shows}

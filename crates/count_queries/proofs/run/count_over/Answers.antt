@@ -1,6 +1,6 @@
 -- The lines are told over the segments that were opened, or none is.
 use Rattle.std.proofs.Common.{IsTrue, arith, refl, ◌∙◌}
-use Rattle.segment_view.specs.Parts.{heads_of, lives_of}
+use Rattle.segment_view.specs.LiveSegments.{heads_of, lives_of}
 use Rattle.run_status.proofs.Ending.{cause_from, fault_cause, fault_shows}
 use Rattle.run_status.proofs.Telling.{none_told, unread_ends}
 use Rattle.count_queries.specs.Counted.{TellsCount}

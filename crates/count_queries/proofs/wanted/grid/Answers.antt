@@ -1,7 +1,7 @@
 -- Where all four numbers are read, the box says the rest.
 use Rattle.std.proofs.Common.{◌≡◌, ◌*◌, length, ap, sym, ◌∙◌, arith}
 use Rattle.std.proofs.lemmas.Result.{err_from_is_err_and}
-use Rattle.script_lang.specs.Parts.{left}
+use Rattle.script_lang.specs.Parts.{words_left}
 use Rattle.count_queries.specs.Asks.{on_success}
 use Rattle.count_queries.proofs.Asking.{grid_from, grid_read, words_four}
 use Rattle.count_queries.proofs.wanted.grid.Goals as goal
@@ -9,7 +9,7 @@ use Rattle.count_queries.proofs.wanted.grid.Goals as goal
 pub returns-in_err-lo : goal.returns-in_err-lo
 returns-in_err-lo g c =
     let p = err_from_is_err_and c.from_residual-in_err-lo.result c.from_residual-in_err-lo.ensures.1 in
-    let long : length (left c.next-4.new.self) ≡ 2 * g.row.D = sym c.count.ensures ∙ c.if-count.false in
+    let long : length (words_left c.next-4.new.self) ≡ 2 * g.row.D = sym c.count.ensures ∙ c.if-count.false in
     let six : c.next-4.new.self.place ≡ 6 = omega
     (arith, c.requires.second, c.in-Some.ensures.place, c.in-Some-next.ensures.place, c.in-Some-next-2.ensures.place, c.in-Some-next-3.ensures.place) in
     rw (p.1, p.2)

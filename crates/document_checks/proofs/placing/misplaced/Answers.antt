@@ -1,7 +1,7 @@
 use Rattle.std.proofs.Common.{◌≡◌, ◌≤◌, ◌<◌, ◌^◌, ℕ, arith, inl, inr}
 use Rattle.std.proofs.lemmas.Bool.{cases_lt}
 use Rattle.stored_index.specs.Segments.{places}
-use Rattle.document_checks.specs.Placed.{IsPlaced}
+use Rattle.document_checks.specs.Placed.{IsPlacedOnce}
 use Rattle.document_checks.proofs.placing.misplaced.Goals as goal
 
 pub returns-then-beyond-lt-LIMIT-clause-some : goal.returns-then-beyond-lt-LIMIT-clause-some

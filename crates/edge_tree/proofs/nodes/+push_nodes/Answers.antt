@@ -3,13 +3,13 @@ use Rattle.std.proofs.lemmas.List.{take_rest, take-append-drop}
 use Rattle.ring_parity.specs.Seen.{ends_of}
 use Rattle.edge_tree.specs.declared.runs.Run.{Run}
 use Rattle.edge_tree.specs.declared.nodes.Node.{Node}
-use Rattle.edge_tree.specs.Nodes.{all_in, all_held, AreNodes}
-use Rattle.edge_tree.proofs.Sound.{Stands, leaf_stands, halves_stand, held_pushed, kept_pushed, sound_pushed}
+use Rattle.edge_tree.specs.Nodes.{all_in, all_held_edges, AreNodes}
+use Rattle.edge_tree.proofs.Sound.{IsLastNode, leaf_stands, halves_stand, held_pushed, kept_pushed, sound_pushed}
 use Rattle.edge_tree.proofs.nodes.+push_nodes.Goals.{then-runs-eq1, else-runs-eq1+in_ok-left+in_ok-right}
 use Rattle.edge_tree.proofs.nodes.+push_nodes.Goals as goal
 
 stands : (t : ℕ) (c : goal.After-result-1 t)
-    → Stands (map ends_of c.args.edges.now) c.args.nodes.now.items c.if-runs-eq1.nodes.items (all_in (map ends_of c.args.edges.now) c.args.runs.now)
+    → IsLastNode (map ends_of c.args.edges.now) c.args.nodes.now.items c.if-runs-eq1.nodes.items (all_in (map ends_of c.args.edges.now) c.args.runs.now)
     c.if-runs-eq1.node
 stands t c =
     let begins : c.len-before.result ≡ length c.args.nodes.now.items = search rules in
@@ -38,7 +38,7 @@ returns-clause-sound t c =
 
 pub returns-clause-held : goal.returns-clause-held
 returns-clause-held t c =
-    ap (λ (nodes : List Node). all_held (map ends_of c.args.edges.now) (drop (length c.args.nodes.now.items) nodes)) c.in_ok-push.ensures.items
+    ap (λ (nodes : List Node). all_held_edges (map ends_of c.args.edges.now) (drop (length c.args.nodes.now.items) nodes)) c.in_ok-push.ensures.items
     ∙ held_pushed (map ends_of c.args.edges.now) c.args.nodes.now.items c.if-runs-eq1.nodes.items (all_in (map ends_of c.args.edges.now) c.args.runs.now)
     c.if-runs-eq1.node (stands t c)
 

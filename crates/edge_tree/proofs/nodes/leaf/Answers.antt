@@ -1,5 +1,5 @@
 use Rattle.std.proofs.Common.{◌≡◌, List, map, sym, subst, arith, slice_index_or}
-use Rattle.ring_parity.specs.Edges.{Ends}
+use Rattle.ring_parity.specs.Edges.{EdgeEnds}
 use Rattle.ring_parity.specs.Seen.{ends_of}
 use Rattle.edge_tree.specs.declared.runs.Run.{Run}
 use Rattle.edge_tree.specs.Outlines.{Outlines}
@@ -19,6 +19,6 @@ returns-clause-held c =
       there = there.there;
       held = sym run;
       outlined =
-          subst (λ (es : List Ends). Outlines es c.outline_of.result) (sym run)
+          subst (λ (es : List EdgeEnds). Outlines es c.outline_of.result) (sym run)
           (rw (run_seen c.args.edges.now r.first r.end) c.outline_of.ensures);
     }

@@ -19,7 +19,7 @@ use Rattle.folder_check.proofs.Pages.{pages_opened, pages_whole, read_of}
 use Rattle.folder_check.proofs.Whole.{all_listed, all_segments, file_heads, handed, known_of, on_fine_holds, on_wrong_undefined, own_heads}
 use Rattle.page_cache.proofs.Damages.{fault_weaker}
 use Rattle.index_opening.specs.First.{IsFirstOpened}
-use Rattle.folder_check.specs.First.{InOpening, IsFirstListed}
+use Rattle.folder_check.specs.First.{InOpening, IsFirstOfCommit}
 use Rattle.folder_check.proofs.First.{found_is_first, leaf_is_first}
 use Rattle.folder_check.proofs.checking.check_index.Goals as goal
 
@@ -144,7 +144,7 @@ returns-in_err-segments-clause-first g c = λ told.
     let T = IsTrue g.F.Pages.told in
     let e = err_from_is_err_and c.from_residual.result c.from_residual.ensures.1 in
     rw (e.1, e.2)
-    (fault_weaker c.in_err-segments.field-0.0 (IsFirstOpened T files c.args.c.now) (IsFirstListed T files c.args.c.now) (λ d here. InOpening here)
+    (fault_weaker c.in_err-segments.field-0.0 (IsFirstOpened T files c.args.c.now) (IsFirstOfCommit T files c.args.c.now) (λ d here. InOpening here)
     c.in_err-segments.ensures.first)
 
 pub returns-in_err-findings-clause-first : goal.returns-in_err-findings-clause-first

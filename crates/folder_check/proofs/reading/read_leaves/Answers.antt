@@ -7,7 +7,7 @@ use Rattle.page_cache.specs.Cache.{Agrees}
 use Rattle.segment_file.specs.Damages.{IsLeafDamageOf}
 use Rattle.page_cache.specs.Evidence.{FaultShows}
 use Rattle.segment_view.specs.Held.{HasOwnHead}
-use Rattle.segment_view.specs.Parts.{part_of}
+use Rattle.segment_view.specs.LiveSegments.{live_segment}
 use Rattle.segment_view.proofs.Living.{part_in}
 use Rattle.folder_check.specs.Found.{HasSegment, IsFinding}
 use Rattle.folder_check.proofs.Leaves.{fault_of_part, found_more}
@@ -20,7 +20,7 @@ loop-i-preserved g c =
     let was = c.loop-i.invariant in
     let one = c.in_ok-finding.ensures in
     let parts = c.args.segments.now in
-    let p = part_of c.part.result.0.now c.part.result.1.now in
+    let p = live_segment c.part.result.0.now c.part.result.1.now in
     let files = g.F.Pages.files c.args.folder.now in
     record {
       files = λ told. one.files told ∙ was.files told;
@@ -53,7 +53,7 @@ pub returns-in_err-finding-clause-reads : goal.returns-in_err-finding-clause-rea
 returns-in_err-finding-clause-reads g c = λ told own.
     let files = g.F.Pages.files c.args.folder.now in
     let parts = c.args.segments.now in
-    let p = part_of c.part.result.0.now c.part.result.1.now in
+    let p = live_segment c.part.result.0.now c.part.result.1.now in
     let most = pages_upto files parts c.loop-i.i p c.part.ensures in
     let before = c.loop-i.invariant.reads told own in
     let same = c.loop-i.invariant.files told in
@@ -64,7 +64,7 @@ returns-in_err-finding-clause-reads g c = λ told own.
 pub returns-in_err-finding-clause-shown : goal.returns-in_err-finding-clause-shown
 returns-in_err-finding-clause-shown g c =
     let e = err_from_is_err_and c.from_residual-in_err-finding.result c.from_residual-in_err-finding.ensures.1 in
-    let p = part_of c.part.result.0.now c.part.result.1.now in
+    let p = live_segment c.part.result.0.now c.part.result.1.now in
     rw (e.1, e.2)
     (fault_of_part g.row.D c.args.segments.now p c.in_err-finding.field-0.0 (part_in c.args.segments.now c.loop-i.i p c.part.ensures)
     c.in_err-finding.ensures.shown)
@@ -81,7 +81,7 @@ pub returns-in_err-finding-clause-whole : goal.returns-in_err-finding-clause-who
 returns-in_err-finding-clause-whole g c = λ told have.
     let e = err_from_is_err_and c.from_residual-in_err-finding.result c.from_residual-in_err-finding.ensures.1 in
     let same = c.loop-i.invariant.files told in
-    let p = part_of c.part.result.0.now c.part.result.1.now in
+    let p = live_segment c.part.result.0.now c.part.result.1.now in
     rw (e.1, e.2)
     (c.in_err-finding.ensures.whole told (subst (λ (f : Files). Agrees f c.loop-i.cache) (sym same) (c.loop-i.invariant.agrees told))
     (subst (λ (f : Files). HasSegment g.row.D f p) (sym same)
@@ -92,7 +92,7 @@ pub returns-in_err-extend_from_slice-clause-reads : goal.returns-in_err-extend_f
 returns-in_err-extend_from_slice-clause-reads g c = λ told own.
     let files = g.F.Pages.files c.args.folder.now in
     let parts = c.args.segments.now in
-    let p = part_of c.part.result.0.now c.part.result.1.now in
+    let p = live_segment c.part.result.0.now c.part.result.1.now in
     let most = pages_upto files parts c.loop-i.i p c.part.ensures in
     let before = c.loop-i.invariant.reads told own in
     let same = c.loop-i.invariant.files told in
@@ -103,7 +103,7 @@ returns-in_err-extend_from_slice-clause-reads g c = λ told own.
 pub returns-in_err-finding-clause-first : goal.returns-in_err-finding-clause-first
 returns-in_err-finding-clause-first g c = λ told own.
     let e = err_from_is_err_and c.from_residual-in_err-finding.result c.from_residual-in_err-finding.ensures.1 in
-    let p = part_of c.part.result.0.now c.part.result.1.now in
+    let p = live_segment c.part.result.0.now c.part.result.1.now in
     rw (e.1, e.2)
     (first_leaf g.row.D (g.F.Pages.files c.args.folder.now) c.args.segments.now c.loop-i.i p c.loop-i.findings.items c.in_err-finding.field-0.0 c.part.ensures
     (c.loop-i.invariant.found told own) c.in_err-finding.ensures.shown)

@@ -2,7 +2,7 @@ use Rattle.std.proofs.Common.{◌≡◌, ◌≤◌, ◌+◌, length, take}
 use Rattle.std.specs.Prelude.{IsTrue, All}
 use Rattle.std.specs.List.{AllZip, sum_by}
 use Rattle.page_cache.specs.Cache.{Agrees}
-use Rattle.segment_view.specs.Parts.{heads_of}
+use Rattle.segment_view.specs.LiveSegments.{heads_of}
 use Rattle.segment_view.specs.Held.{HasOwnHead}
 use Rattle.folder_check.specs.Checked.{leaf_pages}
 use Rattle.folder_check.specs.Found.{IsFinding}

@@ -1,12 +1,12 @@
 use Rattle.std.proofs.Common.{◌≡◌, ◌≤◌, ◌*◌, ◌-◌, Ok, IsTrue}
 use Rattle.drawn_points.specs.Draws.{draw}
-use Rattle.generate_index.specs.Generates.{IsMade, Makes}
+use Rattle.generate_index.specs.Generates.{IsDrawn, Makes}
 use Rattle.generate_index.proofs.generator.add_drawn.Given as goal
 
 -- so many documents came
 abbrev pub invariant-adds : goal.invariant-adds
 invariant-adds g l = record {
-  makes : Makes {T = Unit {0}} (IsTrue g.F.Pages.told) (IsMade l.initial.draws 0 0) (IsMade l.initial.draws l.number 0)
+  makes : Makes {T = Unit {0}} (IsTrue g.F.Pages.told) (IsDrawn l.initial.draws 0 0) (IsDrawn l.initial.draws l.number 0)
       (record { files = g.F.Pages.files l.initial.folder; session = l.initial.session; faults = g.F.Pages.faults l.initial.folder })
       (record { files = g.F.Pages.files l.folder; session = l.session; faults = g.F.Pages.faults l.folder }) (Ok tt);
   given : l.session.set.given ≡ l.number;

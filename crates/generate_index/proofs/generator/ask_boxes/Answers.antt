@@ -3,7 +3,7 @@ use Rattle.std.proofs.Common.{◌≡◌, ◌≤◌, ◌+◌, ◌*◌, ◌^◌, E
 use Rattle.std.proofs.lemmas.Result.{err_from_is_err_and}
 use Rattle.page_cache.specs.declared.faults.PageFault.{PageFault}
 use Rattle.point_codec.specs.Points.{in_box}
-use Rattle.cell_relate.specs.Boxes.{Asked}
+use Rattle.cell_relate.specs.Boxes.{CountedBox}
 use Rattle.documents.specs.Documents.{hits}
 use Rattle.drawn_points.specs.Draws.{draw, points}
 use Rattle.drawn_points.specs.Generated.{box_hits}
@@ -34,7 +34,7 @@ boxes-preserved g c = record {
       let count : c.len.result ≡ length (hits (in_box c.new-shape.result.bounds) (made_docs seed n)) =
       c.len.ensures ∙ (c.in_ok-found.found.ok.0 ∙ ap length (c.in_ok-found.ensures.found told (drawn_index seed n n) sees)) in
       c.saturating_add-hits.ensures
-      ∙ hits_more seed n c.boxes.boxes _ _ _ _ _ (ap (λ (a : Asked). a.bounds) c.new-shape.ensures) (c.corners.ensures.low seed (n + c.boxes.boxes) at)
+      ∙ hits_more seed n c.boxes.boxes _ _ _ _ _ (ap (λ (a : CountedBox). a.bounds) c.new-shape.ensures) (c.corners.ensures.low seed (n + c.boxes.boxes) at)
       (c.corners.ensures.high seed (n + c.boxes.boxes) at) few c.boxes-test.true
       c.sums_are_small.ensures.boxes (c.boxes.invariant.hits told seed n before drawn) count;
   drawn = λ seed n drawn. c.corners.ensures.after seed (n + c.boxes.boxes) (c.boxes.invariant.drawn seed n drawn)

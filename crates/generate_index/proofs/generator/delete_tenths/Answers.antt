@@ -4,7 +4,7 @@ use Rattle.std.proofs.lemmas.List.FromFn.{length-map-range_with_len}
 use Rattle.documents.specs.Documents.{Document}
 use Rattle.segment_set.specs.Seen.{Sees}
 use Rattle.index_core.proofs.Bringing.{brings_same, brings_then}
-use Rattle.drawn_points.specs.Generated.{document, documents, kept}
+use Rattle.drawn_points.specs.Generated.{document, documents, kept_docs}
 use Rattle.generate_index.specs.Generates.{drawn_index}
 use Rattle.generate_index.proofs.Fewer.{left_is}
 use Rattle.generate_index.proofs.generator.delete_tenths.Goals as goal
@@ -24,20 +24,20 @@ deletes-init c = record {
 pub deletes-preserved : goal.deletes-preserved
 deletes-preserved c = record {
   made = λ files faults seed before.
-      subst (λ (docs : List Document). Sees 2 files c.take_out-goes.new.self.set (record (drawn_index seed c.args.docs c.args.docs) { docs = docs }))
+      subst (λ (docs : List Document). Sees 2 files c.delete_document-goes.new.self.set (record (drawn_index seed c.args.docs c.args.docs) { docs = docs }))
       (sym (c.documents_deleted.ensures.more seed c.args.docs c.deletes.number c.deletes.invariant.tenth))
-      (c.take_out-goes.ensures.seen files (drawn_index seed c.args.docs c.deletes.number) (c.deletes.invariant.made files faults seed before));
+      (c.delete_document-goes.ensures.seen files (drawn_index seed c.args.docs c.deletes.number) (c.deletes.invariant.made files faults seed before));
   live = λ files faults seed before.
       let seen = c.deletes.invariant.made files faults seed before in
       c.left-live.ensures
-      ∙ left_is c.deletes.number c.deletes.live (kept c.deletes.number (documents seed c.args.docs)) c.take_out-goes.result seen.docs.ascend
-      (c.take_out-goes.ensures.live files (drawn_index seed c.args.docs c.deletes.number) seen)
+      ∙ left_is c.deletes.number c.deletes.live (kept_docs c.deletes.number (documents seed c.args.docs)) c.delete_document-goes.result seen.docs.ascend
+      (c.delete_document-goes.ensures.live files (drawn_index seed c.args.docs c.deletes.number) seen)
       (c.deletes.invariant.live files faults seed before)
       ∙ ap length (sym (c.documents_deleted.ensures.more seed c.args.docs c.deletes.number c.deletes.invariant.tenth));
-  guards = λ files guards. c.take_out-goes.ensures.guards files (c.deletes.invariant.guards files guards);
-  faithful = λ files faithful. c.take_out-goes.ensures.faithful files (c.deletes.invariant.faithful files faithful);
-  traced = λ files traced. c.take_out-goes.ensures.traced files (c.deletes.invariant.traced files traced);
-  canon = λ files. brings_then 2 files files files _ _ _ (c.deletes.invariant.canon files) (c.take_out-goes.ensures.canon files);
+  guards = λ files guards. c.delete_document-goes.ensures.guards files (c.deletes.invariant.guards files guards);
+  faithful = λ files faithful. c.delete_document-goes.ensures.faithful files (c.deletes.invariant.faithful files faithful);
+  traced = λ files traced. c.delete_document-goes.ensures.traced files (c.deletes.invariant.traced files traced);
+  canon = λ files. brings_then 2 files files files _ _ _ (c.deletes.invariant.canon files) (c.delete_document-goes.ensures.canon files);
   tenth = omega (arith, c.deletes.invariant.tenth);
 }
 

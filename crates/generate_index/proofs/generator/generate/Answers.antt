@@ -14,7 +14,7 @@ use Rattle.index_core.proofs.FaultCauses.{cause_then, done_cause, fault_to, memo
 use Rattle.index_core.proofs.Wholes.{state_undamaged}
 use Rattle.index_model.specs.State.{State}
 use Rattle.stored_index.specs.Stored.{IsStored}
-use Rattle.drawn_points.specs.Generated.{generated}
+use Rattle.drawn_points.specs.Generated.{generate_answer}
 use Rattle.generate_index.proofs.Ended.{commit_there, ends_there, ends_unread, ends_untold, memory_evident, none_anew, none_there, unread_evident}
 use Rattle.generate_index.proofs.generator.generate.Goals as goal
 
@@ -30,7 +30,7 @@ pub returns-in-Ok-None-clause-generates : goal.returns-in-Ok-None-clause-generat
 returns-in-Ok-None-clause-generates g c = λ told state h.
     let same = c.in-Ok-None.ensures.files told in
     let none = rw c.in-Ok-None.field-0-is at (c.in-Ok-None.ensures.found told) in
-    subst (λ (s : State). DoesWhole (g.F.Pages.files c.generate_first.new.folder) s (generated s c.args.docs c.args.seed) c.args.text.now.items
+    subst (λ (s : State). DoesWhole (g.F.Pages.files c.generate_first.new.folder) s (generate_answer s c.args.docs c.args.seed) c.args.text.now.items
     c.generate_first.new.text.items c.generate_first.result) (sym (none_there (g.F.Pages.files c.args.folder.now) state none h))
     (c.generate_first.ensures.generates told (ap (λ (f : Files). f Commit) same ∙ none))
 
@@ -42,7 +42,7 @@ returns-in-Ok-None-clause-canon g c = λ told state h.
 
 pub returns-clause-generates : goal.returns-clause-generates
 returns-clause-generates g c = λ told state h.
-    ends_unread Bool (g.F.Pages.files c.args.folder.now) (g.F.Pages.files c.read_commit.new.folder) state (generated state c.args.docs c.args.seed)
+    ends_unread Bool (g.F.Pages.files c.args.folder.now) (g.F.Pages.files c.read_commit.new.folder) state (generate_answer state c.args.docs c.args.seed)
     c.args.text.now.items c.args.text.now.items c.in-Err.fault _ refl
     (state_undamaged (g.F.Pages.files c.args.folder.now) state h (c.in-Err.ensures.absent told) (c.in-Err.ensures.whole told)) (c.in-Err.ensures.files told) h
 
@@ -83,7 +83,8 @@ returns-in_err-put_exists-in-Ok-Some-clause-cause g c =
 pub returns-in_err-put_exists-in-Ok-Some-clause-generates : goal.returns-in_err-put_exists-in-Ok-Some-clause-generates
 returns-in_err-put_exists-in-Ok-Some-clause-generates g c = λ told state h.
     let p = err_from_is_err_and c.from_residual.result c.from_residual.ensures.1 in
-    ends_untold (g.F.Pages.files c.read_commit.new.folder) state (generated state c.args.docs c.args.seed) c.args.text.now.items c.put_exists.new.text.items
+    ends_untold (g.F.Pages.files c.read_commit.new.folder) state (generate_answer state c.args.docs c.args.seed) c.args.text.now.items
+        c.put_exists.new.text.items
     _ (p.1 ∙ ap (λ (e : PageFault). Err e) p.2)
     (subst (λ (f : Files). IsStored f state) (sym (c.in-Ok-Some.ensures.files told)) h)
 

@@ -8,7 +8,7 @@ use Rattle.index_core.proofs.Brought.{commit_after, commit_itself}
 use Rattle.index_core.proofs.FaultCauses.{cause_then, fault_to, memory_cause}
 use Rattle.index_core.proofs.Undone.{begins_none, levels_after, undone_after, undone_kept}
 use Rattle.stored_index.proofs.KeptFiles.{kept_itself}
-use Rattle.drawn_points.specs.Generated.{generated}
+use Rattle.drawn_points.specs.Generated.{generate_answer}
 use Rattle.generate_index.specs.Generates.{drawn_index}
 use Rattle.generate_index.proofs.Ended.{cause_done, created, ends_early, ends_made, ends_uncommitted}
 use Rattle.generate_index.proofs.Ended.{ends_uncreated, ends_unsaid, fault_evident, made_canon, memory_evident}
@@ -27,13 +27,14 @@ fill-requires-clause-none g c κs within = sym (c.in_ok-session.ensures.seen (g.
 pub returns-in_err-session-clause-generates : goal.returns-in_err-session-clause-generates
 returns-in_err-session-clause-generates g c told none =
     let p = err_from_is_err_and c.from_residual.result c.from_residual.ensures.1 in
-    ends_uncreated (g.F.Pages.files c.args.folder.now) (generated None c.args.docs c.args.seed) c.args.text.now.items c.args.text.now.items
+    ends_uncreated (g.F.Pages.files c.args.folder.now) (generate_answer None c.args.docs c.args.seed) c.args.text.now.items c.args.text.now.items
     _ (p.1 ∙ ap (λ (e : PageFault). Err e) p.2) none
 
 pub returns-in_err-summary-clause-generates : goal.returns-in_err-summary-clause-generates
 returns-in_err-summary-clause-generates g c told none =
     let p = err_from_is_err_and c.from_residual-in_err-summary.result c.from_residual-in_err-summary.ensures.1 in
-    ends_early _ c.args.seed c.args.docs _ _ (generated None c.args.docs c.args.seed) c.args.text.now.items c.args.text.now.items c.in_err-summary.field-0.0
+    ends_early _ c.args.seed c.args.docs _ _ (generate_answer None c.args.docs c.args.seed) c.args.text.now.items c.args.text.now.items
+        c.in_err-summary.field-0.0
     _ (p.1 ∙ ap (λ (e : PageFault). Err e) p.2) c.in_err-summary.ensures.makes told
     (created c.args.seed c.greatest_leaf.result (g.F.Pages.files c.args.folder.now) c.in_ok-session.session (g.F.Pages.faults c.args.folder.now)
     c.greatest_leaf.ensures (c.documents_deleted.ensures.none c.args.seed 0) (c.documents_added.ensures.none c.args.seed) none
@@ -43,7 +44,7 @@ returns-in_err-summary-clause-generates g c told none =
 pub returns-in_err-put_summary-clause-generates : goal.returns-in_err-put_summary-clause-generates
 returns-in_err-put_summary-clause-generates g c told none =
     let p = err_from_is_err_and c.from_residual-in_err-put_summary.result c.from_residual-in_err-put_summary.ensures.1 in
-    ends_unsaid _ c.args.seed c.args.docs _ _ c.in_ok-summary.summary (generated None c.args.docs c.args.seed) c.args.text.now.items
+    ends_unsaid _ c.args.seed c.args.docs _ _ c.in_ok-summary.summary (generate_answer None c.args.docs c.args.seed) c.args.text.now.items
     c.put_summary.new.text.items _ (p.1 ∙ ap (λ (e : PageFault). Err e) p.2) c.in_ok-summary.ensures.makes told
     (created c.args.seed c.greatest_leaf.result (g.F.Pages.files c.args.folder.now) c.in_ok-session.session (g.F.Pages.faults c.args.folder.now)
     c.greatest_leaf.ensures (c.documents_deleted.ensures.none c.args.seed 0) (c.documents_added.ensures.none c.args.seed) none

@@ -1,7 +1,7 @@
 use Rattle.std.proofs.Common.{◌∙◌, rules, arith}
 use Rattle.std.specs.Prelude.{IsTrue}
 use Rattle.std.proofs.lemmas.Result.{err_from_is_err_and}
-use Rattle.segment_view.specs.Parts.{part_of}
+use Rattle.segment_view.specs.LiveSegments.{live_segment}
 use Rattle.index_opening.proofs.Ordered.{fresh_next, opened_next, reads_next, whole_next}
 use Rattle.index_opening.proofs.First.{first_next}
 use Rattle.index_opening.proofs.opening.open_all.Goals as goal
@@ -48,7 +48,7 @@ pub loop-s-preserved : goal.loop-s-preserved
 loop-s-preserved g c = record {
   opened = opened_next (IsTrue g.F.Pages.told) (g.F.Pages.files c.loop-s.folder) (g.F.Pages.files c.args.folder.now) c.args.c.now c.listed-listed.result.now
       c.loop-s.s-index _
-      (part_of c.in_ok-head.head c.in_ok-head.live) c.loop-s.segments c.insert.new.self c.listed-listed.ensures.value c.loop-s.invariant.files
+      (live_segment c.in_ok-head.head c.in_ok-head.live) c.loop-s.segments c.insert.new.self c.listed-listed.ensures.value c.loop-s.invariant.files
       c.listed-listed.ensures.commit.segments.rising c.loop-s-test.true
       c.loop-s.invariant.opened c.in_ok-head.ensures.opened c.in_ok-insert.ensures.placed c.in_ok-insert.ensures.ascend;
   files = λ told. c.in_ok-head.ensures.files told ∙ c.loop-s.invariant.files told;

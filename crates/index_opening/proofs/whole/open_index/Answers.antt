@@ -10,8 +10,8 @@ use Rattle.page_cache.proofs.Damages.{fault_weaker}
 use Rattle.commit_list.specs.declared.listed.Listed.{Listed}
 use Rattle.commit_list.specs.CommitFiles.{IsCommitFile}
 use Rattle.stored_index.specs.Segments.{places}
-use Rattle.segment_view.specs.Parts.{lives_of}
-use Rattle.document_checks.specs.Placed.{IsPlaced}
+use Rattle.segment_view.specs.LiveSegments.{lives_of}
+use Rattle.document_checks.specs.Placed.{IsPlacedOnce}
 use Rattle.index_opening.specs.Damages.{IsAttachDamage, IsAttachDamageOf, IsListedDamage, IsListedDamageOf, IsMisplaced}
 use Rattle.index_opening.proofs.Listed.{listed_of, listed_shown, misplaced_at, misplaced_of, misplaced_shown}
 use Rattle.index_opening.proofs.Listed.{opened_heads, opened_lives, undefined_fault, whole_listed, whole_placed}
@@ -71,8 +71,8 @@ returns-in_err-check_numbers-clause-evident g c =
 
 pub returns-clause-placed : goal.returns-clause-placed
 returns-clause-placed g c = λ number.
-    subst (λ (n : ℕ). IsPlaced n (lives_of c.in_ok-segments.segments) number) c.next.ensures.value
-    (subst (λ (ss : List LiveSet). IsPlaced c.next.result ss number) c.lives.ensures (c.in_ok-check_numbers.ensures.alone number))
+    subst (λ (n : ℕ). IsPlacedOnce n (lives_of c.in_ok-segments.segments) number) c.next.ensures.value
+    (subst (λ (ss : List LiveSet). IsPlacedOnce c.next.result ss number) c.lives.ensures (c.in_ok-check_numbers.ensures.alone number))
 
 pub returns-in_err-segments-clause-named : goal.returns-in_err-segments-clause-named
 returns-in_err-segments-clause-named g c = λ told says.

@@ -2,7 +2,7 @@ use Rattle.std.proofs.Common.{◌≡◌, ◌≤◌, ◌-◌, ◌/◌, ◌∙◌,
 use Rattle.point_codec.specs.Keys.{key}
 use Rattle.point_codec.specs.Cells.{left_of, right_of}
 use Rattle.point_codec.specs.Seen.{region_of}
-use Rattle.inner_pack.specs.Places.{Spot, fitted}
+use Rattle.inner_pack.specs.Places.{Spot, leaf_begin}
 use Rattle.inner_pack.specs.Trees.{Split, IsInCell}
 use Rattle.inner_pack.specs.Bodies.{first_length, right_begin}
 use Rattle.inner_pack.specs.Heads.{spot_of, SaysSplit}
@@ -25,7 +25,7 @@ returns-in_err-head-clause-only g t c t' h =
     let sp = is_split n t' two h.shaped in
     let l = sp.l in
     let r = sp.r in
-    let s = fitted e (first_length l) in
+    let s = leaf_begin e (first_length l) in
     let node = as_split D form n e path refs b p t' sp.d sp.x l r sp.is h in
     let room : s.page ≤ 8388608 = omega (arith, fitted_to e (first_length l), c.requires.room, two) in
     let fits = in_cell_fits D sp.d sp.x path c.is_cell.ensures node.cells.0 in
@@ -45,7 +45,7 @@ returns-then-not-is_in_cell-clause-only g t c t' h =
     let sp = is_split n t' two h.shaped in
     let l = sp.l in
     let r = sp.r in
-    let s = fitted e (first_length l) in
+    let s = leaf_begin e (first_length l) in
     let node = as_split D form n e path refs b p t' sp.d sp.x l r sp.is h in
     let room : s.page ≤ 8388608 = omega (arith, fitted_to e (first_length l), c.requires.room, two) in
     let fits = in_cell_fits D sp.d sp.x path c.is_cell.ensures node.cells.0 in
@@ -72,7 +72,7 @@ returns-in_err-left-clause-only g t c t' h =
     let sp = is_split n t' two h.shaped in
     let l = sp.l in
     let r = sp.r in
-    let s = fitted e (first_length l) in
+    let s = leaf_begin e (first_length l) in
     let node = as_split D form n e path refs b p t' sp.d sp.x l r sp.is h in
     let room : s.page ≤ 8388608 = omega (arith, fitted_to e (first_length l), c.requires.room, two) in
     let fits = in_cell_fits D sp.d sp.x path c.is_cell.ensures node.cells.0 in
@@ -105,7 +105,7 @@ returns-in_err-right-clause-only g t c t' h =
     let sp = is_split n t' two h.shaped in
     let l = sp.l in
     let r = sp.r in
-    let s = fitted e (first_length l) in
+    let s = leaf_begin e (first_length l) in
     let node = as_split D form n e path refs b p t' sp.d sp.x l r sp.is h in
     let room : s.page ≤ 8388608 = omega (arith, fitted_to e (first_length l), c.requires.room, two) in
     let fits = in_cell_fits D sp.d sp.x path c.is_cell.ensures node.cells.0 in
@@ -124,7 +124,7 @@ returns-in_err-right-clause-only g t c t' h =
     (left_node D form n s path refs b p sp.d sp.x l r head node says) in
     let lspan = c.in_ok-left.ensures.only l lnode in
     let found = right_found e (spot_of c.in_ok-left.left.end) l r (left_lengths l r node.lengths) lspan.end in
-    let rnode = said_otherwise D form (n / 2) (right_begin s l r) (fitted (spot_of c.in_ok-left.left.end) (first_length r)) (right_of path sp.d sp.x)
+    let rnode = said_otherwise D form (n / 2) (right_begin s l r) (leaf_begin (spot_of c.in_ok-left.left.end) (first_length r)) (right_of path sp.d sp.x)
     (region_of c.split-left_path.result.1) (slice_set refs sp.d (key sp.x)) c.with_key-references.result head.right.bytes.now head.right.places.now r found
     rpath moved (right_node D form n s path refs b p sp.d sp.x l r head node says) in
     absurd (c.in_err-right.ensures.only r rnode)
@@ -143,7 +143,7 @@ returns-then-not-tells-clause-only g t c t' h =
     let sp = is_split n t' two h.shaped in
     let l = sp.l in
     let r = sp.r in
-    let s = fitted e (first_length l) in
+    let s = leaf_begin e (first_length l) in
     let node = as_split D form n e path refs b p t' sp.d sp.x l r sp.is h in
     let room : s.page ≤ 8388608 = omega (arith, fitted_to e (first_length l), c.requires.room, two) in
     let fits = in_cell_fits D sp.d sp.x path c.is_cell.ensures node.cells.0 in
@@ -162,7 +162,7 @@ returns-then-not-tells-clause-only g t c t' h =
     (left_node D form n s path refs b p sp.d sp.x l r head node says) in
     let lspan = c.in_ok-left.ensures.only l lnode in
     let found = right_found e (spot_of c.in_ok-left.left.end) l r (left_lengths l r node.lengths) lspan.end in
-    let rnode = said_otherwise D form (n / 2) (right_begin s l r) (fitted (spot_of c.in_ok-left.left.end) (first_length r)) (right_of path sp.d sp.x)
+    let rnode = said_otherwise D form (n / 2) (right_begin s l r) (leaf_begin (spot_of c.in_ok-left.left.end) (first_length r)) (right_of path sp.d sp.x)
     (region_of c.split-left_path.result.1) (slice_set refs sp.d (key sp.x)) c.with_key-references.result head.right.bytes.now head.right.places.now r found
     rpath moved (right_node D form n s path refs b p sp.d sp.x l r head node says) in
     let rspan = c.in_ok-right.ensures.only r rnode in
@@ -192,13 +192,13 @@ returns-clause-found g t c =
     let right = c.in_ok-right.ensures.found in
     let l = left.tree in
     let r = right.tree in
-    let s = fitted e (first_length l) in
+    let s = leaf_begin e (first_length l) in
     let lower = slice_set refs head.dimension (key head.at) in
     let moved : lower ≡ c.with_key-references.result = sym (c.with_key-references.ensures ∙ (λ i. slice_set refs head.dimension (is_head.key_is i))) in
     let found = right_found e (spot_of c.in_ok-left.left.end) l r left.is.lengths left.span.end in
     let lnode = said_otherwise D form (n - n / 2) s s (region_of c.split-left_path.result.0) (left_of path head.dimension head.at) c.with_key-references.result
     lower head.left.bytes.now head.left.places.now l refl (sym (c.split-left_path.ensures.left ∙ (λ i. left_of path head.dimension (at_is i)))) moved left.is in
-    let rnode = said_otherwise D form (n / 2) (fitted (spot_of c.in_ok-left.left.end) (first_length r)) (right_begin s l r)
+    let rnode = said_otherwise D form (n / 2) (leaf_begin (spot_of c.in_ok-left.left.end) (first_length r)) (right_begin s l r)
     (region_of c.split-left_path.result.1) (right_of path head.dimension head.at) c.with_key-references.result lower head.right.bytes.now head.right.places.now
     r (sym found) (sym (c.split-left_path.ensures.right ∙ (λ i. right_of path head.dimension (at_is i)))) moved right.is in
     let begin : spot_of c.in_ok-right.right.begin ≡ right_begin s l r = right.span.begin ∙ found in
@@ -240,7 +240,7 @@ returns-clause-only g t c t' h =
     let sp = is_split n t' two h.shaped in
     let l = sp.l in
     let r = sp.r in
-    let s = fitted e (first_length l) in
+    let s = leaf_begin e (first_length l) in
     let node = as_split D form n e path refs b p t' sp.d sp.x l r sp.is h in
     let room : s.page ≤ 8388608 = omega (arith, fitted_to e (first_length l), c.requires.room, two) in
     let fits = in_cell_fits D sp.d sp.x path c.is_cell.ensures node.cells.0 in
@@ -259,7 +259,7 @@ returns-clause-only g t c t' h =
     (left_node D form n s path refs b p sp.d sp.x l r head node says) in
     let lspan = c.in_ok-left.ensures.only l lnode in
     let found = right_found e (spot_of c.in_ok-left.left.end) l r (left_lengths l r node.lengths) lspan.end in
-    let rnode = said_otherwise D form (n / 2) (right_begin s l r) (fitted (spot_of c.in_ok-left.left.end) (first_length r)) (right_of path sp.d sp.x)
+    let rnode = said_otherwise D form (n / 2) (right_begin s l r) (leaf_begin (spot_of c.in_ok-left.left.end) (first_length r)) (right_of path sp.d sp.x)
     (region_of c.split-left_path.result.1) (slice_set refs sp.d (key sp.x)) c.with_key-references.result head.right.bytes.now head.right.places.now r found
     rpath moved (right_node D form n s path refs b p sp.d sp.x l r head node says) in
     let rspan = c.in_ok-right.ensures.only r rnode in

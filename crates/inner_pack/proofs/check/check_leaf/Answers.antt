@@ -1,6 +1,6 @@
 use Rattle.std.proofs.Common.{◌≡◌, ◌+◌, refl, ap, arith}
 use Rattle.point_codec.specs.Seen.{region_of}
-use Rattle.inner_pack.specs.Places.{Spot, fitted}
+use Rattle.inner_pack.specs.Places.{Spot, leaf_begin}
 use Rattle.inner_pack.specs.Trees.{Leaf}
 use Rattle.inner_pack.specs.Heads.{spot_of}
 use Rattle.inner_pack.proofs.PlaceLemmas.{fitted_fits, first_fits}
@@ -23,7 +23,7 @@ pub behind-requires : goal.behind-requires
 behind-requires g c =
     let found = c.in_ok-length.ensures.found c.args.references.now in
     let n = c.in_ok-length.length in
-    let at : c.fit-begin.result.offset ≡ (fitted (spot_of c.args.behind) n).offset = ap (λ (s : Spot). s.offset) c.fit-begin.ensures in
+    let at : c.fit-begin.result.offset ≡ (leaf_begin (spot_of c.args.behind) n).offset = ap (λ (s : Spot). s.offset) c.fit-begin.ensures in
     omega (arith, at, fitted_fits (spot_of c.args.behind) n (first_fits (Leaf n found.own) found.is.lengths).1)
 
 pub returns-clause-found : goal.returns-clause-found
@@ -49,6 +49,6 @@ pub returns-clause-end : goal.returns-clause-end
 returns-clause-end g c =
     let found = c.in_ok-length.ensures.found c.args.references.now in
     let n = c.in_ok-length.length in
-    let at : c.fit-begin.result.offset ≡ (fitted (spot_of c.args.behind) n).offset = ap (λ (s : Spot). s.offset) c.fit-begin.ensures in
+    let at : c.fit-begin.result.offset ≡ (leaf_begin (spot_of c.args.behind) n).offset = ap (λ (s : Spot). s.offset) c.fit-begin.ensures in
     let end : c.behind.result.offset ≡ c.fit-begin.result.offset + n = ap (λ (s : Spot). s.offset) c.behind.ensures in
     omega (arith, at, end, fitted_fits (spot_of c.args.behind) n (first_fits (Leaf n found.own) found.is.lengths).1)

@@ -3,7 +3,7 @@ use Rattle.std.proofs.Common.{rules, drop, length, slice_set, slice_index_or, []
 use Rattle.point_codec.specs.Keys.{key}
 use Rattle.byte_cursor.specs.Vint.{vint}
 use Rattle.inner_pack.specs.Trees.{Split}
-use Rattle.inner_pack.specs.Bodies.{node_bytes, right_begin, shared}
+use Rattle.inner_pack.specs.Bodies.{node_bytes, right_begin, shared_front}
 use Rattle.inner_pack.proofs.SpelledLemmas.{spelled_packed, told_packed, no_places}
 use Rattle.inner_pack.proofs.HeadLemmas.{packed_node, joins_packed, key_back, key_long}
 use Rattle.inner_pack.proofs.head.packed_head.Goals as goal
@@ -15,7 +15,7 @@ returns-in_err-code-clause-only g c form leaves s path d x l r packed room fits 
     let right = right_begin s l r in
     let lb = node_bytes form lower s l in
     let rb = node_bytes form lower right r in
-    let p = shared (key x) (slice_index_or c.args.references.now d []) in
+    let p = shared_front (key x) (slice_index_or c.args.references.now d []) in
     let r5 = lb ++ rb in
     let r4 = vint (length lb) ++ r5 in
     let r3 = vint right.offset ++ r4 in
@@ -31,7 +31,7 @@ returns-then-dimension-clause-only g c form leaves s path d x l r packed room fi
     let right = right_begin s l r in
     let lb = node_bytes form lower s l in
     let rb = node_bytes form lower right r in
-    let p = shared (key x) (slice_index_or c.args.references.now d []) in
+    let p = shared_front (key x) (slice_index_or c.args.references.now d []) in
     let r5 = lb ++ rb in
     let r4 = vint (length lb) ++ r5 in
     let r3 = vint right.offset ++ r4 in
@@ -50,7 +50,7 @@ returns-in_err-key-clause-only g c form leaves s path d x l r packed room fits h
     let right = right_begin s l r in
     let lb = node_bytes form lower s l in
     let rb = node_bytes form lower right r in
-    let p = shared (key x) (slice_index_or c.args.references.now d []) in
+    let p = shared_front (key x) (slice_index_or c.args.references.now d []) in
     let r5 = lb ++ rb in
     let r4 = vint (length lb) ++ r5 in
     let r3 = vint right.offset ++ r4 in
@@ -60,8 +60,8 @@ returns-in_err-key-clause-only g c form leaves s path d x l r packed room fits h
     let a = c.in_ok-code.ensures.only (5 * d + p) r1 n.is in
     let sd : c.in_ok-code.code / 5 ≡ d = omega (arith, a.0, n.few) in
     let sp : c.in_ok-code.code % 5 ≡ p = omega (arith, a.0, n.few) in
-    let same : shared (key x) c.reference_in-reference.result ≡ c.in_ok-code.code % 5 =
-    ap (shared (key x)) (c.reference_in-reference.ensures.value ∙ ap (λ i. slice_index_or c.args.references.now i []) sd) ∙ sym sp in
+    let same : shared_front (key x) c.reference_in-reference.result ≡ c.in_ok-code.code % 5 =
+    ap (shared_front (key x)) (c.reference_in-reference.ensures.value ∙ ap (λ i. slice_index_or c.args.references.now i []) sd) ∙ sym sp in
     let at1 : c.in_ok-code.rest.now ≡ drop (c.in_ok-code.code % 5) (key x) ++ r2 = a.1 ∙ ap (λ i. drop i (key x) ++ r2) (sym sp) in
     absurd (c.in_err-key.ensures.only (key x) r2 (key_long x) same at1)
 
@@ -72,7 +72,7 @@ returns-in_err-pages-clause-only g c form leaves s path d x l r packed room fits
     let right = right_begin s l r in
     let lb = node_bytes form lower s l in
     let rb = node_bytes form lower right r in
-    let p = shared (key x) (slice_index_or c.args.references.now d []) in
+    let p = shared_front (key x) (slice_index_or c.args.references.now d []) in
     let r5 = lb ++ rb in
     let r4 = vint (length lb) ++ r5 in
     let r3 = vint right.offset ++ r4 in
@@ -82,8 +82,8 @@ returns-in_err-pages-clause-only g c form leaves s path d x l r packed room fits
     let a = c.in_ok-code.ensures.only (5 * d + p) r1 n.is in
     let sd : c.in_ok-code.code / 5 ≡ d = omega (arith, a.0, n.few) in
     let sp : c.in_ok-code.code % 5 ≡ p = omega (arith, a.0, n.few) in
-    let same : shared (key x) c.reference_in-reference.result ≡ c.in_ok-code.code % 5 =
-    ap (shared (key x)) (c.reference_in-reference.ensures.value ∙ ap (λ i. slice_index_or c.args.references.now i []) sd) ∙ sym sp in
+    let same : shared_front (key x) c.reference_in-reference.result ≡ c.in_ok-code.code % 5 =
+    ap (shared_front (key x)) (c.reference_in-reference.ensures.value ∙ ap (λ i. slice_index_or c.args.references.now i []) sd) ∙ sym sp in
     let at1 : c.in_ok-code.rest.now ≡ drop (c.in_ok-code.code % 5) (key x) ++ r2 = a.1 ∙ ap (λ i. drop i (key x) ++ r2) (sym sp) in
     let k = c.in_ok-key.ensures.only (key x) r2 (key_long x) same at1 in
     absurd (c.in_err-pages.ensures.only (right.page - s.page) r3 n.pages k.1)
@@ -95,7 +95,7 @@ returns-in_err-offset-clause-only g c form leaves s path d x l r packed room fit
     let right = right_begin s l r in
     let lb = node_bytes form lower s l in
     let rb = node_bytes form lower right r in
-    let p = shared (key x) (slice_index_or c.args.references.now d []) in
+    let p = shared_front (key x) (slice_index_or c.args.references.now d []) in
     let r5 = lb ++ rb in
     let r4 = vint (length lb) ++ r5 in
     let r3 = vint right.offset ++ r4 in
@@ -105,8 +105,8 @@ returns-in_err-offset-clause-only g c form leaves s path d x l r packed room fit
     let a = c.in_ok-code.ensures.only (5 * d + p) r1 n.is in
     let sd : c.in_ok-code.code / 5 ≡ d = omega (arith, a.0, n.few) in
     let sp : c.in_ok-code.code % 5 ≡ p = omega (arith, a.0, n.few) in
-    let same : shared (key x) c.reference_in-reference.result ≡ c.in_ok-code.code % 5 =
-    ap (shared (key x)) (c.reference_in-reference.ensures.value ∙ ap (λ i. slice_index_or c.args.references.now i []) sd) ∙ sym sp in
+    let same : shared_front (key x) c.reference_in-reference.result ≡ c.in_ok-code.code % 5 =
+    ap (shared_front (key x)) (c.reference_in-reference.ensures.value ∙ ap (λ i. slice_index_or c.args.references.now i []) sd) ∙ sym sp in
     let at1 : c.in_ok-code.rest.now ≡ drop (c.in_ok-code.code % 5) (key x) ++ r2 = a.1 ∙ ap (λ i. drop i (key x) ++ r2) (sym sp) in
     let k = c.in_ok-key.ensures.only (key x) r2 (key_long x) same at1 in
     let v = c.in_ok-pages.ensures.only (right.page - s.page) r3 n.pages k.1 in
@@ -119,7 +119,7 @@ returns-in_err-left_length-clause-only g c form leaves s path d x l r packed roo
     let right = right_begin s l r in
     let lb = node_bytes form lower s l in
     let rb = node_bytes form lower right r in
-    let p = shared (key x) (slice_index_or c.args.references.now d []) in
+    let p = shared_front (key x) (slice_index_or c.args.references.now d []) in
     let r5 = lb ++ rb in
     let r4 = vint (length lb) ++ r5 in
     let r3 = vint right.offset ++ r4 in
@@ -129,8 +129,8 @@ returns-in_err-left_length-clause-only g c form leaves s path d x l r packed roo
     let a = c.in_ok-code.ensures.only (5 * d + p) r1 n.is in
     let sd : c.in_ok-code.code / 5 ≡ d = omega (arith, a.0, n.few) in
     let sp : c.in_ok-code.code % 5 ≡ p = omega (arith, a.0, n.few) in
-    let same : shared (key x) c.reference_in-reference.result ≡ c.in_ok-code.code % 5 =
-    ap (shared (key x)) (c.reference_in-reference.ensures.value ∙ ap (λ i. slice_index_or c.args.references.now i []) sd) ∙ sym sp in
+    let same : shared_front (key x) c.reference_in-reference.result ≡ c.in_ok-code.code % 5 =
+    ap (shared_front (key x)) (c.reference_in-reference.ensures.value ∙ ap (λ i. slice_index_or c.args.references.now i []) sd) ∙ sym sp in
     let at1 : c.in_ok-code.rest.now ≡ drop (c.in_ok-code.code % 5) (key x) ++ r2 = a.1 ∙ ap (λ i. drop i (key x) ++ r2) (sym sp) in
     let k = c.in_ok-key.ensures.only (key x) r2 (key_long x) same at1 in
     let v = c.in_ok-pages.ensures.only (right.page - s.page) r3 n.pages k.1 in
@@ -144,7 +144,7 @@ returns-then-offset-gt4064-clause-only g c form leaves s path d x l r packed roo
     let right = right_begin s l r in
     let lb = node_bytes form lower s l in
     let rb = node_bytes form lower right r in
-    let p = shared (key x) (slice_index_or c.args.references.now d []) in
+    let p = shared_front (key x) (slice_index_or c.args.references.now d []) in
     let r5 = lb ++ rb in
     let r4 = vint (length lb) ++ r5 in
     let r3 = vint right.offset ++ r4 in
@@ -154,8 +154,8 @@ returns-then-offset-gt4064-clause-only g c form leaves s path d x l r packed roo
     let a = c.in_ok-code.ensures.only (5 * d + p) r1 n.is in
     let sd : c.in_ok-code.code / 5 ≡ d = omega (arith, a.0, n.few) in
     let sp : c.in_ok-code.code % 5 ≡ p = omega (arith, a.0, n.few) in
-    let same : shared (key x) c.reference_in-reference.result ≡ c.in_ok-code.code % 5 =
-    ap (shared (key x)) (c.reference_in-reference.ensures.value ∙ ap (λ i. slice_index_or c.args.references.now i []) sd) ∙ sym sp in
+    let same : shared_front (key x) c.reference_in-reference.result ≡ c.in_ok-code.code % 5 =
+    ap (shared_front (key x)) (c.reference_in-reference.ensures.value ∙ ap (λ i. slice_index_or c.args.references.now i []) sd) ∙ sym sp in
     let at1 : c.in_ok-code.rest.now ≡ drop (c.in_ok-code.code % 5) (key x) ++ r2 = a.1 ∙ ap (λ i. drop i (key x) ++ r2) (sym sp) in
     let k = c.in_ok-key.ensures.only (key x) r2 (key_long x) same at1 in
     let v = c.in_ok-pages.ensures.only (right.page - s.page) r3 n.pages k.1 in
@@ -169,7 +169,7 @@ returns-in_err-left-clause-only g c form leaves s path d x l r packed room fits 
     let right = right_begin s l r in
     let lb = node_bytes form lower s l in
     let rb = node_bytes form lower right r in
-    let p = shared (key x) (slice_index_or c.args.references.now d []) in
+    let p = shared_front (key x) (slice_index_or c.args.references.now d []) in
     let r5 = lb ++ rb in
     let r4 = vint (length lb) ++ r5 in
     let r3 = vint right.offset ++ r4 in
@@ -179,8 +179,8 @@ returns-in_err-left-clause-only g c form leaves s path d x l r packed room fits 
     let a = c.in_ok-code.ensures.only (5 * d + p) r1 n.is in
     let sd : c.in_ok-code.code / 5 ≡ d = omega (arith, a.0, n.few) in
     let sp : c.in_ok-code.code % 5 ≡ p = omega (arith, a.0, n.few) in
-    let same : shared (key x) c.reference_in-reference.result ≡ c.in_ok-code.code % 5 =
-    ap (shared (key x)) (c.reference_in-reference.ensures.value ∙ ap (λ i. slice_index_or c.args.references.now i []) sd) ∙ sym sp in
+    let same : shared_front (key x) c.reference_in-reference.result ≡ c.in_ok-code.code % 5 =
+    ap (shared_front (key x)) (c.reference_in-reference.ensures.value ∙ ap (λ i. slice_index_or c.args.references.now i []) sd) ∙ sym sp in
     let at1 : c.in_ok-code.rest.now ≡ drop (c.in_ok-code.code % 5) (key x) ++ r2 = a.1 ∙ ap (λ i. drop i (key x) ++ r2) (sym sp) in
     let k = c.in_ok-key.ensures.only (key x) r2 (key_long x) same at1 in
     let v = c.in_ok-pages.ensures.only (right.page - s.page) r3 n.pages k.1 in
@@ -204,7 +204,7 @@ returns-clause-found g c form packed =
       dimension = omega (arith, c.if-dimension.false);
       key_is = sym (key_back c.from_sortable.result sf ∙ c.from_sortable.ensures.is);
       joins = λ s l r lengths says. joins_packed form c.args.references.now s l r _ c.args.part.bytes.now c.args.part.places.now [] code packed says e0 refl
-          (ap (shared key) (sym c.reference_in-reference.ensures.value) ∙ c.in_ok-key.ensures.found.0) refl;
+          (ap (shared_front key) (sym c.reference_in-reference.ensures.value) ∙ c.in_ok-key.ensures.found.0) refl;
     }
 
 pub returns-clause-only : goal.returns-clause-only
@@ -214,7 +214,7 @@ returns-clause-only g c form leaves s path d x l r packed room fits h =
     let right = right_begin s l r in
     let lb = node_bytes form lower s l in
     let rb = node_bytes form lower right r in
-    let p = shared (key x) (slice_index_or c.args.references.now d []) in
+    let p = shared_front (key x) (slice_index_or c.args.references.now d []) in
     let r5 = lb ++ rb in
     let r4 = vint (length lb) ++ r5 in
     let r3 = vint right.offset ++ r4 in
@@ -224,8 +224,8 @@ returns-clause-only g c form leaves s path d x l r packed room fits h =
     let a = c.in_ok-code.ensures.only (5 * d + p) r1 n.is in
     let sd : c.in_ok-code.code / 5 ≡ d = omega (arith, a.0, n.few) in
     let sp : c.in_ok-code.code % 5 ≡ p = omega (arith, a.0, n.few) in
-    let same : shared (key x) c.reference_in-reference.result ≡ c.in_ok-code.code % 5 =
-    ap (shared (key x)) (c.reference_in-reference.ensures.value ∙ ap (λ i. slice_index_or c.args.references.now i []) sd) ∙ sym sp in
+    let same : shared_front (key x) c.reference_in-reference.result ≡ c.in_ok-code.code % 5 =
+    ap (shared_front (key x)) (c.reference_in-reference.ensures.value ∙ ap (λ i. slice_index_or c.args.references.now i []) sd) ∙ sym sp in
     let at1 : c.in_ok-code.rest.now ≡ drop (c.in_ok-code.code % 5) (key x) ++ r2 = a.1 ∙ ap (λ i. drop i (key x) ++ r2) (sym sp) in
     let k = c.in_ok-key.ensures.only (key x) r2 (key_long x) same at1 in
     let v = c.in_ok-pages.ensures.only (right.page - s.page) r3 n.pages k.1 in

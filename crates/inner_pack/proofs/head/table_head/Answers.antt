@@ -1,6 +1,6 @@
 use Rattle.std.proofs.Common.{◌≡◌, ◌∷◌, ◌++◌, ◌∙◌, ℕ, List, refl, sym, ap, arith, rules, slice_set, to_z-of_z, FitsSigned, w32}
 use Rattle.point_codec.specs.Keys.{key}
-use Rattle.inner_pack.specs.Places.{Placed}
+use Rattle.inner_pack.specs.Places.{LeafSpan}
 use Rattle.inner_pack.specs.Bodies.{cuts_table, places_table, right_begin}
 use Rattle.inner_pack.proofs.SpelledLemmas.{spelled_one, told_one}
 use Rattle.inner_pack.proofs.HeadLemmas.{table_node, joins_table, key_back, key_long, first_place, tail_places}
@@ -44,8 +44,8 @@ returns-in_err-pages-clause-only g c references s path d x l r room fits h =
     (omega (arith, n.first_length_fits)) (p.0 ∙ n.first) in
     let m = c.in_ok-middle.ensures.only (first_place (right_begin s l r) r) (tail_places (right_begin s l r) r) (omega (arith, room, n.to, c.requires.leaves))
     (omega (arith, n.middle_length_fits)) (omega (arith, n.middle_length_fits)) (p.1 ∙ n.middle) in
-    let low : c.in_ok-first.first.page ≡ s.page = ap (λ (t : Placed). t.at.page) f.0 in
-    let high : c.in_ok-middle.middle.page ≡ (right_begin s l r).page = ap (λ (t : Placed). t.at.page) m.0 in
+    let low : c.in_ok-first.first.page ≡ s.page = ap (λ (t : LeafSpan). t.at.page) f.0 in
+    let high : c.in_ok-middle.middle.page ≡ (right_begin s l r).page = ap (λ (t : LeafSpan). t.at.page) m.0 in
     absurd (omega (arith, c.in_err-pages.ensures, low, high, n.from))
 
 pub returns-clause-found : goal.returns-clause-found
@@ -67,15 +67,15 @@ returns-clause-only g c references s path d x l r room fits h =
     (omega (arith, n.first_length_fits)) (p.0 ∙ n.first) in
     let m = c.in_ok-middle.ensures.only (first_place (right_begin s l r) r) (tail_places (right_begin s l r) r) (omega (arith, room, n.to, c.requires.leaves))
     (omega (arith, n.middle_length_fits)) (omega (arith, n.middle_length_fits)) (p.1 ∙ n.middle) in
-    let low : c.in_ok-first.first.page ≡ s.page = ap (λ (t : Placed). t.at.page) f.0 in
-    let high : c.in_ok-middle.middle.page ≡ (right_begin s l r).page = ap (λ (t : Placed). t.at.page) m.0 in
+    let low : c.in_ok-first.first.page ≡ s.page = ap (λ (t : LeafSpan). t.at.page) f.0 in
+    let high : c.in_ok-middle.middle.page ≡ (right_begin s l r).page = ap (λ (t : LeafSpan). t.at.page) m.0 in
     let sf : FitsSigned w32 c.from_sortable.result = search rules in
     record {
       dimension = a.0;
       value = to_z-of_z sf ∙ c.from_sortable.ensures.back x fits (sym a.1);
       key_is = a.1;
       pages = omega (arith, c.in_ok-pages.ensures, low, high, n.from);
-      offset = ap (λ (t : Placed). t.at.offset) m.0;
+      offset = ap (λ (t : LeafSpan). t.at.offset) m.0;
       left_bytes = b.0 ∙ sym (spelled_one 1 (slice_set references d (key x)) s l refl);
       left_places = p.0 ∙ sym (told_one 1 s l refl);
       right_bytes = b.1 ∙ sym (spelled_one 1 (slice_set references d (key x)) (right_begin s l r) r refl);

@@ -1,7 +1,7 @@
 use Rattle.std.proofs.Common.{◌≡◌, ◌+◌, ◌∙◌, map, sym, refl, ap, arith}
 use Rattle.point_codec.specs.Keys.{key}
 use Rattle.point_codec.specs.Seen.{region_of}
-use Rattle.inner_pack.specs.Places.{Spot, front, fitted}
+use Rattle.inner_pack.specs.Places.{Spot, front, leaf_begin}
 use Rattle.inner_pack.specs.Bodies.{first_length}
 use Rattle.inner_pack.specs.Spelled.{spelled_part, told_part}
 use Rattle.inner_pack.proofs.PlaceLemmas.{fitted_here, first_fits}
@@ -23,11 +23,12 @@ returns-in_err-span-clause-only g c t h =
     let refs = map key root.lo in
     let same : c.keys_of.result ≡ refs = c.keys_of.ensures ∙ ap (map key) c.lo.ensures.value in
     let parts = c.in_ok-part.ensures.only refs t h.shaped h.spelled in
-    let here : fitted front (first_length t) ≡ front = fitted_here front (first_length t) (omega (arith, first_fits t h.lengths)) in
+    let here : leaf_begin front (first_length t) ≡ front = fitted_here front (first_length t) (omega (arith, first_fits t h.lengths)) in
     let node = with_bytes D form n front root root refs refs (spelled_part form refs front t) c.in_ok-part.part.bytes.now (told_part form front t)
     c.in_ok-part.part.places.now t refl refl parts.0 parts.1 (root_node D form n root c.args.b.now t c.requires.form.0 c.requires.form.1 h) in
     absurd (c.in_err-span.ensures.only t
-    (said_otherwise D form n front (fitted front (first_length t)) root root refs c.keys_of.result c.in_ok-part.part.bytes.now c.in_ok-part.part.places.now t
+    (said_otherwise D form n front (leaf_begin front (first_length t)) root root refs c.keys_of.result c.in_ok-part.part.bytes.now c.in_ok-part.part.places.now
+        t
     here refl same node))
 
 pub returns-clause-found : goal.returns-clause-found
@@ -40,8 +41,8 @@ returns-clause-found g c =
     let same : c.keys_of.result ≡ refs = c.keys_of.ensures ∙ ap (map key) c.lo.ensures.value in
     let found = c.in_ok-span.ensures.found in
     let t = found.tree in
-    let here : fitted front (first_length t) ≡ front = fitted_here front (first_length t) (omega (arith, first_fits t found.is.lengths)) in
-    let node = said_otherwise D form n (fitted front (first_length t)) front root root c.keys_of.result refs c.in_ok-part.part.bytes.now
+    let here : leaf_begin front (first_length t) ≡ front = fitted_here front (first_length t) (omega (arith, first_fits t found.is.lengths)) in
+    let node = said_otherwise D form n (leaf_begin front (first_length t)) front root root c.keys_of.result refs c.in_ok-part.part.bytes.now
     c.in_ok-part.part.places.now t (sym here) refl (sym same) found.is in
     record {
       tree = t;

@@ -1,7 +1,7 @@
 use Rattle.std.proofs.Common.{◌≡◌, ◌≤◌, arith, length, ap}
 use Rattle.std.proofs.lemmas.Grind.{common_steps}
 use Rattle.point_codec.specs.Seen.{region_of}
-use Rattle.inner_pack.specs.Places.{fitted}
+use Rattle.inner_pack.specs.Places.{leaf_begin}
 use Rattle.inner_pack.specs.Trees.{Leaf}
 use Rattle.inner_pack.specs.Heads.{spot_of}
 use Rattle.inner_pack.proofs.CellLemmas.{if_map, none_long}
@@ -23,7 +23,7 @@ returns-then-form-eq1-clause-only g c references n own h =
 pub returns-then-not-is_empty-clause-only : goal.returns-then-not-is_empty-clause-only
 returns-then-not-is_empty-clause-only g c references n own h =
     let packed : 2 ≤ c.args.form = omega (arith, c.requires.form, c.if-form-eq1.false) in
-    let none = no_places g.row.D c.args.form 1 (fitted (spot_of c.args.behind) n) (region_of c.args.path.now) references c.args.part.bytes.now
+    let none = no_places g.row.D c.args.form 1 (leaf_begin (spot_of c.args.behind) n) (region_of c.args.path.now) references c.args.part.bytes.now
     c.args.part.places.now (Leaf n own) packed h in
     let long : length c.args.part.places.now ≡ 0 = ap length none in
     grind (arith, common_steps)
@@ -32,7 +32,8 @@ pub returns-in_err-length-clause-only : goal.returns-in_err-length-clause-only
 returns-in_err-length-clause-only g c references n own h =
     let packed : 2 ≤ c.args.form = omega (arith, c.requires.form, c.if-form-eq1.false) in
     absurd (c.in_err-length.ensures.only n own
-    (to_packed_leaf g.row.D c.args.form 1 (fitted (spot_of c.args.behind) n) (region_of c.args.path.now) references c.args.part.bytes.now c.args.part.places.now
+    (to_packed_leaf g.row.D c.args.form 1 (leaf_begin (spot_of c.args.behind) n) (region_of c.args.path.now) references c.args.part.bytes.now
+        c.args.part.places.now
     n own packed h))
 
 pub returns-clause-found : goal.returns-clause-found
@@ -46,5 +47,6 @@ pub returns-clause-only : goal.returns-clause-only
 returns-clause-only g c references n own h =
     let packed : 2 ≤ c.args.form = omega (arith, c.requires.form, c.if-form-eq1.false) in
     (c.in_ok-length.ensures.only n own
-    (to_packed_leaf g.row.D c.args.form 1 (fitted (spot_of c.args.behind) n) (region_of c.args.path.now) references c.args.part.bytes.now c.args.part.places.now
+    (to_packed_leaf g.row.D c.args.form 1 (leaf_begin (spot_of c.args.behind) n) (region_of c.args.path.now) references c.args.part.bytes.now
+        c.args.part.places.now
     n own packed h)).0

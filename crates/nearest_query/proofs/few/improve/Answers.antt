@@ -2,7 +2,7 @@ use Rattle.std.proofs.Common.{◌≤◌, ◌<◌, ◌∷◌, sym, subst}
 use Rattle.std.proofs.lemmas.List.{get_or_default}
 use Rattle.point_codec.specs.declared.entries.Near.{Near}
 use Rattle.documents.specs.NearestEntries.{IsNearest}
-use Rattle.nearest_query.specs.Best.{IsPutAmong}
+use Rattle.nearest_query.specs.Best.{IsInsertedAmong}
 use Rattle.nearest_query.proofs.Among.{stay_few}
 use Rattle.nearest_query.proofs.AmongWays.{improve_few, same_place}
 use Rattle.nearest_query.proofs.Results.{on_ok}
@@ -16,9 +16,10 @@ returns-then-index-near c = λ entries room was e lead.
 
 pub returns : goal.returns
 returns c = λ entries room was e lead.
-    on_ok (IsPutAmong c.args.near c.remove.new.self.items c.put.new.nears.items) (IsNearest room (c.args.near ∷ entries) c.put.new.nears.items) c.put.result
-    (λ put. improve_few room entries c.args.nears.now.items c.remove.new.self.items c.put.new.nears.items c.args.near c.args.place was c.requires e
+    on_ok (IsInsertedAmong c.args.near c.remove.new.self.items c.insert_near.new.nears.items)
+        (IsNearest room (c.args.near ∷ entries) c.insert_near.new.nears.items) c.insert_near.result
+    (λ put. improve_few room entries c.args.nears.now.items c.remove.new.self.items c.insert_near.new.nears.items c.args.near c.args.place was c.requires e
     (subst (λ (y : Near). c.args.near.dist2 < y.dist2)
     (same_place c.args.nears.now.items c.args.place c.index.result.now c.args.near c.requires c.index.ensures) c.if-index-near.false) lead
     c.remove.ensures.by_index.2 put)
-    c.put.ensures
+    c.insert_near.ensures

@@ -6,7 +6,7 @@ use Rattle.documents.specs.NearestEntries.{IsNearest, nears_of}
 use Rattle.nearest_query.specs.Best.{found_of}
 use Rattle.nearest_query.specs.Segments.{live_in, bound_of}
 use Rattle.nearest_query.specs.Search.{one_within}
-use Rattle.nearest_query.specs.Fronts.{spread}
+use Rattle.nearest_query.specs.Fronts.{sum_below}
 use Rattle.nearest_query.proofs.Start.{world, roots, start, start_near}
 use Rattle.nearest_query.proofs.query.nearest.Goals as goal
 
@@ -16,9 +16,9 @@ returns-clause-answer g c = λ told agrees contents segments.
     let rs = roots g.row.D c.args.at.now.c c.args.heads.now c.args.lives.now (g.F.Pages.files c.args.folder.now) contents segments in
     let room = c.in_ok-offer_all.ensures.room ∙ c.new-found.ensures.room ∙ c.from.ensures in
     let sought = start g.row.D c.args.at.now.c c.args.heads.now c.args.lives.now (g.F.Pages.files c.args.folder.now) contents segments
-    (items_of c.args.buffer.now) c.put_roots.new.frontier.turns c.put_roots.new.frontier.nodes c.offer_all.new.found
-    c.requires.lives (c.in_ok-offer_all.ensures.found [] c.new-found.ensures.best) (c.in_ok-put_roots.ensures.nodes w rs refl refl)
-    (c.in_ok-put_roots.ensures.totals w rs refl refl) in
+    (items_of c.args.buffer.now) c.push_roots.new.frontier.turns c.push_roots.new.frontier.nodes c.offer_all.new.found
+    c.requires.lives (c.in_ok-offer_all.ensures.found [] c.new-found.ensures.best) (c.in_ok-push_roots.ensures.nodes w rs refl refl)
+    (c.in_ok-push_roots.ensures.totals w rs refl refl) in
     let answer = c.in_ok-search.ensures.answer told agrees w _ (record { at_is = refl; heads_are = refl; lives_are = refl; files_are = refl }) sought in
     subst (λ xs. IsNearest c.args.k (nears_of c.args.at.now.c (live_in contents c.args.heads.now c.args.lives.now ++ items_of c.args.buffer.now)) xs)
     (sym c.in_ok-found.ensures)
@@ -31,15 +31,15 @@ returns-clause-reads g c = λ told agrees contents segments nearest is leaves ne
     let rs = roots g.row.D c.args.at.now.c c.args.heads.now c.args.lives.now (g.F.Pages.files c.args.folder.now) contents segments in
     let room = c.in_ok-offer_all.ensures.room ∙ c.new-found.ensures.room ∙ c.from.ensures in
     let sought = start g.row.D c.args.at.now.c c.args.heads.now c.args.lives.now (g.F.Pages.files c.args.folder.now) contents segments
-    (items_of c.args.buffer.now) c.put_roots.new.frontier.turns c.put_roots.new.frontier.nodes c.offer_all.new.found
-    c.requires.lives (c.in_ok-offer_all.ensures.found [] c.new-found.ensures.best) (c.in_ok-put_roots.ensures.nodes w rs refl refl)
-    (c.in_ok-put_roots.ensures.totals w rs refl refl) in
+    (items_of c.args.buffer.now) c.push_roots.new.frontier.turns c.push_roots.new.frontier.nodes c.offer_all.new.found
+    c.requires.lives (c.in_ok-offer_all.ensures.found [] c.new-found.ensures.best) (c.in_ok-push_roots.ensures.nodes w rs refl refl)
+    (c.in_ok-push_roots.ensures.totals w rs refl refl) in
     let reads = c.in_ok-search.ensures.reads told agrees w _ nearest (record { at_is = refl; heads_are = refl; lives_are = refl; files_are = refl }) sought
     (subst (λ k. IsNearest k (nears_of c.args.at.now.c (live_in contents c.args.heads.now c.args.lives.now ++ items_of c.args.buffer.now)) nearest) (sym room)
     is) in
-    let bounds = ap (λ k. sum_by (spread (one_within w (bound_of k nearest))) c.put_roots.new.frontier.turns) room in
+    let bounds = ap (λ k. sum_by (sum_below (one_within w (bound_of k nearest))) c.push_roots.new.frontier.turns) room in
     let total = start_near g.row.D c.args.at.now.c c.args.heads.now c.args.lives.now (g.F.Pages.files c.args.folder.now) contents segments
-    (bound_of c.args.k nearest) c.put_roots.new.frontier.turns leaves near (c.in_ok-put_roots.ensures.most w rs refl) in
+    (bound_of c.args.k nearest) c.push_roots.new.frontier.turns leaves near (c.in_ok-push_roots.ensures.most w rs refl) in
     omega (arith, reads, bounds, total)
 
 pub returns-in_err-found-clause-reads : goal.returns-in_err-found-clause-reads
@@ -48,15 +48,15 @@ returns-in_err-found-clause-reads g c = λ told agrees contents segments nearest
     let rs = roots g.row.D c.args.at.now.c c.args.heads.now c.args.lives.now (g.F.Pages.files c.args.folder.now) contents segments in
     let room = c.in_ok-offer_all.ensures.room ∙ c.new-found.ensures.room ∙ c.from.ensures in
     let sought = start g.row.D c.args.at.now.c c.args.heads.now c.args.lives.now (g.F.Pages.files c.args.folder.now) contents segments
-    (items_of c.args.buffer.now) c.put_roots.new.frontier.turns c.put_roots.new.frontier.nodes c.offer_all.new.found
-    c.requires.lives (c.in_ok-offer_all.ensures.found [] c.new-found.ensures.best) (c.in_ok-put_roots.ensures.nodes w rs refl refl)
-    (c.in_ok-put_roots.ensures.totals w rs refl refl) in
+    (items_of c.args.buffer.now) c.push_roots.new.frontier.turns c.push_roots.new.frontier.nodes c.offer_all.new.found
+    c.requires.lives (c.in_ok-offer_all.ensures.found [] c.new-found.ensures.best) (c.in_ok-push_roots.ensures.nodes w rs refl refl)
+    (c.in_ok-push_roots.ensures.totals w rs refl refl) in
     let reads = c.in_ok-search.ensures.reads told agrees w _ nearest (record { at_is = refl; heads_are = refl; lives_are = refl; files_are = refl }) sought
     (subst (λ k. IsNearest k (nears_of c.args.at.now.c (live_in contents c.args.heads.now c.args.lives.now ++ items_of c.args.buffer.now)) nearest) (sym room)
     is) in
-    let bounds = ap (λ k. sum_by (spread (one_within w (bound_of k nearest))) c.put_roots.new.frontier.turns) room in
+    let bounds = ap (λ k. sum_by (sum_below (one_within w (bound_of k nearest))) c.push_roots.new.frontier.turns) room in
     let total = start_near g.row.D c.args.at.now.c c.args.heads.now c.args.lives.now (g.F.Pages.files c.args.folder.now) contents segments
-    (bound_of c.args.k nearest) c.put_roots.new.frontier.turns leaves near (c.in_ok-put_roots.ensures.most w rs refl) in
+    (bound_of c.args.k nearest) c.push_roots.new.frontier.turns leaves near (c.in_ok-push_roots.ensures.most w rs refl) in
     omega (arith, reads, bounds, total)
 
 pub returns-in_err-search-clause-reads : goal.returns-in_err-search-clause-reads
@@ -65,15 +65,15 @@ returns-in_err-search-clause-reads g c = λ told agrees contents segments neares
     let rs = roots g.row.D c.args.at.now.c c.args.heads.now c.args.lives.now (g.F.Pages.files c.args.folder.now) contents segments in
     let room = c.in_ok-offer_all.ensures.room ∙ c.new-found.ensures.room ∙ c.from.ensures in
     let sought = start g.row.D c.args.at.now.c c.args.heads.now c.args.lives.now (g.F.Pages.files c.args.folder.now) contents segments
-    (items_of c.args.buffer.now) c.put_roots.new.frontier.turns c.put_roots.new.frontier.nodes c.offer_all.new.found
-    c.requires.lives (c.in_ok-offer_all.ensures.found [] c.new-found.ensures.best) (c.in_ok-put_roots.ensures.nodes w rs refl refl)
-    (c.in_ok-put_roots.ensures.totals w rs refl refl) in
+    (items_of c.args.buffer.now) c.push_roots.new.frontier.turns c.push_roots.new.frontier.nodes c.offer_all.new.found
+    c.requires.lives (c.in_ok-offer_all.ensures.found [] c.new-found.ensures.best) (c.in_ok-push_roots.ensures.nodes w rs refl refl)
+    (c.in_ok-push_roots.ensures.totals w rs refl refl) in
     let reads = c.in_err-search.ensures.reads told agrees w _ nearest (record { at_is = refl; heads_are = refl; lives_are = refl; files_are = refl }) sought
     (subst (λ k. IsNearest k (nears_of c.args.at.now.c (live_in contents c.args.heads.now c.args.lives.now ++ items_of c.args.buffer.now)) nearest) (sym room)
     is) in
-    let bounds = ap (λ k. sum_by (spread (one_within w (bound_of k nearest))) c.put_roots.new.frontier.turns) room in
+    let bounds = ap (λ k. sum_by (sum_below (one_within w (bound_of k nearest))) c.push_roots.new.frontier.turns) room in
     let total = start_near g.row.D c.args.at.now.c c.args.heads.now c.args.lives.now (g.F.Pages.files c.args.folder.now) contents segments
-    (bound_of c.args.k nearest) c.put_roots.new.frontier.turns leaves near (c.in_ok-put_roots.ensures.most w rs refl) in
+    (bound_of c.args.k nearest) c.push_roots.new.frontier.turns leaves near (c.in_ok-push_roots.ensures.most w rs refl) in
     omega (arith, reads, bounds, total)
 
 pub returns-in_err-search-clause-whole : goal.returns-in_err-search-clause-whole
@@ -81,16 +81,16 @@ returns-in_err-search-clause-whole g c = λ told agrees contents segments.
     let w = world g.row.D c.args.at.now.c c.args.heads.now c.args.lives.now (g.F.Pages.files c.args.folder.now) contents segments in
     let rs = roots g.row.D c.args.at.now.c c.args.heads.now c.args.lives.now (g.F.Pages.files c.args.folder.now) contents segments in
     let sought = start g.row.D c.args.at.now.c c.args.heads.now c.args.lives.now (g.F.Pages.files c.args.folder.now) contents segments
-    (items_of c.args.buffer.now) c.put_roots.new.frontier.turns c.put_roots.new.frontier.nodes c.offer_all.new.found
-    c.requires.lives (c.in_ok-offer_all.ensures.found [] c.new-found.ensures.best) (c.in_ok-put_roots.ensures.nodes w rs refl refl)
-    (c.in_ok-put_roots.ensures.totals w rs refl refl) in
+    (items_of c.args.buffer.now) c.push_roots.new.frontier.turns c.push_roots.new.frontier.nodes c.offer_all.new.found
+    c.requires.lives (c.in_ok-offer_all.ensures.found [] c.new-found.ensures.best) (c.in_ok-push_roots.ensures.nodes w rs refl refl)
+    (c.in_ok-push_roots.ensures.totals w rs refl refl) in
     let h = c.in_err-search.ensures.whole told agrees w _ (record { at_is = refl; heads_are = refl; lives_are = refl; files_are = refl }) sought in
     let p = err_from_is_err_and c.from_residual-in_err-search.result c.from_residual-in_err-search.ensures.1 in
     rw (p.1, p.2) h
 
 pub returns-in_err-search-clause-shown : goal.returns-in_err-search-clause-shown
 returns-in_err-search-clause-shown g c = λ trees have.
-    let h = c.in_err-search.ensures.shown trees (c.in_ok-put_roots.ensures.parts trees have) in
+    let h = c.in_err-search.ensures.shown trees (c.in_ok-push_roots.ensures.parts trees have) in
     let p = err_from_is_err_and c.from_residual-in_err-search.result c.from_residual-in_err-search.ensures.1 in
     rw (p.1, p.2) h
 

@@ -11,7 +11,7 @@ use Rattle.page_cache.specs.Evidence.{OnDamage}
 use Rattle.inner_pack.specs.Trees.{IndexTree}
 use Rattle.inner_pack.specs.Places.{Spot}
 use Rattle.point_codec.specs.Points.{Region}
-use Rattle.nearest_query.specs.Search.{IsPart}
+use Rattle.nearest_query.specs.Search.{IsNodeBelow}
 use Rattle.nearest_query.proofs.Parts.{parts_fork, leaf_shown}
 use Rattle.std.proofs.lemmas.List.Elements.{All-head, All-tail}
 use Rattle.nearest_query.proofs.search.open.Goals as goal
@@ -115,11 +115,11 @@ returns-in-None-clause-whole g c = λ told agrees w over n.
 pub returns-in_ok-fork-in-Some-clause-parts : goal.returns-in_ok-fork-in-Some-clause-parts
 returns-in_ok-fork-in-Some-clause-parts g c = λ trees all.
     let put = c.in_ok-fork-in-Some.ensures.put in
-    let n = All-head (IsPart c.args.heads.now trees c.args.frontier.now.nodes) c.args.next c.args.frontier.now.turns all in
+    let n = All-head (IsNodeBelow c.args.heads.now trees c.args.frontier.now.nodes) c.args.next c.args.frontier.now.turns all in
     let same = c.node.ensures ∙ n.stands.is c.node.result.now in
     parts_fork c.args.heads.now trees c.args.at.now.c c.args.next c.args.frontier.now put.0 c.fork.new.frontier c.in-Some.left c.in-Some.right n
     (c.in-Some.ensures.some c.args.next.first n.spot n.path n.tree (subst (λ m. IsAt m c.args.next.first n.spot n.path n.tree) (sym same) n.is))
-    put.1 put.2 (All-tail (IsPart c.args.heads.now trees c.args.frontier.now.nodes) c.args.next c.args.frontier.now.turns all)
+    put.1 put.2 (All-tail (IsNodeBelow c.args.heads.now trees c.args.frontier.now.nodes) c.args.next c.args.frontier.now.turns all)
 
 pub returns-in-None-clause-shown : goal.returns-in-None-clause-shown
 returns-in-None-clause-shown g c = λ trees n.
@@ -132,5 +132,5 @@ returns-in-None-clause-shown g c = λ trees n.
 
 pub returns-in-None-clause-parts : goal.returns-in-None-clause-parts
 returns-in-None-clause-parts g c = λ trees all.
-    always (All (IsPart c.args.heads.now trees c.args.frontier.now.nodes) c.args.frontier.now.turns) c.open_leaf.result
-    (All-tail (IsPart c.args.heads.now trees c.args.frontier.now.nodes) c.args.next c.args.frontier.now.turns all)
+    always (All (IsNodeBelow c.args.heads.now trees c.args.frontier.now.nodes) c.args.frontier.now.turns) c.open_leaf.result
+    (All-tail (IsNodeBelow c.args.heads.now trees c.args.frontier.now.nodes) c.args.next c.args.frontier.now.turns all)

@@ -7,8 +7,8 @@ use Rattle.page_cache.specs.Cache.{Agrees}
 use Rattle.documents.specs.NearestEntries.{IsNearest}
 use Rattle.nearest_query.specs.Best.{found_of}
 use Rattle.nearest_query.specs.Segments.{bound_of}
-use Rattle.nearest_query.specs.Fronts.{spread, work}
-use Rattle.nearest_query.specs.Search.{IsInside, IsPart, IsSought, one_within}
+use Rattle.nearest_query.specs.Fronts.{sum_below, work}
+use Rattle.nearest_query.specs.Search.{IsInside, IsNodeBelow, IsSought, one_within}
 use Rattle.nearest_query.proofs.Steps.{sought_moved}
 use Rattle.nearest_query.proofs.Ends.{stop_nearest, end_nearest, next_node, next_within}
 use Rattle.nearest_query.proofs.search.search.Goals as goal
@@ -68,8 +68,8 @@ loop-next-preserved g c = record {
       (All-permutation (IsInside (length c.args.heads.now) c.loop-next.frontier.nodes) c.loop-next.frontier.turns (c.in-Some.next ∷ c.pop.new.self.turns)
       c.in-Some.ensures.some c.loop-next.invariant.inside)));
   parts = λ trees all. c.in_ok-open.ensures.parts trees
-      (subst (λ ns. All (IsPart c.args.heads.now trees ns) (c.in-Some.next ∷ c.pop.new.self.turns)) (sym c.in-Some.ensures.nodes)
-      (All-permutation (IsPart c.args.heads.now trees c.loop-next.frontier.nodes) c.loop-next.frontier.turns (c.in-Some.next ∷ c.pop.new.self.turns)
+      (subst (λ ns. All (IsNodeBelow c.args.heads.now trees ns) (c.in-Some.next ∷ c.pop.new.self.turns)) (sym c.in-Some.ensures.nodes)
+      (All-permutation (IsNodeBelow c.args.heads.now trees c.loop-next.frontier.nodes) c.loop-next.frontier.turns (c.in-Some.next ∷ c.pop.new.self.turns)
       c.in-Some.ensures.some (c.loop-next.invariant.parts trees all)));
   sought = λ told a w all over s.
       c.in_ok-open.ensures.sought told (subst (λ f. Agrees f c.loop-next.cache) (sym (c.loop-next.invariant.files told)) (c.loop-next.invariant.agrees told a))
@@ -92,7 +92,8 @@ loop-next-preserved g c = record {
       over.at_is
       (next_within w all c.in-Some.next c.pop.new.self.turns c.loop-next.frontier.nodes c.loop-next.found here c.args.found.now.many.room nearest
       c.loop-next.invariant.room is c.in-Some.ensures.least (c.ends_before.ensures.no c.if-ends_before.false)) in
-      let p = sum_by_popped (spread (one_within w (bound_of c.args.found.now.many.room nearest))) c.in-Some.next c.loop-next.frontier.turns c.pop.new.self.turns
+      let p =
+          sum_by_popped (sum_below (one_within w (bound_of c.args.found.now.many.room nearest))) c.in-Some.next c.loop-next.frontier.turns c.pop.new.self.turns
       c.in-Some.ensures.some in
       omega (arith, r, o, p);
 }
@@ -107,7 +108,8 @@ returns-in_err-open-clause-reads g c = λ told a w all nearest over s is.
     over.at_is
     (next_within w all c.in-Some.next c.pop.new.self.turns c.loop-next.frontier.nodes c.loop-next.found here c.args.found.now.many.room nearest
     c.loop-next.invariant.room is c.in-Some.ensures.least (c.ends_before.ensures.no c.if-ends_before.false)) in
-    let p = sum_by_popped (spread (one_within w (bound_of c.args.found.now.many.room nearest))) c.in-Some.next c.loop-next.frontier.turns c.pop.new.self.turns
+    let p =
+        sum_by_popped (sum_below (one_within w (bound_of c.args.found.now.many.room nearest))) c.in-Some.next c.loop-next.frontier.turns c.pop.new.self.turns
     c.in-Some.ensures.some in
     omega (arith, r, o, p)
 
@@ -136,9 +138,9 @@ returns-in_err-open-clause-whole g c = λ told a w all over s.
 pub returns-in_err-open-clause-shown : goal.returns-in_err-open-clause-shown
 returns-in_err-open-clause-shown g c = λ trees all.
     let h = c.in_err-open.ensures.shown trees
-    (subst (λ ns. IsPart c.args.heads.now trees ns c.in-Some.next) (sym c.in-Some.ensures.nodes)
-    (All-head (IsPart c.args.heads.now trees c.loop-next.frontier.nodes) c.in-Some.next c.pop.new.self.turns
-    (All-permutation (IsPart c.args.heads.now trees c.loop-next.frontier.nodes) c.loop-next.frontier.turns (c.in-Some.next ∷ c.pop.new.self.turns)
+    (subst (λ ns. IsNodeBelow c.args.heads.now trees ns c.in-Some.next) (sym c.in-Some.ensures.nodes)
+    (All-head (IsNodeBelow c.args.heads.now trees c.loop-next.frontier.nodes) c.in-Some.next c.pop.new.self.turns
+    (All-permutation (IsNodeBelow c.args.heads.now trees c.loop-next.frontier.nodes) c.loop-next.frontier.turns (c.in-Some.next ∷ c.pop.new.self.turns)
     c.in-Some.ensures.some (c.loop-next.invariant.parts trees all)))) in
     let p = err_from_is_err_and c.from_residual.result c.from_residual.ensures.1 in
     rw (p.1, p.2) h

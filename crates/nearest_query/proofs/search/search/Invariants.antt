@@ -5,8 +5,8 @@ use Rattle.inner_pack.specs.Trees.{IndexTree}
 use Rattle.page_cache.specs.Cache.{KeepsFile, Agrees}
 use Rattle.documents.specs.NearestEntries.{IsNearest}
 use Rattle.nearest_query.specs.Segments.{HasId, bound_of}
-use Rattle.nearest_query.specs.Fronts.{spread, work}
-use Rattle.nearest_query.specs.Search.{World, IsOver, IsInside, IsPart, IsSought, one_within}
+use Rattle.nearest_query.specs.Fronts.{sum_below, work}
+use Rattle.nearest_query.specs.Search.{World, IsOver, IsInside, IsNodeBelow, IsSought, one_within}
 use Rattle.nearest_query.proofs.search.search.Given as goal
 
 abbrev pub invariant-loop-next : goal.invariant-loop-next
@@ -17,8 +17,8 @@ invariant-loop-next g l = record {
   others : (i : ℕ) → KeepsFile l.cache i → KeepsFile l.initial.cache i ⊎ HasId l.heads i;
   agrees : IsTrue g.F.Pages.told → Agrees (g.F.Pages.files l.initial.folder) l.initial.cache → Agrees (g.F.Pages.files l.initial.folder) l.cache;
   inside : All (IsInside (length l.heads) l.frontier.nodes) l.frontier.turns;
-  parts : (trees : ℕ → IndexTree) → All (IsPart l.heads trees l.initial.frontier.nodes) l.initial.frontier.turns
-      → All (IsPart l.heads trees l.frontier.nodes) l.frontier.turns;
+  parts : (trees : ℕ → IndexTree) → All (IsNodeBelow l.heads trees l.initial.frontier.nodes) l.initial.frontier.turns
+      → All (IsNodeBelow l.heads trees l.frontier.nodes) l.frontier.turns;
   sought : IsTrue g.F.Pages.told → Agrees (g.F.Pages.files l.initial.folder) l.initial.cache → (w : World) (all : List Near)
       → IsOver w l.at.c l.heads l.lives (g.F.Pages.files l.initial.folder)
       → IsSought g.row.D w all l.initial.frontier.turns l.initial.frontier.nodes l.initial.found
@@ -26,8 +26,8 @@ invariant-loop-next g l = record {
   reads : IsTrue g.F.Pages.told → Agrees (g.F.Pages.files l.initial.folder) l.initial.cache → (w : World) (all nearest : List Near)
       → IsOver w l.at.c l.heads l.lives (g.F.Pages.files l.initial.folder)
       → IsSought g.row.D w all l.initial.frontier.turns l.initial.frontier.nodes l.initial.found → IsNearest l.initial.found.many.room all nearest
-      → g.F.Pages.reads l.folder + sum_by (spread (one_within w (bound_of l.initial.found.many.room nearest))) l.frontier.turns
-      ≤ g.F.Pages.reads l.initial.folder + sum_by (spread (one_within w (bound_of l.initial.found.many.room nearest))) l.initial.frontier.turns;
+      → g.F.Pages.reads l.folder + sum_by (sum_below (one_within w (bound_of l.initial.found.many.room nearest))) l.frontier.turns
+      ≤ g.F.Pages.reads l.initial.folder + sum_by (sum_below (one_within w (bound_of l.initial.found.many.room nearest))) l.initial.frontier.turns;
 }
 
 abbrev pub decreases-loop-next : goal.decreases-loop-next

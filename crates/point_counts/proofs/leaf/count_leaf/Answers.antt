@@ -3,7 +3,7 @@ use Rattle.outer_io.specs.Files.{bytes_of}
 use Rattle.outer_io.specs.declared.file_name.FileName.TheVariants.{Segment}
 use Rattle.segment_file.specs.Damages.{IsLeafDamage}
 use Rattle.bkd_reader.proofs.Trees.{handed_on, first_page, never_bad}
-use Rattle.point_counts.specs.Tables.{Adds, live_at}
+use Rattle.point_counts.specs.Tables.{AddsCounts, live_at}
 use Rattle.point_counts.proofs.Subtrees.{same_items}
 use Rattle.point_counts.proofs.leaf.count_leaf.Goals as goal
 
@@ -38,5 +38,5 @@ returns-clause-counts g c = λ told agrees first s path t items is holds.
     is (c.in_ok-place.ensures.place first s path t is) holds
     (λ len own at here. c.in-Some.ensures.some (g.F.Pages.files c.args.folder.now) first s path len own
     (c.in_ok-place.ensures.agrees told agrees) at here) in
-    subst (λ xs. Adds (live_at box place c.args.live.now xs) c.args.table.now c.count_live.new.table) same
+    subst (λ xs. AddsCounts (live_at box place c.args.live.now xs) c.args.table.now c.count_live.new.table) same
     c.count_live.ensures

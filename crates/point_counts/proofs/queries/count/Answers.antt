@@ -1,7 +1,7 @@
 use Rattle.std.proofs.Common.{◌≡◌, ◌<◌, ◌++◌, ◌∙◌, ℕ, zero, suc, [], ◌∷◌, get_or, refl, arith}
 use Rattle.point_codec.specs.Points.{Region}
 use Rattle.point_codec.specs.Seen.{items_of}
-use Rattle.segment_view.specs.Parts.{live_in_parts}
+use Rattle.segment_view.specs.LiveSegments.{live_in_parts}
 use Rattle.point_counts.specs.Tables.{all_at}
 use Rattle.point_counts.proofs.Counts.{no_counts, counted, at_one_place, most_counted}
 use Rattle.point_counts.proofs.queries.count.Goals as goal

@@ -1,6 +1,6 @@
 use Rattle.std.proofs.Common.{◌++◌, length-append, arith}
 use Rattle.point_codec.specs.Seen.{items_of}
-use Rattle.segment_view.specs.Parts.{live_in_parts}
+use Rattle.segment_view.specs.LiveSegments.{live_in_parts}
 use Rattle.point_counts.specs.Tables.{all_at}
 use Rattle.point_counts.proofs.Counts.{adds_then, all_join, items_long}
 use Rattle.point_counts.proofs.Segments.{few_live}

@@ -2,7 +2,7 @@
 use Rattle.std.proofs.Common.{◌≡◌, ◌++◌, ◌∙◌, length, sym, subst}
 use Rattle.std.proofs.lemmas.List.{with_items_is}
 use Rattle.point_codec.specs.Seen.{items_of}
-use Rattle.segment_view.specs.Parts.{live_in_parts}
+use Rattle.segment_view.specs.LiveSegments.{live_in_parts}
 use Rattle.point_counts.specs.Tables.{HasCounts, all_at, place_in}
 use Rattle.point_counts.proofs.Counts.{counted, noughts}
 use Rattle.point_counts.proofs.queries.grid.Goals as goal

@@ -3,12 +3,12 @@ use Rattle.point_codec.specs.Points.{Item}
 use Rattle.inner_pack.specs.Places.{front}
 use Rattle.inner_pack.specs.Bodies.{HasTree}
 use Rattle.bkd_reader.proofs.Trees.{on_ok, root_of, parts_of}
-use Rattle.segment_view.specs.Parts.{part_of, live_in_parts}
+use Rattle.segment_view.specs.LiveSegments.{live_segment, live_in_parts}
 use Rattle.segment_view.proofs.Living.{live_one, nothing_live}
 use Rattle.segment_view.proofs.Reading.{calm_alone}
 use Rattle.segment_view.proofs.Counting.{le_by_tree}
 use Rattle.segment_view.proofs.Shown.{read_shown}
-use Rattle.point_counts.specs.Tables.{Adds, all_at, live_at}
+use Rattle.point_counts.specs.Tables.{AddsCounts, all_at, live_at}
 use Rattle.point_counts.specs.Costs.{opened_below}
 use Rattle.point_counts.proofs.Counts.{adds_none, adds_as, live_kept}
 use Rattle.point_counts.proofs.Clean.{all_live, clean_is}
@@ -19,7 +19,7 @@ pub returns-then-count-eq0-clause-counts : goal.returns-then-count-eq0-clause-co
 returns-then-count-eq0-clause-counts g c = λ told agrees es r.
     let box = g.S.Sorting.bounds c.args.sorting.now in
     let place = g.S.Sorting.place c.args.sorting.now in
-    let p = part_of c.args.head.now c.args.live.now in
+    let p = live_segment c.args.head.now c.args.live.now in
     adds_none (all_at box place (live_in_parts es (p ∷ []))) c.args.table.now
     (λ k. ap (λ (xs : List Item). all_at box place xs k)
     (nothing_live es p (sym c.live_count-count.ensures.value ∙ c.if-count-eq0.true)))
@@ -28,14 +28,14 @@ pub returns-clause-counts : goal.returns-clause-counts
 returns-clause-counts g c = λ told agrees es r.
     let box = g.S.Sorting.bounds c.args.sorting.now in
     let place = g.S.Sorting.place c.args.sorting.now in
-    let p = part_of c.args.head.now c.args.live.now in
+    let p = live_segment c.args.head.now c.args.live.now in
     let items = es c.args.head.now.id in
     let parts = parts_of g.row.D _ c.args.head.now items r.held in
     let root = root_of c.walk-root.result c.args.head.now.index parts.root parts.tree parts.has
     (c.walk-root.ensures parts.root parts.tree (subst (λ i. HasTree g.row.D i parts.root parts.tree)
     (sym c.index-2.ensures.value) parts.has)) in
-    on_ok (Adds (live_at box place c.args.live.now items) c.args.table.now c.count_below.new.table)
-    (Adds (all_at box place (live_in_parts es (p ∷ []))) c.args.table.now c.count_below.new.table)
+    on_ok (AddsCounts (live_at box place c.args.live.now items) c.args.table.now c.count_below.new.table)
+    (AddsCounts (all_at box place (live_in_parts es (p ∷ []))) c.args.table.now c.count_below.new.table)
     c.count_below.result
     (λ a. adds_as (live_at box place c.args.live.now items) (all_at box place (live_in_parts es (p ∷ [])))
     c.args.table.now c.count_below.new.table
@@ -50,7 +50,7 @@ pub returns-clause-reads : goal.returns-clause-reads
 returns-clause-reads g c = λ n all.
     let box = g.S.Sorting.bounds c.args.sorting.now in
     let parts = g.S.Sorting.parts c.args.sorting.now in
-    let p = part_of c.args.head.now c.args.live.now in
+    let p = live_segment c.args.head.now c.args.live.now in
     let clean = clean_is c.live_count-count.result c.entries.result c.args.head.now c.args.live.now
     c.live_count-count.ensures.value c.entries.ensures in
     le_by_tree g.row.D c.args.head.now.index c.index.result.now c.index.ensures.value c.is_spelled.ensures _ _

@@ -11,7 +11,7 @@ use Rattle.page_cache.specs.Cache.{Agrees}
 use Rattle.segment_file.specs.Segments.{HoldsTree}
 use Rattle.segment_file.specs.Damages.{IsLeafDamage}
 use Rattle.bkd_reader.proofs.Trees.{handed_on, on_ok, left_damage, right_damage, held, left_root, right_root}
-use Rattle.point_counts.specs.Tables.{Adds, live_at}
+use Rattle.point_counts.specs.Tables.{AddsCounts, live_at}
 use Rattle.point_counts.specs.Costs.{opened_below}
 use Rattle.point_counts.proofs.Counts.{adds_then, live_join, all_left, all_right}
 use Rattle.point_counts.proofs.Subtrees.{opened_split, one_opened, on_true, on_false}
@@ -24,7 +24,7 @@ returns-then-is_settled-clause-counts g t c = λ told agrees first s path u item
     let box = g.S.Sorting.bounds c.args.sorting.now in
     let place = g.S.Sorting.place c.args.sorting.now in
     let bytes = bytes_of (g.F.Pages.files c.args.folder.now (Segment c.args.head.now.id)) in
-    on_true _ (Adds (live_at box place c.args.live.now items) c.args.table.now c.is_settled.new.table)
+    on_true _ (AddsCounts (live_at box place c.args.live.now items) c.args.table.now c.is_settled.new.table)
     c.if-is_settled.true
     (c.is_settled.ensures.counts first s path u bytes items root holds c.args.live.now live)
 
@@ -72,7 +72,7 @@ returns-in_ok-count_below-in-Some-clause-counts g t c = λ told agrees first s p
     (j.front_items ++ j.back_items) =
     λ e. subst (All (λ (x : Item). is_live c.args.live.now x.doc ≡ true)) j.joined (live e) in
     let stays = on_false _ _ c.if-is_settled.false c.is_settled.ensures.stays in
-    let front = subst (λ (z : List ℕ). Adds (live_at box place c.args.live.now j.front_items) z c.count_below.new.table)
+    let front = subst (λ (z : List ℕ). AddsCounts (live_at box place c.args.live.now j.front_items) z c.count_below.new.table)
     stays
     (c.in_ok-count_below-in-Some.ensures.counts told agrees first s _ k.l j.front_items
     (left_root c.in-Some.left c.in-Some.right first s path u k root.cells) j.front_holds
@@ -82,8 +82,8 @@ returns-in_ok-count_below-in-Some-clause-counts g t c = λ told agrees first s p
     (subst (λ f. HoldsTree g.row.D (bytes_of (f (Segment c.args.head.now.id))) c.args.head.now (first + leaf_count k.l)
     (right_begin s k.l k.r) k.r j.back_items) (sym same) j.back_holds)
     (λ e. all_right (λ (x : Item). is_live c.args.live.now x.doc ≡ true) j.front_items j.back_items (whole e)) in
-    on_ok (Adds (live_at box place c.args.live.now j.back_items) c.count_below.new.table
-    c.count_below-in-Some.new.table) (Adds (live_at box place c.args.live.now items) c.args.table.now
+    on_ok (AddsCounts (live_at box place c.args.live.now j.back_items) c.count_below.new.table
+    c.count_below-in-Some.new.table) (AddsCounts (live_at box place c.args.live.now items) c.args.table.now
     c.count_below-in-Some.new.table)
     c.count_below-in-Some.result
     (λ b. adds_then (live_at box place c.args.live.now j.front_items) (live_at box place c.args.live.now j.back_items)
@@ -131,7 +131,7 @@ returns-in-None-clause-counts g t c = λ told agrees first s path u items root h
     let box = g.S.Sorting.bounds c.args.sorting.now in
     let place = g.S.Sorting.place c.args.sorting.now in
     let stays = on_false _ _ c.if-is_settled.false c.is_settled.ensures.stays in
-    subst (λ (z : List ℕ). OnOk c.count_leaf.result (Adds (live_at box place c.args.live.now items) z
+    subst (λ (z : List ℕ). OnOk c.count_leaf.result (AddsCounts (live_at box place c.args.live.now items) z
     c.count_leaf.new.table)) stays
     (c.count_leaf.ensures.counts told agrees first s path u items root.is holds)
 

@@ -1,18 +1,18 @@
 -- What the line did is known, and its answer was sent.
 use Rattle.std.proofs.Common.{ℕ, List, ◌++◌, None, ap, ◌∙◌, inr, refl}
 use Rattle.std.proofs.lemmas.Result.{err_from_is_err_and}
-use Rattle.script_run.specs.LineAnswers.{IsOpening, IsWithin}
+use Rattle.script_run.specs.LineAnswers.{IsFirstAnswer, IsNewWithin}
 use Rattle.script_run.proofs.Lined.{known_is, only_sink, sent_as}
 use Rattle.script_run.proofs.answers.answer_first.Goals as goal
 use Rattle.script_run.specs.Languages.{answer}
 
 pub returns-clause-opening : goal.returns-clause-opening
 returns-clause-opening g c =
-    known_is (IsOpening (answer c.args.language c.args.number None c.args.line.now)) c.in_ok-opening.opening c.send.result c.send.ensures.known
+    known_is (IsFirstAnswer (answer c.args.language c.args.number None c.args.line.now)) c.in_ok-opening.opening c.send.result c.send.ensures.known
     c.in_ok-opening.ensures.opening
 
 pub returns-clause-limits : goal.returns-clause-limits
-returns-clause-limits g c = known_is IsWithin c.in_ok-opening.opening c.send.result c.send.ensures.known c.in_ok-opening.ensures.limits
+returns-clause-limits g c = known_is IsNewWithin c.in_ok-opening.opening c.send.result c.send.ensures.known c.in_ok-opening.ensures.limits
 
 pub returns-clause-text : goal.returns-clause-text
 returns-clause-text g c = λ sink. sent_as _ _ _ _ c.send.result

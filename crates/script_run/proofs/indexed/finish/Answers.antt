@@ -1,11 +1,12 @@
 -- What the lines left is committed and the session closed, or the run stops.
 use Rattle.std.proofs.Common.{ℕ, refl}
 use Rattle.script_run.proofs.Calling.{fault_stops}
-use Rattle.script_run.proofs.Lined.{ok_cause, fault_cause}
+use Rattle.script_run.proofs.Lined.{ok_cause}
 use Rattle.script_run.proofs.SoFar.{stops_end}
 use Rattle.script_run.proofs.Leading.{closes_by, closes_fails}
-use Rattle.script_run.proofs.Shown.{fault_at, fault_shows}
+use Rattle.script_run.proofs.Shown.{fault_at}
 use Rattle.script_run.proofs.indexed.finish.Goals as goal
+use Rattle.run_status.proofs.Ending.{fault_shows, fault_cause}
 
 pub returns-in-Ok-clause-ends : goal.returns-in-Ok-clause-ends
 returns-in-Ok-clause-ends g c = λ told i stored h. (refl, (c.in-Ok.ensures.stored told i h.seen h.guards).0)

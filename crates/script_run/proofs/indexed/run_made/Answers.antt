@@ -7,16 +7,14 @@ use Rattle.line_source.specs.Reader.{lines_left}
 use Rattle.stored_index.proofs.KeptFiles.{kept_after}
 use Rattle.script_run.specs.Costs.{asks_commit}
 use Rattle.script_run.proofs.Calling.{stop_after, stop_kept}
-use Rattle.script_run.proofs.Ending.{cause_from, rose_from}
-use Rattle.script_run.proofs.Going.{refused_more, at_most_one}
 use Rattle.script_run.proofs.Halting.{halted_no_source, memory_cause, no_source, halted_cause, halted_ends, halted_keeps, halted_shows}
-use Rattle.script_run.proofs.Lined.{cause_to}
 use Rattle.script_run.proofs.Passing.{on_ok}
 use Rattle.script_run.proofs.Reading.{closes_halted, gives_line, gives_none, going_ends, going_first, going_halts, going_on, going_stops}
 use Rattle.script_run.proofs.Reading.{going_wants, none_read, of_all, of_left, of_line, one_read, quiet_first, quiet_on, reads_alike}
-use Rattle.script_run.proofs.Shown.{same_stop, stop_less}
+use Rattle.script_run.proofs.Shown.{stop_less}
 use Rattle.script_run.proofs.indexed.run_made.Goals as goal
 use Rattle.script_run.specs.Languages.{meaning}
+use Rattle.run_status.proofs.Ending.{rose_from, cause_from, same_stop, cause_to, refused_more, at_most_one}
 
 pub answer_line-requires-after_bounds : goal.answer_line-requires-after_bounds
 answer_line-requires-after_bounds g c κs = λ _. (session_fits g.row.D c.requires.few, (c.requires.some, c.requires.few))
@@ -122,28 +120,28 @@ returns-in-Ok-false-clause-does g c =
     (gives_none (IsTrue g.S.Source.told) c.lines.reader (g.S.Source.left c.lines.input) c.next_line.new.self (g.S.Source.left c.next_line.new.source)
     c.next_line.new.line.items c.in-Ok-false.field-0 no c.in-Ok-false.ensures.gives) (λ i stored h.
     let going = so_far.1 told i stored h [] in
-    let ends = going_ends c.args.work.now.language _ g.row.D _ _ i stored _ _ _ _ _ _ _ going _ c.finish.result c.halted.result
+    let ends = going_ends c.args.work.now.language _ g.row.D _ _ i stored _ _ _ _ _ _ _ going _ c.finish.result c.halt_result.result
     (c.finish.ensures.ends told going.goes.index going.goes.stored going.goes.stands)
-    (closes_halted g.row.D going.goes.index _ _ c.finish.result c.halted.result c.halted.ensures
+    (closes_halted g.row.D going.goes.index _ _ c.finish.result c.halt_result.result c.halt_result.ensures
     (c.finish.ensures.closes told going.goes.index going.goes.stored going.goes.stands)) in
-    (halted_ends (meaning c.args.work.now.language) _ _ _ _ c.finish.result c.halted.result c.halted.ensures ends.0, ends.1))
+    (halted_ends (meaning c.args.work.now.language) _ _ _ _ c.finish.result c.halt_result.result c.halt_result.ensures ends.0, ends.1))
 
 pub returns-in-Ok-false-clause-read : goal.returns-in-Ok-false-clause-read
 returns-in-Ok-false-clause-read g c =
     let no : c.in-Ok-false.field-0 ≡ false = search rules in
     let none = gives_none (IsTrue g.S.Source.told) c.lines.reader (g.S.Source.left c.lines.input) c.next_line.new.self (g.S.Source.left c.next_line.new.source)
     c.next_line.new.line.items c.in-Ok-false.field-0 no c.in-Ok-false.ensures.gives in
-    λ source knows. on_ok c.halted.result (none source (c.lines.invariant.so_far.0.ended source knows)).1
+    λ source knows. on_ok c.halt_result.result (none source (c.lines.invariant.so_far.0.ended source knows)).1
 
 pub returns-in-Ok-false-clause-cause : goal.returns-in-Ok-false-clause-cause
 returns-in-Ok-false-clause-cause g c =
-    halted_cause _ _ _ _ c.finish.result c.halted.result c.halted.ensures
+    halted_cause _ _ _ _ c.finish.result c.halt_result.result c.halt_result.ensures
     (cause_from _ _ _ _ _ _ c.finish.result c.lines.invariant.folder_later c.lines.invariant.sink_later (c.finish.ensures.cause _))
 
 pub returns-in-Ok-false-clause-source : goal.returns-in-Ok-false-clause-source
 returns-in-Ok-false-clause-source g c =
-    no_source _ _ c.halted.result (omega (arith, c.lines.invariant.source_later, c.in-Ok-false.ensures.cause.later))
-    (halted_no_source c.finish.result c.halted.result c.halted.ensures)
+    no_source _ _ c.halt_result.result (omega (arith, c.lines.invariant.source_later, c.in-Ok-false.ensures.cause.later))
+    (halted_no_source c.finish.result c.halt_result.result c.halt_result.ensures)
 
 pub returns-in-Ok-false-clause-undone : goal.returns-in-Ok-false-clause-undone
 returns-in-Ok-false-clause-undone g c =
@@ -152,12 +150,12 @@ returns-in-Ok-false-clause-undone g c =
     λ told. of_all _ _ _ c.lines.reader _ so_far.0 _ c.next_line.new.self (g.S.Source.left c.next_line.new.source)
     (gives_none (IsTrue g.S.Source.told) c.lines.reader (g.S.Source.left c.lines.input) c.next_line.new.self (g.S.Source.left c.next_line.new.source)
     c.next_line.new.line.items c.in-Ok-false.field-0 no c.in-Ok-false.ensures.gives) (λ h quiet.
-    halted_keeps (g.F.Pages.files c.args.folder.now) (g.F.Pages.files c.finish.new.folder) c.finish.result c.halted.result c.halted.ensures
+    halted_keeps (g.F.Pages.files c.args.folder.now) (g.F.Pages.files c.finish.new.folder) c.finish.result c.halt_result.result c.halt_result.ensures
     (stop_after _ _ _ c.finish.result ((so_far.2 told h).kept [] quiet).0 (c.finish.ensures.undone told (c.lines.invariant.trusts told h))))
 
 pub returns-in-Ok-false-clause-evident : goal.returns-in-Ok-false-clause-evident
 returns-in-Ok-false-clause-evident g c =
-    halted_shows _ c.finish.result c.halted.result c.halted.ensures
+    halted_shows _ c.finish.result c.halt_result.result c.halt_result.ensures
     (stop_less (IsTrue g.F.Pages.told × Trusts g.row.D (g.F.Pages.files c.lines.folder) c.lines.session)
     (IsTrue g.F.Pages.told × Trusts g.row.D (g.F.Pages.files c.args.folder.now) c.args.session.now)
     (g.F.Pages.files c.finish.new.folder) c.finish.result (λ p. (p.0, c.lines.invariant.trusts p.0 p.1)) c.finish.ensures.evident)

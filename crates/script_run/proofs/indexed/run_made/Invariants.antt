@@ -2,7 +2,7 @@ use Rattle.std.proofs.Common.{◌≤◌, ◌++◌, ℕ, List, IsTrue}
 use Rattle.index_core.specs.Brought.{KeepsCommit}
 use Rattle.index_core.specs.Sessions.{Trusts}
 use Rattle.index_model.specs.State.{Index, State}
-use Rattle.script_run.specs.LineAnswers.{Stands}
+use Rattle.script_run.specs.LineAnswers.{IsSessionOf}
 use Rattle.script_run.proofs.Reading.{Going, HasRead, Quiet}
 use Rattle.script_run.proofs.indexed.run_made.Given as goal
 
@@ -11,7 +11,7 @@ use Rattle.script_run.proofs.indexed.run_made.Given as goal
 abbrev pub invariant-lines : goal.invariant-lines
 invariant-lines g l = record {
   so_far : (has : HasRead (IsTrue g.S.Source.told) l.initial.reader (g.S.Source.left l.initial.input) l.reader (g.S.Source.left l.input))
-      × (IsTrue g.F.Pages.told → (i : Index) → (stored : State) → Stands g.row.D (g.F.Pages.files l.initial.folder) l.initial.session i stored
+      × (IsTrue g.F.Pages.told → (i : Index) → (stored : State) → IsSessionOf g.row.D (g.F.Pages.files l.initial.folder) l.initial.session i stored
       → (more : List (List ℕ))
       → Going l.fn.work.language (IsTrue g.K.Sink.told) g.row.D l.fn.tally.line l.fn.tally.refused i stored (g.K.Sink.written l.initial.out)
       (record { files = g.F.Pages.files l.initial.folder; session = l.initial.session; reads = g.F.Pages.reads l.initial.folder }) (has.lines ++ more)

@@ -5,17 +5,17 @@ use Rattle.index_core.proofs.Brought.{commit_equal, commit_then}
 use Rattle.index_core.proofs.Sizes.{session_fits}
 use Rattle.index_core.proofs.Undone.{fault_kept, kept_equal}
 use Rattle.script_run.specs.Costs.{NoneCommits}
-use Rattle.script_run.specs.Halted.{halted}
+use Rattle.script_run.specs.Halted.{halt_result}
 use Rattle.script_run.specs.Kept.{HaltKeeps}
 use Rattle.script_run.proofs.Calling.{fault_stops}
 use Rattle.script_run.proofs.Halting.{halt_cause_from, halt_less, halted_no_source, no_source, halted_cause, halted_ends, halted_keeps, halted_shows}
-use Rattle.script_run.proofs.Lined.{unopened, fault_cause, origin_keeps}
+use Rattle.script_run.proofs.Lined.{unopened, origin_keeps}
 use Rattle.script_run.proofs.SoFar.{place_on}
 use Rattle.script_run.proofs.Reading.{of_any, of_same}
-use Rattle.script_run.proofs.Shown.{fault_shows}
 use Rattle.script_run.proofs.Starting.{open_fails, open_leads}
 use Rattle.script_run.proofs.indexed.run_over.Goals as goal
 use Rattle.script_run.specs.Languages.{meaning}
+use Rattle.run_status.proofs.Ending.{fault_shows, fault_cause}
 
 pub open-requires : goal.open-requires
 open-requires g c = (session_fits g.row.D c.requires.few, (c.requires.some, (c.requires.few, (c.requires.dims, c.requires.made))))
@@ -38,32 +38,35 @@ returns-in-Ok-clause-cause g c = halt_cause_from _ _ _ _ _ _ c.run_made.result c
 pub returns-in-Err-clause-does : goal.returns-in-Err-clause-does
 returns-in-Err-clause-does g c = λ told. of_any _ c.args.reader.now (g.S.Source.left c.args.input.now) _ (λ lines i stored h. (
   halted_ends (meaning c.args.work.now.language) (IsTrue g.K.Sink.told)
-      (place_on c.args.tally.line c.args.tally.refused i stored lines (g.K.Sink.written c.args.out.now)) _ _ c.stopped.result c.halted.result c.halted.ensures
+      (place_on c.args.tally.line c.args.tally.refused i stored lines (g.K.Sink.written c.args.out.now)) _ _ c.stopped.result c.halt_result.result
+          c.halt_result.ensures
       (unopened c.args.work.now.language (IsTrue g.K.Sink.told)
       (place_on c.args.tally.line c.args.tally.refused i stored lines (g.K.Sink.written c.args.out.now)) _ _ _ c.in-Err.fault
       (c.in-Err.ensures.whole told i stored h) (c.in-Err.ensures.files told) (origin_keeps (g.F.Pages.files c.args.folder.now) c.args.origin i stored h)
       c.stopped.result c.stopped.ensures refl),
   open_fails c.args.work.now.language c.args.origin i stored c.args.tally.line lines _ _ _ _ (c.in-Err.ensures.files told) c.in-Err.fault
-      (c.in-Err.ensures.opens told i stored h) c.halted.result _ (c.halted.ensures ∙ ap halted c.stopped.ensures),
+      (c.in-Err.ensures.opens told i stored h) c.halt_result.result _ (c.halt_result.ensures ∙ ap halt_result c.stopped.ensures),
 ))
 
 pub returns-in-Err-clause-cause : goal.returns-in-Err-clause-cause
 returns-in-Err-clause-cause g c =
-    halted_cause _ _ _ _ c.stopped.result c.halted.result c.halted.ensures
+    halted_cause _ _ _ _ c.stopped.result c.halt_result.result c.halt_result.ensures
     (fault_cause _ _ _ c.in-Err.fault c.in-Err.ensures.cause c.stopped.result c.stopped.ensures)
 
 pub returns-in-Err-clause-source : goal.returns-in-Err-clause-source
-returns-in-Err-clause-source g c = no_source _ _ c.halted.result (omega arith) (halted_no_source c.stopped.result c.halted.result c.halted.ensures)
+returns-in-Err-clause-source g c =
+    no_source _ _ c.halt_result.result (omega arith) (halted_no_source c.stopped.result c.halt_result.result c.halt_result.ensures)
 
 pub returns-in-Err-clause-read : goal.returns-in-Err-clause-read
-returns-in-Err-clause-read g c = λ source knows. rw (c.halted.ensures, c.stopped.ensures) tt
+returns-in-Err-clause-read g c = λ source knows. rw (c.halt_result.ensures, c.stopped.ensures) tt
 
 pub returns-in-Ok-clause-evident : goal.returns-in-Ok-clause-evident
 returns-in-Ok-clause-evident g c = halt_less _ _ _ c.run_made.result (λ p. (p.0, c.in-Ok.ensures.trusts p.0 p.1)) c.run_made.ensures.evident
 
 pub returns-in-Err-clause-evident : goal.returns-in-Err-clause-evident
 returns-in-Err-clause-evident g c =
-    halted_shows _ c.stopped.result c.halted.result c.halted.ensures (fault_shows _ c.in-Err.fault c.in-Err.ensures.evident c.stopped.result c.stopped.ensures)
+    halted_shows _ c.stopped.result c.halt_result.result c.halt_result.ensures
+        (fault_shows _ c.in-Err.fault c.in-Err.ensures.evident c.stopped.result c.stopped.ensures)
 
 pub returns-in-Ok-clause-undone : goal.returns-in-Ok-clause-undone
 returns-in-Ok-clause-undone g c = λ told.
@@ -74,7 +77,7 @@ returns-in-Ok-clause-undone g c = λ told.
 
 pub returns-in-Err-clause-undone : goal.returns-in-Err-clause-undone
 returns-in-Err-clause-undone g c = λ told. of_any _ c.args.reader.now (g.S.Source.left c.args.input.now) _ (λ lines there quiet.
-    halted_keeps (g.F.Pages.files c.args.folder.now) (g.F.Pages.files c.open.new.folder) c.stopped.result c.halted.result c.halted.ensures
+    halted_keeps (g.F.Pages.files c.args.folder.now) (g.F.Pages.files c.open.new.folder) c.stopped.result c.halt_result.result c.halt_result.ensures
     (rw c.stopped.ensures
     (fault_stops ℕ (g.F.Pages.files c.args.folder.now) (g.F.Pages.files c.open.new.folder) c.in-Err.fault
     (fault_kept _ _ (kept_equal _ _ (c.in-Err.ensures.files told)) c.in-Err.fault))))

@@ -5,11 +5,10 @@ use Rattle.index_core.proofs.Brought.{commit_equal, commit_then}
 use Rattle.index_model.specs.State.{new_index}
 use Rattle.index_model.specs.Script.{Answer}
 use Rattle.line_source.specs.Reader.{lines_left}
-use Rattle.run_status.specs.Sent.{IsCut}
+use Rattle.run_status.specs.Sent.{IsSentPart}
 use Rattle.script_run.specs.declared.answers.Opening.{Opening}
 use Rattle.script_run.proofs.Answered.{first_alike}
-use Rattle.script_run.proofs.Ending.{rose_from}
-use Rattle.script_run.proofs.Going.{start_here, refused_more, at_most_one}
+use Rattle.script_run.proofs.Going.{start_here}
 use Rattle.script_run.proofs.Halting.{halt_cause_from, halt_less, memory_cause, no_source, source_cause_from}
 use Rattle.script_run.proofs.Lined.{stops_first, finishes_first, first_goes_on, halts_first, made_ends, memory_first, first_cause, cause_on}
 use Rattle.script_run.proofs.Reading.{gives_line, gives_none, none_read, of_all, of_left, of_line, of_rest, one_read, reads_alike}
@@ -17,6 +16,7 @@ use Rattle.script_run.proofs.Shown.{first_shows}
 use Rattle.script_run.proofs.Starting.{leads_none, leads_same, made_leads, nears_first, nears_on}
 use Rattle.script_run.proofs.lines.run_first.Goals as goal
 use Rattle.script_run.specs.Languages.{meaning}
+use Rattle.run_status.proofs.Ending.{rose_from, refused_more, at_most_one}
 
 pub overflow_add-refused : goal.overflow_add-refused
 overflow_add-refused g c = omega (arith, c.lines.invariant.counted, at_most_one _ _ c.from-refused.ensures)
@@ -119,7 +119,7 @@ returns-in-Err-clause-does g c =
       stops_first c.args.work.now.language _ (g.F.Pages.files c.lines.folder)
           _ _ _ _ _ (so_far.1 (gives.line ∷ lines_left c.next_line.new.self (g.S.Source.left c.next_line.new.source))).0 still gives.line _ refl c.in-Err.stop
           c.in-Err.ensures.cause
-          (λ sink. subst (λ (a : Answer). IsCut a.text (g.K.Sink.written c.lines.out) (g.K.Sink.written c.answer_first.new.out) c.in-Err.stop) (sym is)
+          (λ sink. subst (λ (a : Answer). IsSentPart a.text (g.K.Sink.written c.lines.out) (g.K.Sink.written c.answer_first.new.out) c.in-Err.stop) (sym is)
           (c.in-Err.ensures.text sink)),
       leads_none c.args.work.now.language None _ _ _ _ _ _ same (ap (λ f. g.F.Pages.reads f) c.lines.invariant.folder),
     ))

@@ -6,17 +6,18 @@ use Rattle.outer_io.specs.declared.file_name.FileName.TheVariants.{Commit}
 use Rattle.outer_io.specs.Files.{Files}
 use Rattle.commit_list.specs.Commits.{CommitData}
 use Rattle.index_opening.proofs.Evident.{on_commit_evident}
-use Rattle.script_run.specs.Halted.{halted}
+use Rattle.script_run.specs.Halted.{halt_result}
 use Rattle.script_run.specs.Kept.{HaltKeeps}
 use Rattle.script_run.specs.Progress.{start}
 use Rattle.script_run.proofs.Calling.{fault_stops}
 use Rattle.script_run.proofs.Halting.{halt_cause_from, halt_less, halted_no_source, no_source, halted_cause, halted_ends, halted_keeps, halted_shows}
-use Rattle.script_run.proofs.Lined.{unopened, fault_cause, from_none, from_some, not_damaged}
+use Rattle.script_run.proofs.Lined.{unopened, from_none, from_some, not_damaged}
 use Rattle.script_run.proofs.Reading.{of_any, of_same}
-use Rattle.script_run.proofs.Shown.{fault_at, fault_shows, says_after}
+use Rattle.script_run.proofs.Shown.{fault_at, says_after}
 use Rattle.script_run.proofs.StartStored.{leads_first, leads_some, leads_unread}
 use Rattle.script_run.proofs.lines.run_read.Goals as goal
 use Rattle.script_run.specs.Languages.{meaning}
+use Rattle.run_status.proofs.Ending.{fault_shows, fault_cause}
 
 pub returns-in-Ok-None-clause-does : goal.returns-in-Ok-None-clause-does
 returns-in-Ok-None-clause-does g c = λ told.
@@ -47,24 +48,25 @@ returns-in-Ok-Some-clause-cause g c = halt_cause_from _ _ _ _ _ _ c.run_from.res
 pub returns-in-Err-clause-does : goal.returns-in-Err-clause-does
 returns-in-Err-clause-does g c = λ told. of_any _ c.args.reader.now (g.S.Source.left c.args.input.now) _ (λ lines state h. (
   halted_ends (meaning c.args.work.now.language) (IsTrue g.K.Sink.told) (start state lines (g.K.Sink.written c.args.out.now)) _ _ c.stopped.result
-      c.halted.result c.halted.ensures
+      c.halt_result.result c.halt_result.ensures
       (unopened c.args.work.now.language (IsTrue g.K.Sink.told) (start state lines (g.K.Sink.written c.args.out.now)) _ _ _ c.in-Err.fault
       (not_damaged (g.F.Pages.files c.args.folder.now) state h (c.in-Err.ensures.absent told) (c.in-Err.ensures.whole told)) (c.in-Err.ensures.files told) h
       c.stopped.result c.stopped.ensures refl),
-  leads_unread c.args.work.now.language state lines _ _ _ _ c.halted.result _ (c.in-Err.ensures.files told) (c.in-Err.ensures.unread told)
-      (c.in-Err.ensures.most told) (c.halted.ensures ∙ ap halted c.stopped.ensures),
+  leads_unread c.args.work.now.language state lines _ _ _ _ c.halt_result.result _ (c.in-Err.ensures.files told) (c.in-Err.ensures.unread told)
+      (c.in-Err.ensures.most told) (c.halt_result.ensures ∙ ap halt_result c.stopped.ensures),
 ))
 
 pub returns-in-Err-clause-cause : goal.returns-in-Err-clause-cause
 returns-in-Err-clause-cause g c =
-    halted_cause _ _ _ _ c.stopped.result c.halted.result c.halted.ensures
+    halted_cause _ _ _ _ c.stopped.result c.halt_result.result c.halt_result.ensures
     (fault_cause _ _ _ c.in-Err.fault c.in-Err.ensures.cause c.stopped.result c.stopped.ensures)
 
 pub returns-in-Err-clause-source : goal.returns-in-Err-clause-source
-returns-in-Err-clause-source g c = no_source _ _ c.halted.result (omega arith) (halted_no_source c.stopped.result c.halted.result c.halted.ensures)
+returns-in-Err-clause-source g c =
+    no_source _ _ c.halt_result.result (omega arith) (halted_no_source c.stopped.result c.halt_result.result c.halt_result.ensures)
 
 pub returns-in-Err-clause-read : goal.returns-in-Err-clause-read
-returns-in-Err-clause-read g c = λ source knows. rw (c.halted.ensures, c.stopped.ensures) tt
+returns-in-Err-clause-read g c = λ source knows. rw (c.halt_result.ensures, c.stopped.ensures) tt
 
 pub returns-in-Ok-None-clause-evident : goal.returns-in-Ok-None-clause-evident
 returns-in-Ok-None-clause-evident g c =
@@ -80,7 +82,7 @@ returns-in-Ok-Some-clause-evident g c =
 
 pub returns-in-Err-clause-evident : goal.returns-in-Err-clause-evident
 returns-in-Err-clause-evident g c =
-    halted_shows _ c.stopped.result c.halted.result c.halted.ensures
+    halted_shows _ c.stopped.result c.halt_result.result c.halt_result.ensures
     (fault_shows _ c.in-Err.fault
     (fault_at _ _ _ _ c.in-Err.fault (λ told. told) c.in-Err.ensures.files
     (on_commit_evident {X = Option CommitData} (IsTrue g.F.Pages.told) (g.F.Pages.files c.args.folder.now) (Err c.in-Err.fault) c.in-Err.ensures.damage
@@ -103,7 +105,7 @@ returns-in-Ok-Some-clause-undone g c = λ told.
 pub returns-in-Err-clause-undone : goal.returns-in-Err-clause-undone
 returns-in-Err-clause-undone g c = λ told.
     of_any _ c.args.reader.now (g.S.Source.left c.args.input.now) _ (λ lines quiet.
-    halted_keeps (g.F.Pages.files c.args.folder.now) (g.F.Pages.files c.read_commit.new.folder) c.stopped.result c.halted.result c.halted.ensures
+    halted_keeps (g.F.Pages.files c.args.folder.now) (g.F.Pages.files c.read_commit.new.folder) c.stopped.result c.halt_result.result c.halt_result.ensures
     (rw c.stopped.ensures
     (fault_stops ℕ (g.F.Pages.files c.args.folder.now) (g.F.Pages.files c.read_commit.new.folder) c.in-Err.fault
     (fault_kept _ _ (kept_equal _ _ (c.in-Err.ensures.files told)) c.in-Err.fault))))

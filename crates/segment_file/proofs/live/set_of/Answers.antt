@@ -1,5 +1,5 @@
 use Rattle.std.proofs.Common.{sym, ap, refl, ◌≡◌, ◌∙◌, ◌-◌, ◌*◌, ◌++◌, List, ℕ, length, take, drop, replicate}
-use Rattle.page_cache.specs.Bodies.{pages_for, filled}
+use Rattle.page_cache.specs.Bodies.{pages_for, padded_body}
 use Rattle.segment_file.proofs.Lists.{are_filled, front_of_filled, back_of_filled, filled_from}
 use Rattle.segment_file.proofs.live.set_of.Goals as goal
 
@@ -8,7 +8,7 @@ no_body-requires c = λ s body rest h e.
     let items = c.args.payloads.items in
     let long : length items ≡ 4064 * pages_for c.args.len =
     ap (λ (l : List ℕ). length l) (sym c.as_slice.ensures.value) ∙ c.as_slice.ensures.len ∙ c.requires.long in
-    let whole : items ++ rest ≡ filled body = ap (λ (l : List ℕ). l ++ rest) (sym c.as_slice-then-not-is_blank.ensures.value) ∙ e in
+    let whole : items ++ rest ≡ padded_body body = ap (λ (l : List ℕ). l ++ rest) (sym c.as_slice-then-not-is_blank.ensures.value) ∙ e in
     let same = c.requires.said s body rest (replicate (4064 * pages_for (length body) - length body) 0) h whole in
     let are = are_filled items body rest c.args.len long same whole in
     let back : drop c.args.len items ≡ replicate (length (drop c.args.len items)) 0 = back_of_filled items body c.args.len same are in
@@ -36,7 +36,7 @@ no_body-requires-in-Err-NotBits c = λ s body rest h e.
     let items = c.args.payloads.items in
     let long : length items ≡ 4064 * pages_for c.args.len =
     ap (λ (l : List ℕ). length l) (sym c.as_slice.ensures.value) ∙ c.as_slice.ensures.len ∙ c.requires.long in
-    let whole : items ++ rest ≡ filled body = ap (λ (l : List ℕ). l ++ rest) (sym c.as_slice-in-Err-NotBits.ensures.value) ∙ e in
+    let whole : items ++ rest ≡ padded_body body = ap (λ (l : List ℕ). l ++ rest) (sym c.as_slice-in-Err-NotBits.ensures.value) ∙ e in
     let same = c.requires.said s body rest (replicate (4064 * pages_for (length body) - length body) 0) h whole in
     let are = are_filled items body rest c.args.len long same whole in
     let body_is : c.new.result ≡ take c.args.len items =

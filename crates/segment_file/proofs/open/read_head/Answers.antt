@@ -6,7 +6,7 @@ use Rattle.outer_io.specs.declared.file_name.FileName.TheVariants.{Segment}
 use Rattle.inner_pack.specs.Bodies.{pages_of}
 use Rattle.page_file.specs.Page.{payload_of}
 use Rattle.page_cache.specs.FilePages.{page_at}
-use Rattle.page_cache.specs.Bodies.{pages_for, filled}
+use Rattle.page_cache.specs.Bodies.{pages_for, padded_body}
 use Rattle.page_cache.specs.FirstPages.{first_payload, first_size}
 use Rattle.page_cache.specs.Evidence.{SizeNeeds}
 use Rattle.page_cache.proofs.Damages.{fault_weaker, fault_both}
@@ -53,8 +53,8 @@ returns-in_err-fields-clause-whole g c = λ told h ids file.
     let e = err_from_is_err_and c.from_residual-in_err-fields.result c.from_residual-in_err-fields.ensures.1 in
     rw (e.1, e.2)
     (fault_both c.in_err-fields.field-0.0 (IsHeadDamage c.args.id) (IsBodyDamage name c.payload.result.now) (λ _. ⊥)
-    (λ d shown carried. no_head_damage c.args.id g.row.D (pages_of p.tree) h c.payload.result.now (filled h.index.bytes) d p.fits p.head
-    (ap (λ (l : List ℕ). l ++ filled h.index.bytes) (payload ∙ p.payload)) shown carried)
+    (λ d shown carried. no_head_damage c.args.id g.row.D (pages_of p.tree) h c.payload.result.now (padded_body h.index.bytes) d p.fits p.head
+    (ap (λ (l : List ℕ). l ++ padded_body h.index.bytes) (payload ∙ p.payload)) shown carried)
     c.in_err-fields.ensures.shown c.in_err-fields.ensures.carried)
 
 pub returns-in_err-agree-clause-damage : goal.returns-in_err-agree-clause-damage

@@ -4,7 +4,7 @@ use Rattle.outer_io.specs.Files.{bytes_of}
 use Rattle.outer_io.specs.declared.file_name.FileName.TheVariants.{Segment}
 use Rattle.inner_pack.specs.Bodies.{pages_of}
 use Rattle.page_cache.specs.FilePages.{payloads_of, ArePages}
-use Rattle.page_cache.specs.Bodies.{pages_for, filled}
+use Rattle.page_cache.specs.Bodies.{pages_for, padded_body}
 use Rattle.page_cache.specs.Evidence.{SizeWithin}
 use Rattle.page_cache.proofs.Damages.{on_damage_weaker, on_damage_both}
 use Rattle.segment_file.specs.Heads.{Fields, fields_bytes, fields_of}
@@ -54,13 +54,13 @@ returns-clause-whole g c = λ told h ids file payload.
     let p = head_parts g.row.D (bytes_of (files name)) c.args.id h ids file in
     let said = head_said g.row.D (bytes_of (files name)) c.args.id h p c.args.payload.now c.args.fields payload c.requires.fields in
     let count : c.pages_for-pages.result ≡ pages_for (length h.index.bytes) = c.pages_for-pages.ensures ∙ ap (λ (x : Fields). pages_for x.index_length) said in
-    let index : c.in_ok-payloads.payloads.items ≡ filled h.index.bytes =
+    let index : c.in_ok-payloads.payloads.items ≡ padded_body h.index.bytes =
     c.in_ok-payloads.ensures.payloads told ∙ ap (λ (n : ℕ). payloads_of (bytes_of (files name)) 1 n) count ∙ p.index in
-    let first : c.args.payload.now ≡ filled (fields_bytes (fields_of g.row.D h (pages_of p.tree))) = payload ∙ p.payload in
+    let first : c.args.payload.now ≡ padded_body (fields_bytes (fields_of g.row.D h (pages_of p.tree))) = payload ∙ p.payload in
     let whole : c.args.payload.now ++ c.in_ok-payloads.payloads.items ++ []
-    ≡ filled (fields_bytes (fields_of g.row.D h (pages_of p.tree))) ++ filled h.index.bytes =
+    ≡ padded_body (fields_bytes (fields_of g.row.D h (pages_of p.tree))) ++ padded_body h.index.bytes =
     append-nil (c.args.payload.now ++ c.in_ok-payloads.payloads.items) ∙ ap (λ (l : List ℕ). l ++ c.in_ok-payloads.payloads.items) first
-    ∙ ap (λ (l : List ℕ). filled (fields_bytes (fields_of g.row.D h (pages_of p.tree))) ++ l) index in
+    ∙ ap (λ (l : List ℕ). padded_body (fields_bytes (fields_of g.row.D h (pages_of p.tree))) ++ l) index in
     on_damage_both c.index_of.result (IsHeadDamage c.args.id) (IsBodyDamage name (c.args.payload.now ++ c.in_ok-payloads.payloads.items)) (λ _. ⊥)
     (λ d shown carried.
     no_head_damage c.args.id g.row.D (pages_of p.tree) h (c.args.payload.now ++ c.in_ok-payloads.payloads.items) [] d p.fits p.head whole shown carried)

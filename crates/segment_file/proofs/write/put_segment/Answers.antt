@@ -1,7 +1,7 @@
 use Rattle.std.proofs.Common.{◌≡◌, ◌++◌, ℕ, List, [], length, ap, arith, ◌∙◌}
 use Rattle.outer_io.specs.Files.{bytes_of}
 use Rattle.outer_io.specs.declared.file_name.FileName.TheVariants.{Segment}
-use Rattle.page_cache.specs.Bodies.{filled}
+use Rattle.page_cache.specs.Bodies.{padded_body}
 use Rattle.segment_file.specs.FieldsSeen.{fields_said}
 use Rattle.segment_file.specs.Pieced.{piece_id, piece_pages, so_far, IsPaged}
 use Rattle.segment_file.proofs.FieldBytes.{fields_length}
@@ -48,8 +48,8 @@ returns-clause-written g c = λ told.
     (so_far (bytes_of (g.F.Pages.files c.args.folder.now (Segment (piece_id c.in_ok-pieces.pieces)))) c.in_ok-pieces.pieces) =
     rw (c.in_ok-pieces.ensures.pages, c.in_ok-pieces.ensures.empty (bytes_of (g.F.Pages.files c.args.folder.now (Segment (piece_id c.in_ok-pieces.pieces)))))
     (no_pages (Segment (piece_id c.in_ok-pieces.pieces))) in
-    let front = filled c.as_slice.result.now in
-    let index = filled c.args.index.now in
+    let front = padded_body c.as_slice.result.now in
+    let index = padded_body c.args.index.now in
     let p1 = c.in_ok-push.ensures.put told [] p0 in
     let q1 : IsPaged (Segment (piece_id c.push.new.self)) (piece_pages c.push.new.self) ([] ++ front)
     (so_far (bytes_of (g.F.Pages.files c.push.new.folder (Segment (piece_id c.push.new.self)))) c.push.new.self) = rw c.push.ensures.id p1 in

@@ -4,7 +4,7 @@ use Rattle.std.specs.List.{filter}
 use Rattle.std.proofs.lemmas.List.Sums.{count_by-le-length, length-filter}
 use Rattle.point_codec.specs.Seen.{items_of}
 use Rattle.point_codec.specs.declared.entries.Entry.{Entry}
-use Rattle.segment_set.specs.Runs.{IsRun}
+use Rattle.segment_set.specs.Runs.{IsRunOf}
 use Rattle.segment_set.specs.Waiting.{came_as, waits}
 use Rattle.segment_set.proofs.Buffered.{count_items, entry_out, one_where, out_all, out_items, out_none}
 use Rattle.segment_set.proofs.Marked.{byte_of, count_step, mark_step, same_length}
@@ -13,7 +13,7 @@ use Rattle.segment_set.proofs.buffer.mark_gone.Goals as goal
 pub loop-i-init : goal.loop-i-init
 loop-i-init g c = record {
   marked = out_none c.args.number c.args.entries.now.items c.run_of-first.result.0 c.run_of-first.result.1
-      (subst (λ (xs : List (Entry g.row.D)). IsRun (λ (e : Entry g.row.D). came_as e.doc) c.args.number xs c.run_of-first.result.0 c.run_of-first.result.1)
+      (subst (λ (xs : List (Entry g.row.D)). IsRunOf (λ (e : Entry g.row.D). came_as e.doc) c.args.number xs c.run_of-first.result.0 c.run_of-first.result.1)
       c.as_slice.ensures.value c.run_of-first.ensures.run);
   count = omega arith;
 }
@@ -39,7 +39,7 @@ pub loop-i-preserved : goal.loop-i-preserved
 loop-i-preserved g c =
     let xs = c.args.entries.now.items in
     let run = subst
-    (λ (zs : List (Entry g.row.D)). IsRun (λ (e : Entry g.row.D). came_as e.doc) c.args.number zs c.run_of-first.result.0 c.run_of-first.result.1)
+    (λ (zs : List (Entry g.row.D)). IsRunOf (λ (e : Entry g.row.D). came_as e.doc) c.args.number zs c.run_of-first.result.0 c.run_of-first.result.1)
     c.as_slice.ensures.value c.run_of-first.ensures.run in
     let long = ap length c.as_slice.ensures.value in
     let same = same_length (entry_out c.args.number) xs c.loop-i.entries.items c.loop-i.i c.loop-i.invariant.marked in
@@ -59,7 +59,7 @@ pub returns-clause-marked : goal.returns-clause-marked
 returns-clause-marked g c =
     let xs = c.args.entries.now.items in
     let run = subst
-    (λ (zs : List (Entry g.row.D)). IsRun (λ (e : Entry g.row.D). came_as e.doc) c.args.number zs c.run_of-first.result.0 c.run_of-first.result.1)
+    (λ (zs : List (Entry g.row.D)). IsRunOf (λ (e : Entry g.row.D). came_as e.doc) c.args.number zs c.run_of-first.result.0 c.run_of-first.result.1)
     c.as_slice.ensures.value c.run_of-first.ensures.run in
     let done : c.loop-i.i ≡ c.run_of-first.result.1 = omega (arith, c.loop-i-test.false, c.loop-i.auto.i-end run.ordered) in
     ap items_of

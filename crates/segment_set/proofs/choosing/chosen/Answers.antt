@@ -3,7 +3,7 @@ use Rattle.std.specs.List.{count_by}
 use Rattle.std.proofs.lemmas.List.{length-map}
 use Rattle.documents.specs.Entries.{is_among}
 use Rattle.merge_policy.specs.Choice.{IsChoice, free_count}
-use Rattle.segment_view.specs.Parts.{Part, ids_of}
+use Rattle.segment_view.specs.LiveSegments.{LiveSegment, ids_of}
 use Rattle.segment_set.proofs.Chosen.{chosen_apart, chosen_ten, chosen_two}
 use Rattle.segment_set.proofs.Leveled.{few_segments, pinned}
 use Rattle.segment_set.proofs.Places.{map_heads}
@@ -21,7 +21,7 @@ pub returns-in_default-clause-room : goal.returns-in_default-clause-room
 returns-in_default-clause-room g c = λ few.
     let parts = c.args.segments.now in
     let long : length c.as_slice.result.now ≡ length parts =
-    ap length (c.as_slice.ensures.value ∙ c.in_ok-sizes.ensures) ∙ length-map parts (λ (p : Part). p.head.entries) in
+    ap length (c.as_slice.ensures.value ∙ c.in_ok-sizes.ensures) ∙ length-map parts (λ (p : LiveSegment). p.head.entries) in
     let pins : count_by (λ (pin : Bool). pin) c.as_slice-2.result.now ≡ count_by (λ (pin : Bool). pin) (pinned c.args.inputs.now parts) =
     ap (count_by (λ (pin : Bool). pin)) (c.as_slice-2.ensures.value ∙ c.in_ok-pins.ensures.pins ∙ map_heads (is_among c.args.inputs.now) c.args.segments.now) in
     few_segments c.args.inputs.now parts c.in_ok-pins.ensures.ascend few (let left = c.in_default.ensures.left in omega (arith, left, long, pins))

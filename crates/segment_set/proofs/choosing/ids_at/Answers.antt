@@ -1,7 +1,7 @@
 use Rattle.std.proofs.Common.{◌≡◌, ◌<◌, ◌∙◌, ℕ, List, [], ◌∷◌, ◌++◌, get_or, length, map, take, ap, sym}
 use Rattle.std.proofs.lemmas.List.{map-append, take_more}
 use Rattle.segment_file.specs.Heads.{Head}
-use Rattle.segment_view.specs.Parts.{ids_of}
+use Rattle.segment_view.specs.LiveSegments.{ids_of}
 use Rattle.segment_set.proofs.Places.{id_at}
 use Rattle.segment_set.proofs.choosing.ids_at.Goals as goal
 

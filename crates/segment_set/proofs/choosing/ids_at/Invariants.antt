@@ -1,6 +1,6 @@
 use Rattle.std.proofs.Common.{◌≡◌, map, take}
 use Rattle.std.specs.Prelude.{slice_index}
-use Rattle.segment_view.specs.Parts.{ids_of}
+use Rattle.segment_view.specs.LiveSegments.{ids_of}
 use Rattle.segment_set.proofs.choosing.ids_at.Given as goal
 
 abbrev pub invariant-loop-position : goal.invariant-loop-position

@@ -1,6 +1,6 @@
 use Rattle.std.proofs.Common.{◌≤◌, length, take}
 use Rattle.std.specs.List.{All}
-use Rattle.segment_view.specs.Parts.{parts_among}
+use Rattle.segment_view.specs.LiveSegments.{parts_among}
 use Rattle.segment_set.specs.Merged.{IsWhole}
 use Rattle.segment_set.proofs.choosing.is_settled.Given as goal
 

@@ -11,7 +11,7 @@ use Rattle.documents.specs.Entries.{MakeDocs, is_among}
 use Rattle.page_cache.specs.Cache.{Agrees}
 use Rattle.segment_file.specs.Damages.{IsLeafDamageOf}
 use Rattle.nearest_query.proofs.Parts.{on_damage}
-use Rattle.segment_view.specs.Parts.{Part, live_in_parts, parts_among, has_live}
+use Rattle.segment_view.specs.LiveSegments.{LiveSegment, live_in_parts, parts_among, has_live}
 use Rattle.segment_view.specs.Damages.{IsPartDamage}
 use Rattle.segment_view.specs.Held.{AreHeld}
 use Rattle.segment_set.specs.Merges.{HoldsLive, IsGathered}
@@ -150,7 +150,8 @@ returns-in_err-entries-clause-evident g c =
     (on_evident_at {X = Unit {0}} (λ f. IsCrowdedIn g.row.D f parts) told told files (g.F.Pages.files c.gather.new.folder) (Err c.in_err-entries.field-0.0)
     (λ t. t) (λ t. c.in_err-entries.ensures.calm.files t.0)
     (on_part_evident {X = Unit {0}} (IsCrowdedIn g.row.D files parts) told g.row.D files (parts_among c.args.ids.now parts) (Err c.in_err-entries.field-0.0)
-    (λ t. All-filter (λ (q : Part). is_among c.args.ids.now q.head.id) (HasFileHead g.row.D files) parts t.2) (λ t. c.in_err-entries.ensures.damage t.0 t.1)
+    (λ t. All-filter (λ (q : LiveSegment). is_among c.args.ids.now q.head.id) (HasFileHead g.row.D files) parts t.2)
+        (λ t. c.in_err-entries.ensures.damage t.0 t.1)
     c.in_err-entries.ensures.shown))
 
 pub returns-in_err-build_of-clause-evident : goal.returns-in_err-build_of-clause-evident

@@ -6,7 +6,7 @@ use Rattle.page_cache.specs.Cache.{Agrees}
 use Rattle.segment_build.specs.NewSegments.{NewSegmentData}
 use Rattle.segment_set.specs.Merges.{Replaces, living}
 use Rattle.segment_set.specs.Damages.{IsDoubt, IsMergeDamage, IsMergeDamageOf}
-use Rattle.segment_view.specs.Parts.{live_in_parts}
+use Rattle.segment_view.specs.LiveSegments.{live_in_parts}
 use Rattle.index_opening.specs.Evidence.{IsCrowdedIn}
 use Rattle.segment_set.specs.Faithful.{HasFileHead}
 use Rattle.segment_set.specs.Sets.{AreAlone}

@@ -50,7 +50,7 @@ returns-clause-spilled g c =
       made = made g.row.D (items_of c.as_mut_slice.result.now) has.0 c.in_ok-new.new has.1 has.2 live.1 c.args.plan.now.leaf c.in_ok-new.ensures.leaf.0 live.0
           (omega (arith, c.requires.some, ap length same))
           (subst AreUncrowded (sym same) (uncrowded c.args.buffer.now.items c.requires.once c.requires.sixteen));
-      put = c.in_ok-put.ensures.put;
+      put = c.in_ok-swap.ensures.put;
       live = live.1 ∙ ap (λ (es : List Item). λ number. has_entry number es) same;
       holds = subst (λ (es : List Item). HoldsLive g.row.D es c.in_ok-new.new) same
           (holds_live g.row.D (items_of c.as_mut_slice.result.now) has.0 c.in_ok-new.new has.1 has.2 live.1);

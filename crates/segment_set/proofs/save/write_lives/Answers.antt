@@ -7,7 +7,7 @@ use Rattle.outer_io.specs.declared.file_name.FileName.TheVariants.{Live, Segment
 use Rattle.documents.specs.Entries.{is_among}
 use Rattle.file_names.specs.Names.{is_named}
 use Rattle.commit_list.specs.declared.listed.Listed.{Listed}
-use Rattle.segment_view.specs.Parts.{Part, ids_of, part_of}
+use Rattle.segment_view.specs.LiveSegments.{LiveSegment, ids_of, live_segment}
 use Rattle.segment_view.proofs.Living.{part_in, parts_more}
 use Rattle.segment_set.specs.Sets.{IsNamed}
 use Rattle.segment_set.specs.Saved.{IsSaved}
@@ -17,19 +17,19 @@ use Rattle.segment_set.proofs.save.write_lives.Goals as goal
 
 pub write_one-requires : goal.write_one-requires
 write_one-requires g c =
-    let p = part_of c.part.result.0.now c.part.result.1.now in
+    let p = live_segment c.part.result.0.now c.part.result.1.now in
     let there = part_in c.args.segments.now c.loop-i.i p c.part.ensures in
     let dims = c.len-i-end.ensures.dims in (
       search rules,
       (
         c.loop-i.invariant.kept.more (Segment p.head.id) (All-contains (IsNamed c.args.names.now) c.args.segments.now p c.requires.named there),
-        All-contains (λ (q : Part). length q.live.live ≤ q.head.entries) c.args.segments.now p c.requires.fits there,
+        All-contains (λ (q : LiveSegment). length q.live.live ≤ q.head.entries) c.args.segments.now p c.requires.fits there,
       ),
     )
 
 pub loop-i-preserved : goal.loop-i-preserved
 loop-i-preserved g c =
-    let p = part_of c.part.result.0.now c.part.result.1.now in
+    let p = live_segment c.part.result.0.now c.part.result.1.now in
     let parts = c.args.segments.now in
     let was = c.loop-i.invariant in
     let one = c.in_ok-one.ensures in
@@ -39,7 +39,7 @@ loop-i-preserved g c =
       next = one.next ∙ was.next;
       apart = λ id n none.
           let later = later_among (take c.loop-i.i parts) p id
-          (subst (λ (ps : List Part). is_among (ids_of ps) id ≡ false) (parts_more parts c.loop-i.i p c.part.ensures) none) in
+          (subst (λ (ps : List LiveSegment). is_among (ids_of ps) id ≡ false) (parts_more parts c.loop-i.i p c.part.ensures) none) in
           ap (λ (ns : List FileName). is_named ns (Live id n)) one.joined
           ∙ other_live c.loop-i.names.names c.in_ok-one.one.segment c.in_ok-one.one.generation id n (λ same. later.1 (same ∙ one.listed.segment))
           ∙ was.apart id n later.0;

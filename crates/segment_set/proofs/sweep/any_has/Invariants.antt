@@ -1,7 +1,7 @@
 use Rattle.std.proofs.Common.{◌≡◌, drop}
 use Rattle.std.specs.List.{list_any}
 use Rattle.documents.specs.Entries.{is_among}
-use Rattle.segment_view.specs.Parts.{ids_of}
+use Rattle.segment_view.specs.LiveSegments.{ids_of}
 use Rattle.segment_set.specs.Sets.{NamedView}
 use Rattle.segment_set.proofs.sweep.any_has.Given as goal
 

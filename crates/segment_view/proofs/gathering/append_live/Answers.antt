@@ -6,7 +6,7 @@ use Rattle.std.proofs.lemmas.Result.{err_from_is_err_and}
 use Rattle.point_codec.specs.Points.{Item}
 use Rattle.point_codec.specs.Seen.{items_of}
 use Rattle.point_codec.specs.declared.entries.Entry.{Entry}
-use Rattle.segment_view.specs.Parts.{part_of}
+use Rattle.segment_view.specs.LiveSegments.{live_segment}
 use Rattle.segment_view.proofs.Living.{live_one, nothing_live, numbers_below}
 use Rattle.segment_view.proofs.Reading.{calm_alone}
 use Rattle.segment_view.proofs.Counting.{le_by_tree}
@@ -17,7 +17,7 @@ pub returns-then-live_count-eq0-clause-entries : goal.returns-then-live_count-eq
 returns-then-live_count-eq0-clause-entries g c = λ told agrees es r.
     let old = items_of c.args.entries.now.items in
     sym (ap (λ (xs : List Item). old ++ xs)
-    (nothing_live es (part_of c.args.head.now c.args.live.now) (sym c.live_count.ensures.value ∙ c.if-live_count-eq0.true)) ∙ append-nil old)
+    (nothing_live es (live_segment c.args.head.now c.args.live.now) (sym c.live_count.ensures.value ∙ c.if-live_count-eq0.true)) ∙ append-nil old)
 
 pub returns-then-live_count-eq0-clause-held : goal.returns-then-live_count-eq0-clause-held
 returns-then-live_count-eq0-clause-held g c = λ told agrees own. (
@@ -65,7 +65,7 @@ returns-clause-calm g c =
 
 pub returns-clause-entries : goal.returns-clause-entries
 returns-clause-entries g c = λ told agrees es r.
-    let p = part_of c.args.head.now c.args.live.now in
+    let p = live_segment c.args.head.now c.args.live.now in
     ap (λ (xs : List (Entry g.row.D)). items_of xs) c.in_ok-append.ensures.items
     ∙ map-append (λ (e : Entry g.row.D). record { doc = e.doc; at = e.point.c }) c.args.entries.now.items c.in_ok-more.more.items
     ∙ ap (λ (xs : List Item). items_of c.args.entries.now.items ++ xs) (c.in_ok-more.ensures.entries told agrees (es p.head.id) r.held ∙ sym (live_one es p))

@@ -4,7 +4,7 @@ use Rattle.std.proofs.lemmas.List.Elements.{All-contains}
 use Rattle.std.proofs.lemmas.Result.{err_from_is_err_and}
 use Rattle.point_codec.specs.Points.{Item}
 use Rattle.point_codec.specs.Seen.{items_of}
-use Rattle.segment_view.specs.Parts.{IsRead, part_of, ids_of, live_in_parts, parts_among, has_live}
+use Rattle.segment_view.specs.LiveSegments.{IsRead, live_segment, ids_of, live_in_parts, parts_among, has_live}
 use Rattle.segment_view.specs.Held.{HasOwnHead, AreHeld}
 use Rattle.segment_view.proofs.Holding.{held_more}
 use Rattle.segment_view.proofs.Living.{part_in, all_widen}
@@ -18,7 +18,7 @@ loop-i-preserved g c =
     let one = c.in_ok-gather_one.ensures in
     let parts = c.args.segments.now in
     let ids = c.args.ids.now in
-    let p = part_of c.part.result.0.now c.part.result.1.now in
+    let p = live_segment c.part.result.0.now c.part.result.1.now in
     let is = c.part.ensures in
     let there = part_in parts c.loop-i.i p is in
     let files = g.F.Pages.files c.args.folder.now in
@@ -56,7 +56,7 @@ loop-i-preserved g c =
 
 pub returns-in_err-gather_one-clause-reads : goal.returns-in_err-gather_one-clause-reads
 returns-in_err-gather_one-clause-reads g c =
-    let most = leaves_among_upto c.args.ids.now c.args.segments.now c.loop-i.i (part_of c.part.result.0.now c.part.result.1.now) c.part.ensures in
+    let most = leaves_among_upto c.args.ids.now c.args.segments.now c.loop-i.i (live_segment c.part.result.0.now c.part.result.1.now) c.part.ensures in
     let before = c.loop-i.invariant.reads in
     let here = c.in_err-gather_one.ensures.reads in
     omega (arith, most, before, here)
@@ -65,7 +65,7 @@ pub returns-in_err-gather_one-clause-calm : goal.returns-in_err-gather_one-claus
 returns-in_err-gather_one-clause-calm g c =
     let parts = c.args.segments.now in
     let ids = c.args.ids.now in
-    let p = part_of c.part.result.0.now c.part.result.1.now in
+    let p = live_segment c.part.result.0.now c.part.result.1.now in
     calm_then g.F.Pages.told (g.F.Pages.files c.args.folder.now) (g.F.Pages.files c.loop-i.folder) (g.F.Pages.files c.gather_one.new.folder) c.args.cache.now
     c.loop-i.cache c.gather_one.new.cache (ids_of (parts_among ids parts)) c.loop-i.invariant.calm
     (calm_more g.F.Pages.told (g.F.Pages.files c.loop-i.folder) (g.F.Pages.files c.gather_one.new.folder) c.loop-i.cache c.gather_one.new.cache
@@ -75,7 +75,7 @@ returns-in_err-gather_one-clause-calm g c =
 pub returns-in_err-gather_one-clause-shown : goal.returns-in_err-gather_one-clause-shown
 returns-in_err-gather_one-clause-shown g c =
     let e = err_from_is_err_and c.from_residual.result c.from_residual.ensures.1 in
-    let p = part_of c.part.result.0.now c.part.result.1.now in
+    let p = live_segment c.part.result.0.now c.part.result.1.now in
     rw (e.1, e.2)
     (part_among {T = Unit {0}} g.row.D c.args.ids.now c.args.segments.now p (part_in c.args.segments.now c.loop-i.i p c.part.ensures)
     (Err c.in_err-gather_one.field-0.0) c.in_err-gather_one.ensures.shown)
@@ -83,7 +83,7 @@ returns-in_err-gather_one-clause-shown g c =
 pub returns-in_err-gather_one-clause-whole : goal.returns-in_err-gather_one-clause-whole
 returns-in_err-gather_one-clause-whole g c = λ told agrees es read.
     let parts = c.args.segments.now in
-    let p = part_of c.part.result.0.now c.part.result.1.now in
+    let p = live_segment c.part.result.0.now c.part.result.1.now in
     let calm = c.loop-i.invariant.calm in
     let files = g.F.Pages.files c.args.folder.now in
     let e = err_from_is_err_and c.from_residual.result c.from_residual.ensures.1 in

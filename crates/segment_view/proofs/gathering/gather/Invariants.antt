@@ -2,7 +2,7 @@ use Rattle.std.proofs.Common.{◌≡◌, ◌<◌, ◌≤◌, ◌+◌, ◌^◌, t
 use Rattle.std.specs.Prelude.{IsTrue, All}
 use Rattle.point_codec.specs.Seen.{items_of}
 use Rattle.page_cache.specs.Cache.{Agrees}
-use Rattle.segment_view.specs.Parts.{Contents, AreRead, heads_of, ids_of, live_in_parts, parts_among, has_live}
+use Rattle.segment_view.specs.LiveSegments.{Contents, AreRead, heads_of, ids_of, live_in_parts, parts_among, has_live}
 use Rattle.segment_view.specs.Held.{HasOwnHead, AreHeld}
 use Rattle.segment_view.specs.Costs.{leaves_in}
 use Rattle.segment_view.specs.Calm.{IsCalm}

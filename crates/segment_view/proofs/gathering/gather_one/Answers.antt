@@ -10,7 +10,7 @@ use Rattle.page_cache.specs.Evidence.{OnDamage}
 use Rattle.documents.specs.Entries.{is_among}
 use Rattle.documents.proofs.Lists.{cons_head}
 use Rattle.nearest_query.proofs.Parts.{on_damage}
-use Rattle.segment_view.specs.Parts.{Part, part_of, heads_of, ids_of, live_in_parts, parts_among, has_live}
+use Rattle.segment_view.specs.LiveSegments.{LiveSegment, live_segment, heads_of, ids_of, live_in_parts, parts_among, has_live}
 use Rattle.segment_view.specs.Held.{AreHeld}
 use Rattle.segment_view.specs.Costs.{leaves_in}
 use Rattle.segment_view.specs.Calm.{IsCalm}
@@ -23,7 +23,7 @@ use Rattle.segment_view.proofs.gathering.gather_one.Goals as goal
 -- one whose id is another gives nothing
 pub returns-then-not-contains-clause-held : goal.returns-then-not-contains-clause-held
 returns-then-not-contains-clause-held g c = λ told agrees own.
-    let p = part_of c.args.head.now c.args.live.now in
+    let p = live_segment c.args.head.now c.args.live.now in
     let other : is_among c.args.ids.now p.head.id ≡ false =
     ap (λ n. list_any (λ m. eqb m n) c.args.ids.now) (sym c.id.ensures) ∙ sym c.contains.ensures.value ∙ c.if-not-contains.true in
     ([], sym (append-nil (items_of c.args.entries.now.items)), held_other g.row.D (g.F.Pages.files c.args.folder.now) c.args.ids.now p other)
@@ -31,20 +31,20 @@ returns-then-not-contains-clause-held g c = λ told agrees own.
 -- a segment whose id is one of these is read
 pub returns : goal.returns
 returns g c =
-    let p = part_of c.args.head.now c.args.live.now in
+    let p = live_segment c.args.head.now c.args.live.now in
     let among : is_among c.args.ids.now p.head.id ≡ true =
     ap (λ n. list_any (λ m. eqb m n) c.args.ids.now) (sym c.id.ensures) ∙ sym c.contains.ensures.value ∙ c.if-not-contains.false in
     let same = sym (among_one c.args.ids.now p among) in
     let one = c.append_live.ensures in
     record {
       entries = λ told agrees es r.
-          subst (λ (ps : List Part).
+          subst (λ (ps : List LiveSegment).
           OnOk c.append_live.result (items_of c.append_live.new.entries.items ≡ items_of c.args.entries.now.items ++ live_in_parts es ps)) same
           (one.entries told agrees es r);
       held = λ told agrees own. on_ok_weaker c.append_live.result (λ m. (
         m.0,
         m.1,
-        subst (λ (ps : List Part). AreHeld g.row.D (g.F.Pages.files c.args.folder.now) ps m.0) same
+        subst (λ (ps : List LiveSegment). AreHeld g.row.D (g.F.Pages.files c.args.folder.now) ps m.0) same
             (held_one g.row.D (g.F.Pages.files c.args.folder.now) p m.0 m.2),
       )) (one.held told agrees own);
       live = on_ok_weaker c.append_live.result (λ m. (
@@ -56,13 +56,13 @@ returns g c =
       numbers = one.numbers;
       reads =
           let few = one.reads in
-          subst (λ (ps : List Part). g.F.Pages.reads c.append_live.new.folder ≤ g.F.Pages.reads c.args.folder.now + leaves_in (heads_of ps)) same
+          subst (λ (ps : List LiveSegment). g.F.Pages.reads c.append_live.new.folder ≤ g.F.Pages.reads c.args.folder.now + leaves_in (heads_of ps)) same
           (omega (arith, few));
-      calm = subst (λ (ps : List Part).
+      calm = subst (λ (ps : List LiveSegment).
           IsCalm g.F.Pages.told (g.F.Pages.files c.args.folder.now) (g.F.Pages.files c.append_live.new.folder) c.args.cache.now c.append_live.new.cache
           (ids_of ps)) same one.calm;
       cause = one.cause;
-      shown = subst (λ (ps : List Part). OnDamage c.append_live.result (IsPartDamage g.row.D ps)) same
+      shown = subst (λ (ps : List LiveSegment). OnDamage c.append_live.result (IsPartDamage g.row.D ps)) same
           (on_damage (IsReadDamage g.row.D p.head) (IsPartDamage g.row.D (p ∷ [])) c.append_live.result (λ d h. (p, cons_head p [], h)) one.shown);
       damage = one.damage;
       whole = one.whole;

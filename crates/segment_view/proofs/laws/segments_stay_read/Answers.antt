@@ -1,7 +1,7 @@
 use Rattle.std.proofs.Common.{not}
 use Rattle.std.proofs.lemmas.List.Elements.{All-filter}
 use Rattle.documents.specs.Entries.{is_among}
-use Rattle.segment_view.specs.Parts.{IsRead}
+use Rattle.segment_view.specs.LiveSegments.{IsRead}
 use Rattle.segment_view.proofs.Living.{read_alike, live_alike, read_cleared, read_placed}
 use Rattle.segment_view.proofs.laws.segments_stay_read.Goals as goal
 

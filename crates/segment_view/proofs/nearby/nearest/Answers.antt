@@ -8,7 +8,7 @@ use Rattle.page_cache.specs.Evidence.{OnDamage}
 use Rattle.segment_file.specs.Heads.{Head, IsHead}
 use Rattle.documents.specs.NearestEntries.{IsNearest, nears_of}
 use Rattle.nearest_query.specs.Segments.{AreNearLeaves, AreSegments, HasId, HaveTrees, IsSegmentDamage, bound_of, live_in}
-use Rattle.segment_view.specs.Parts.{heads_of}
+use Rattle.segment_view.specs.LiveSegments.{heads_of}
 use Rattle.segment_view.proofs.Living.{live_listed, read_segments}
 use Rattle.segment_view.proofs.Reading.{id_of}
 use Rattle.segment_view.proofs.Shown.{parts_shown}

@@ -1,6 +1,6 @@
 use Rattle.std.proofs.Common.{◌<◌, ◌||◌, ◌∙◌, ap, sym, length, arith, set}
 use Rattle.std.proofs.lemmas.List.Edits.{map_over_more}
-use Rattle.live_bits.specs.LiveSet.{is_live, without}
+use Rattle.live_bits.specs.LiveSet.{is_live, live_set_without}
 use Rattle.segment_view.proofs.Beside.{cleared_more}
 use Rattle.segment_view.proofs.pairs.clear_in.Goals as goal
 
@@ -12,8 +12,8 @@ loop-live-preserved c =
     let was = c.loop-live.invariant in
     let within : i < length sets = omega (arith, c.loop-live-test.true, c.loop-live.auto.live-items) in
     record {
-      lives = ap (λ s. set now i s) (c.clear-was_live.ensures.after ∙ ap (without c.args.doc) (sym c.live-item.is))
-          ∙ map_over_more (without c.args.doc) sets now i c.live-item.result within was.lives c.live-item.is;
+      lives = ap (λ s. set now i s) (c.clear-was_live.ensures.after ∙ ap (live_set_without c.args.doc) (sym c.live-item.is))
+          ∙ map_over_more (live_set_without c.args.doc) sets now i c.live-item.result within was.lives c.live-item.is;
       was = ap (λ b. c.loop-live.was_live || b) (c.clear-was_live.ensures.answer ∙ ap (λ s. is_live s c.args.doc) (sym c.live-item.is))
           ∙ cleared_more c.args.doc sets now i c.live-item.result c.loop-live.was_live within was.lives c.live-item.is was.was;
     }

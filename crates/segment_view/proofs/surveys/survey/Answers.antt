@@ -1,8 +1,8 @@
 use Rattle.std.proofs.Common.{◌+◌, ◌∙◌, List, [], ◌∷◌, sym, subst, take, ℕ, arith}
 use Rattle.inner_pack.specs.Trees.{IndexTree}
 use Rattle.segment_file.specs.Heads.{Head, count_of}
-use Rattle.bkd_reader.specs.Counts.{tested, touched}
-use Rattle.segment_view.specs.Parts.{part_of, heads_of}
+use Rattle.bkd_reader.specs.Counts.{tested_entries, touched_leaves}
+use Rattle.segment_view.specs.LiveSegments.{live_segment, heads_of}
 use Rattle.segment_view.specs.Costs.{AreCounted, AreTested, AreTouched}
 use Rattle.segment_view.proofs.Counting.{counted_push}
 use Rattle.segment_view.proofs.Stepwise.{heads_more, leaves_more}
@@ -13,12 +13,12 @@ loop-i-preserved g c =
     let was = c.loop-i.invariant in
     let one = c.survey_one-one.ensures in
     let parts = c.args.segments.now in
-    let p = part_of c.part.result.0.now c.part.result.1.now in
+    let p = live_segment c.part.result.0.now c.part.result.1.now in
     let is = c.part.ensures in
     let has = g.S.Shape.has c.args.shape.now in
     let crosses = g.S.Shape.crosses c.args.shape.now in
-    let of_tested : Head → IndexTree → ℕ = λ h t. tested crosses (count_of h) 0 t in
-    let of_touched : Head → IndexTree → ℕ = λ h t. touched has crosses t in
+    let of_tested : Head → IndexTree → ℕ = λ h t. tested_entries crosses (count_of h) 0 t in
+    let of_touched : Head → IndexTree → ℕ = λ h t. touched_leaves has crosses t in
     let leaves = leaves_more parts c.loop-i.i p is in
     record {
       tested = subst (λ (hs : List Head). AreCounted g.row.D of_tested hs (c.loop-i.all.tested + c.survey_one-one.result.tested))

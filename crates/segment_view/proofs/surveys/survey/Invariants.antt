@@ -1,5 +1,5 @@
 use Rattle.std.proofs.Common.{◌≡◌, ◌≤◌, ◌+◌, ◌*◌, take}
-use Rattle.segment_view.specs.Parts.{heads_of}
+use Rattle.segment_view.specs.LiveSegments.{heads_of}
 use Rattle.segment_view.specs.Costs.{leaves_in, AreTested, AreTouched}
 use Rattle.segment_view.proofs.surveys.survey.Given as goal
 

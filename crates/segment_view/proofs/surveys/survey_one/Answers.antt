@@ -1,19 +1,20 @@
 use Rattle.std.proofs.Common.{◌∙◌, arith}
 use Rattle.inner_pack.specs.Trees.{IndexTree}
 use Rattle.segment_file.specs.Heads.{Head, count_of}
-use Rattle.bkd_reader.specs.Counts.{tested, touched}
+use Rattle.bkd_reader.specs.Counts.{tested_entries, touched_leaves}
 use Rattle.bkd_reader.proofs.Trees.{tree_count}
 use Rattle.segment_view.proofs.Counting.{counted_one, le_by_tree, same_by_tree, tested-le, touched-le, count-le}
 use Rattle.segment_view.proofs.surveys.survey_one.Goals as goal
 
 pub returns-clause-tested : goal.returns-clause-tested
 returns-clause-tested g c =
-    counted_one g.row.D (λ (h : Head) (t : IndexTree). tested (g.S.Shape.crosses c.args.shape.now) (count_of h) 0 t) c.args.head.now c.survey.result.tested
+    counted_one g.row.D (λ (h : Head) (t : IndexTree). tested_entries (g.S.Shape.crosses c.args.shape.now) (count_of h) 0 t) c.args.head.now
+        c.survey.result.tested
     (λ root t has. (c.survey.ensures.counts root t has).0)
 
 pub returns-clause-touched : goal.returns-clause-touched
 returns-clause-touched g c =
-    counted_one g.row.D (λ (h : Head) (t : IndexTree). touched (g.S.Shape.has c.args.shape.now) (g.S.Shape.crosses c.args.shape.now) t) c.args.head.now
+    counted_one g.row.D (λ (h : Head) (t : IndexTree). touched_leaves (g.S.Shape.has c.args.shape.now) (g.S.Shape.crosses c.args.shape.now) t) c.args.head.now
     c.survey.result.touched (λ root t has. (c.survey.ensures.counts root t has).1)
 
 pub returns-clause-leaves : goal.returns-clause-leaves

@@ -2,7 +2,7 @@ use Rattle.std.proofs.Common.{◌++◌, ℕ, List, ap, sym, ◌∙◌}
 use Rattle.point_codec.specs.Seen.{items_of}
 use Rattle.documents.specs.Entries.{numbers_found}
 use Rattle.documents.proofs.HitNumbers.{found_append}
-use Rattle.segment_view.specs.Parts.{live_in_parts}
+use Rattle.segment_view.specs.LiveSegments.{live_in_parts}
 use Rattle.segment_view.proofs.Hits.{ordered_found}
 use Rattle.segment_view.proofs.visiting.visit.Goals as goal
 

@@ -4,10 +4,10 @@ use Rattle.std.proofs.lemmas.List.{append-nil}
 use Rattle.point_codec.specs.Points.{Item}
 use Rattle.inner_pack.specs.Trees.{IndexTree}
 use Rattle.segment_file.specs.Heads.{Head, count_of}
-use Rattle.bkd_reader.specs.Counts.{tested, touched}
+use Rattle.bkd_reader.specs.Counts.{tested_entries, touched_leaves}
 use Rattle.bkd_reader.proofs.Trees.{tree_count}
 use Rattle.documents.specs.Entries.{numbers_found}
-use Rattle.segment_view.specs.Parts.{part_of}
+use Rattle.segment_view.specs.LiveSegments.{live_segment}
 use Rattle.segment_view.proofs.Living.{live_one, nothing_live}
 use Rattle.segment_view.proofs.Reading.{calm_alone}
 use Rattle.segment_view.proofs.Counting.{le_by_tree, one_counted}
@@ -18,13 +18,14 @@ use Rattle.segment_view.proofs.visiting.visit_one.Goals as goal
 pub returns-then-live_count-eq0-clause-found : goal.returns-then-live_count-eq0-clause-found
 returns-then-live_count-eq0-clause-found g c = λ told agrees es r.
     let old = c.args.hits.now.items in
-    let none = nothing_live es (part_of c.args.head.now c.args.live.now) (sym c.live_count.ensures.value ∙ c.if-live_count-eq0.true) in
+    let none = nothing_live es (live_segment c.args.head.now c.args.live.now) (sym c.live_count.ensures.value ∙ c.if-live_count-eq0.true) in
     sym (ap (λ (xs : List Item). old ++ numbers_found (g.S.Shape.has c.args.shape.now) xs) none ∙ append-nil old)
 
 pub returns-clause-found : goal.returns-clause-found
 returns-clause-found g c = λ told agrees es r.
     let has = g.S.Shape.has c.args.shape.now in
-    let same = hits_live has c.args.live.now (es c.args.head.now.id) ∙ ap (numbers_found has) (sym (live_one es (part_of c.args.head.now c.args.live.now))) in
+    let same =
+        hits_live has c.args.live.now (es c.args.head.now.id) ∙ ap (numbers_found has) (sym (live_one es (live_segment c.args.head.now c.args.live.now))) in
     subst (λ (ys : List ℕ). OnOk c.intersect.result (c.intersect.new.hits.items ≡ c.args.hits.now.items ++ ys)) same
     (c.intersect.ensures.found told agrees (es c.args.head.now.id) r.held)
 
@@ -32,7 +33,8 @@ pub returns-clause-tests : goal.returns-clause-tests
 returns-clause-tests g c = λ n all.
     le_by_tree g.row.D c.args.head.now.index c.index.result.now c.index.ensures.value c.is_spelled.ensures _ _
     (λ root t has.
-    let e = one_counted g.row.D (λ (h : Head) (u : IndexTree). tested (g.S.Shape.crosses c.args.shape.now) (count_of h) 0 u) c.args.head.now n root t all has in
+    let e = one_counted g.row.D (λ (h : Head) (u : IndexTree). tested_entries (g.S.Shape.crosses c.args.shape.now) (count_of h) 0 u) c.args.head.now n root t
+        all has in
     let m = c.intersect.ensures.tests root t has in
     omega (arith, e, m))
 
@@ -48,7 +50,8 @@ pub returns-clause-reads : goal.returns-clause-reads
 returns-clause-reads g c = λ n all.
     le_by_tree g.row.D c.args.head.now.index c.index.result.now c.index.ensures.value c.is_spelled.ensures _ _
     (λ root t has.
-    let e = one_counted g.row.D (λ (h : Head) (u : IndexTree). touched (g.S.Shape.has c.args.shape.now) (g.S.Shape.crosses c.args.shape.now) u) c.args.head.now
+    let e = one_counted g.row.D (λ (h : Head) (u : IndexTree). touched_leaves (g.S.Shape.has c.args.shape.now) (g.S.Shape.crosses c.args.shape.now) u)
+        c.args.head.now
     n root t all has in
     let m = c.intersect.ensures.reads root t has in
     omega (arith, e, m))

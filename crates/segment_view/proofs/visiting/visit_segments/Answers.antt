@@ -4,10 +4,10 @@ use Rattle.std.proofs.lemmas.List.Elements.{All-contains}
 use Rattle.std.proofs.lemmas.Result.{err_from_is_err_and}
 use Rattle.inner_pack.specs.Trees.{IndexTree}
 use Rattle.segment_file.specs.Heads.{Head, count_of}
-use Rattle.bkd_reader.specs.Counts.{tested, touched}
+use Rattle.bkd_reader.specs.Counts.{tested_entries, touched_leaves}
 use Rattle.documents.specs.Entries.{numbers_found}
 use Rattle.nearest_query.proofs.Parts.{on_damage}
-use Rattle.segment_view.specs.Parts.{IsRead, part_of, ids_of, live_in_parts}
+use Rattle.segment_view.specs.LiveSegments.{IsRead, live_segment, ids_of, live_in_parts}
 use Rattle.segment_view.specs.Costs.{AreTested, AreTouched}
 use Rattle.segment_view.specs.Damages.{IsReadDamage, IsPartDamage}
 use Rattle.segment_view.proofs.Living.{part_in}
@@ -20,7 +20,7 @@ loop-i-preserved g c =
     let was = c.loop-i.invariant in
     let one = c.in_ok-visit_one.ensures in
     let parts = c.args.segments.now in
-    let p = part_of c.part.result.0.now c.part.result.1.now in
+    let p = live_segment c.part.result.0.now c.part.result.1.now in
     let is = c.part.ensures in
     let there = part_in parts c.loop-i.i p is in
     let has = g.S.Shape.has c.args.shape.now in
@@ -35,7 +35,7 @@ loop-i-preserved g c =
       has = one.has ∙ was.has;
       crosses = one.crosses ∙ was.crosses;
       tests = λ n all.
-          let u = counted_more g.row.D (λ (h : Head) (t : IndexTree). tested crosses (count_of h) 0 t) parts c.loop-i.i p n is all in
+          let u = counted_more g.row.D (λ (h : Head) (t : IndexTree). tested_entries crosses (count_of h) 0 t) parts c.loop-i.i p n is all in
           let before = was.tests u.before u.of_before in
           let here = one.tests u.here (subst (λ f. AreTested g.row.D f (p.head ∷ []) u.here) (sym was.crosses) u.of_here) in
           omega (arith, before, here, u.within);
@@ -45,7 +45,7 @@ loop-i-preserved g c =
           let here = one.compares in
           omega (arith, more, before, here);
       reads = λ n all.
-          let u = counted_more g.row.D (λ (h : Head) (t : IndexTree). touched has crosses t) parts c.loop-i.i p n is all in
+          let u = counted_more g.row.D (λ (h : Head) (t : IndexTree). touched_leaves has crosses t) parts c.loop-i.i p n is all in
           let before = was.reads u.before u.of_before in
           let here = one.reads u.here
           (subst (λ k. AreTouched g.row.D k (g.S.Shape.crosses c.loop-i.shape) (p.head ∷ []) u.here) (sym was.has)
@@ -64,9 +64,10 @@ loop-i-preserved g c =
 
 pub returns-in_err-visit_one-clause-tests : goal.returns-in_err-visit_one-clause-tests
 returns-in_err-visit_one-clause-tests g c = λ n all.
-    let p = part_of c.part.result.0.now c.part.result.1.now in
+    let p = live_segment c.part.result.0.now c.part.result.1.now in
     let was = c.loop-i.invariant in
-    let u = counted_upto g.row.D (λ (h : Head) (t : IndexTree). tested (g.S.Shape.crosses c.args.shape.now) (count_of h) 0 t) c.args.segments.now c.loop-i.i p n
+    let u = counted_upto g.row.D (λ (h : Head) (t : IndexTree). tested_entries (g.S.Shape.crosses c.args.shape.now) (count_of h) 0 t) c.args.segments.now
+        c.loop-i.i p n
     c.part.ensures all in
     let before = was.tests u.before u.of_before in
     let here = c.in_err-visit_one.ensures.tests u.here (subst (λ f. AreTested g.row.D f (p.head ∷ []) u.here) (sym was.crosses) u.of_here) in
@@ -74,17 +75,17 @@ returns-in_err-visit_one-clause-tests g c = λ n all.
 
 pub returns-in_err-visit_one-clause-compares : goal.returns-in_err-visit_one-clause-compares
 returns-in_err-visit_one-clause-compares g c =
-    let most = leaves_upto c.args.segments.now c.loop-i.i (part_of c.part.result.0.now c.part.result.1.now) c.part.ensures in
+    let most = leaves_upto c.args.segments.now c.loop-i.i (live_segment c.part.result.0.now c.part.result.1.now) c.part.ensures in
     let before = c.loop-i.invariant.compares in
     let here = c.in_err-visit_one.ensures.compares in
     omega (arith, most, before, here)
 
 pub returns-in_err-visit_one-clause-reads : goal.returns-in_err-visit_one-clause-reads
 returns-in_err-visit_one-clause-reads g c = λ n all.
-    let p = part_of c.part.result.0.now c.part.result.1.now in
+    let p = live_segment c.part.result.0.now c.part.result.1.now in
     let was = c.loop-i.invariant in
     let has = g.S.Shape.has c.args.shape.now in
-    let u = counted_upto g.row.D (λ (h : Head) (t : IndexTree). touched has (g.S.Shape.crosses c.args.shape.now) t) c.args.segments.now c.loop-i.i p n
+    let u = counted_upto g.row.D (λ (h : Head) (t : IndexTree). touched_leaves has (g.S.Shape.crosses c.args.shape.now) t) c.args.segments.now c.loop-i.i p n
     c.part.ensures all in
     let before = was.reads u.before u.of_before in
     let here = c.in_err-visit_one.ensures.reads u.here
@@ -95,7 +96,7 @@ returns-in_err-visit_one-clause-reads g c = λ n all.
 pub returns-in_err-visit_one-clause-calm : goal.returns-in_err-visit_one-clause-calm
 returns-in_err-visit_one-clause-calm g c =
     let parts = c.args.segments.now in
-    let p = part_of c.part.result.0.now c.part.result.1.now in
+    let p = live_segment c.part.result.0.now c.part.result.1.now in
     calm_then g.F.Pages.told (g.F.Pages.files c.args.folder.now) (g.F.Pages.files c.loop-i.folder) (g.F.Pages.files c.visit_one.new.folder) c.args.cache.now
     c.loop-i.cache c.visit_one.new.cache (ids_of parts) c.loop-i.invariant.calm
     (calm_more g.F.Pages.told (g.F.Pages.files c.loop-i.folder) (g.F.Pages.files c.visit_one.new.folder) c.loop-i.cache c.visit_one.new.cache (p.head.id ∷ [])
@@ -105,7 +106,7 @@ pub returns-in_err-visit_one-clause-shown : goal.returns-in_err-visit_one-clause
 returns-in_err-visit_one-clause-shown g c =
     let e = err_from_is_err_and c.from_residual.result c.from_residual.ensures.1 in
     let parts = c.args.segments.now in
-    let p = part_of c.part.result.0.now c.part.result.1.now in
+    let p = live_segment c.part.result.0.now c.part.result.1.now in
     rw (e.1, e.2)
     (on_damage {T = Unit {0}} (IsReadDamage g.row.D p.head) (IsPartDamage g.row.D parts) (Err c.in_err-visit_one.field-0.0)
     (λ d h. (p, part_in parts c.loop-i.i p c.part.ensures, h)) c.in_err-visit_one.ensures.shown)
@@ -113,7 +114,7 @@ returns-in_err-visit_one-clause-shown g c =
 pub returns-in_err-visit_one-clause-whole : goal.returns-in_err-visit_one-clause-whole
 returns-in_err-visit_one-clause-whole g c = λ told agrees es read.
     let parts = c.args.segments.now in
-    let p = part_of c.part.result.0.now c.part.result.1.now in
+    let p = live_segment c.part.result.0.now c.part.result.1.now in
     let calm = c.loop-i.invariant.calm in
     let files = g.F.Pages.files c.args.folder.now in
     let e = err_from_is_err_and c.from_residual.result c.from_residual.ensures.1 in

@@ -2,7 +2,7 @@ use Rattle.std.proofs.Common.{◌≡◌, ◌≤◌, ◌+◌, ◌*◌, ◌++◌, 
 use Rattle.std.specs.Prelude.{IsTrue}
 use Rattle.page_cache.specs.Cache.{Agrees}
 use Rattle.documents.specs.Entries.{numbers_found}
-use Rattle.segment_view.specs.Parts.{Contents, AreRead, heads_of, ids_of, live_in_parts}
+use Rattle.segment_view.specs.LiveSegments.{Contents, AreRead, heads_of, ids_of, live_in_parts}
 use Rattle.segment_view.specs.Costs.{leaves_in, AreTested, AreTouched}
 use Rattle.segment_view.specs.Calm.{IsCalm}
 use Rattle.segment_view.proofs.visiting.visit_segments.Given as goal

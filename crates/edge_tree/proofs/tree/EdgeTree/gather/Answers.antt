@@ -2,12 +2,12 @@ use Rattle.std.proofs.Common.{◌≡◌, ◌-◌, false, ℕ, List, [], ◌∷�
 use Rattle.std.specs.Prelude.{All}
 use Rattle.std.proofs.lemmas.List.Elements.{All-append, All-cons, All-nil}
 use Rattle.point_codec.specs.Seen.{region_of}
-use Rattle.ring_parity.specs.Edges.{Ends}
+use Rattle.ring_parity.specs.Edges.{EdgeEnds}
 use Rattle.ring_parity.specs.Rings.{any_meets}
 use Rattle.ring_parity.specs.Seen.{ends_of}
 use Rattle.ring_parity.specs.declared.edges.Edge.{Edge}
 use Rattle.edge_tree.specs.declared.stretch.Stretch.{Stretch}
-use Rattle.edge_tree.specs.Nodes.{held, all_held}
+use Rattle.edge_tree.specs.Nodes.{held_edges, all_held_edges}
 use Rattle.edge_tree.specs.Ways.{IsStretch, all_on, AreNear}
 use Rattle.edge_tree.proofs.Near.{left_out, kept_more, near_all, apart_missed, unmet_missed, one_more, stretch_at}
 use Rattle.edge_tree.proofs.Parts.{run_seen}
@@ -27,8 +27,8 @@ loop-at-preserved-then-is_apart c = record {
   gathered =
       left_out (region_of c.args.c.now) (all_on (map ends_of c.self.inside.edges.items) c.loop-at.near.items)
       (below (map ends_of c.self.inside.edges.items) c.self.inside.nodes.items c.loop-at.at c.index-node.result.now)
-      (all_held (map ends_of c.self.inside.edges.items) (drop c.loop-at.at c.self.inside.nodes.items))
-      (all_held (map ends_of c.self.inside.edges.items) (drop c.index-node.result.now.before c.self.inside.nodes.items))
+      (all_held_edges (map ends_of c.self.inside.edges.items) (drop c.loop-at.at c.self.inside.nodes.items))
+      (all_held_edges (map ends_of c.self.inside.edges.items) (drop c.index-node.result.now.before c.self.inside.nodes.items))
       (taken (map ends_of c.self.inside.edges.items) c.self.inside.nodes.items c.loop-at.at c.index-node.result.now c.self.invariant.each c.loop-at-test.true
       c.loop-at.invariant.within c.index-node.ensures)
       (apart_missed c.index-node.result.now.outline.bounds
@@ -55,9 +55,9 @@ loop-at-preserved c =
       gathered = elim c.if-meets_run.branch [
         | then-meets_run+in_ok-push w ↦ rw w.near-is
             (kept_more (region_of c.args.c.now) (all_on (map ends_of c.self.inside.edges.items) c.loop-at.near.items)
-            (held (map ends_of c.self.inside.edges.items) c.index-node.result.now)
-            (all_held (map ends_of c.self.inside.edges.items) (drop c.loop-at.at c.self.inside.nodes.items))
-            (all_held (map ends_of c.self.inside.edges.items) (drop (c.loop-at.at - 1) c.self.inside.nodes.items))
+            (held_edges (map ends_of c.self.inside.edges.items) c.index-node.result.now)
+            (all_held_edges (map ends_of c.self.inside.edges.items) (drop c.loop-at.at c.self.inside.nodes.items))
+            (all_held_edges (map ends_of c.self.inside.edges.items) (drop (c.loop-at.at - 1) c.self.inside.nodes.items))
             (all_on (map ends_of c.self.inside.edges.items) w.push.new.self.items)
             (entered (map ends_of c.self.inside.edges.items) c.self.inside.nodes.items c.loop-at.at c.index-node.result.now c.loop-at-test.true
             c.loop-at.invariant.within c.index-node.ensures)
@@ -65,12 +65,12 @@ loop-at-preserved c =
             ∙ one_more (map ends_of c.self.inside.edges.items) c.loop-at.near.items s) c.loop-at.invariant.gathered)
         | else-meets_run w ↦ rw w.near-is
             (left_out (region_of c.args.c.now) (all_on (map ends_of c.self.inside.edges.items) c.loop-at.near.items)
-            (held (map ends_of c.self.inside.edges.items) c.index-node.result.now)
-            (all_held (map ends_of c.self.inside.edges.items) (drop c.loop-at.at c.self.inside.nodes.items))
-            (all_held (map ends_of c.self.inside.edges.items) (drop (c.loop-at.at - 1) c.self.inside.nodes.items))
+            (held_edges (map ends_of c.self.inside.edges.items) c.index-node.result.now)
+            (all_held_edges (map ends_of c.self.inside.edges.items) (drop c.loop-at.at c.self.inside.nodes.items))
+            (all_held_edges (map ends_of c.self.inside.edges.items) (drop (c.loop-at.at - 1) c.self.inside.nodes.items))
             (entered (map ends_of c.self.inside.edges.items) c.self.inside.nodes.items c.loop-at.at c.index-node.result.now c.loop-at-test.true
             c.loop-at.invariant.within c.index-node.ensures)
-            (unmet_missed (held (map ends_of c.self.inside.edges.items) c.index-node.result.now) (region_of c.args.c.now)
+            (unmet_missed (held_edges (map ends_of c.self.inside.edges.items) c.index-node.result.now) (region_of c.args.c.now)
             (ap (λ run. any_meets run (region_of c.args.c.now))
             (run_seen c.self.inside.edges.items c.index-node.result.now.first c.index-node.result.now.end
             ∙ ap (λ (edges : List Edge).
@@ -84,8 +84,8 @@ loop-at-preserved c =
 pub returns-clause-near : goal.returns-clause-near
 returns-clause-near c =
     let first : c.loop-at.at ≡ 0 = omega arith in
-    subst (λ (edges : List Ends). AreNear (region_of c.args.c.now) (all_on edges c.loop-at.near.items) edges) c.self.view_is
+    subst (λ (edges : List EdgeEnds). AreNear (region_of c.args.c.now) (all_on edges c.loop-at.near.items) edges) c.self.view_is
     (near_all (region_of c.args.c.now) (all_on (map ends_of c.self.inside.edges.items) c.loop-at.near.items)
-    (all_held (map ends_of c.self.inside.edges.items) c.self.inside.nodes.items) (map ends_of c.self.inside.edges.items) c.self.invariant.whole
+    (all_held_edges (map ends_of c.self.inside.edges.items) c.self.inside.nodes.items) (map ends_of c.self.inside.edges.items) c.self.invariant.whole
     (subst (λ (k : ℕ). AreNear (region_of c.args.c.now) (all_on (map ends_of c.self.inside.edges.items) c.loop-at.near.items)
-    (all_held (map ends_of c.self.inside.edges.items) (drop k c.self.inside.nodes.items))) first c.loop-at.invariant.gathered))
+    (all_held_edges (map ends_of c.self.inside.edges.items) (drop k c.self.inside.nodes.items))) first c.loop-at.invariant.gathered))

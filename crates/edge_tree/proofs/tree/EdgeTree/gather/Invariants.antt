@@ -1,9 +1,9 @@
 use Rattle.std.proofs.Common.{◌≡◌, ◌≤◌, true, false, Bool, drop, map, length}
 use Rattle.std.specs.Prelude.{All, count_by}
 use Rattle.point_codec.specs.Seen.{region_of}
-use Rattle.ring_parity.specs.Edges.{Ends, misses}
+use Rattle.ring_parity.specs.Edges.{EdgeEnds, misses}
 use Rattle.ring_parity.specs.Seen.{ends_of}
-use Rattle.edge_tree.specs.Nodes.{all_held}
+use Rattle.edge_tree.specs.Nodes.{all_held_edges}
 use Rattle.edge_tree.specs.Ways.{IsStretch, all_on, AreNear}
 use Rattle.edge_tree.proofs.tree.EdgeTree.gather.Given as goal
 
@@ -13,7 +13,7 @@ invariant-loop-at l = record {
   within : l.at ≤ length l.self-inside.nodes.items;
   each : All (IsStretch (map ends_of l.self-inside.edges.items)) l.near.items;
   gathered : AreNear (region_of l.c) (all_on (map ends_of l.self-inside.edges.items) l.near.items)
-      (all_held (map ends_of l.self-inside.edges.items) (drop l.at l.self-inside.nodes.items));
+      (all_held_edges (map ends_of l.self-inside.edges.items) (drop l.at l.self-inside.nodes.items));
 }
 
 abbrev pub decreases-loop-at : goal.decreases-loop-at

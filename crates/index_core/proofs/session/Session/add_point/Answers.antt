@@ -2,7 +2,7 @@
 use Rattle.std.proofs.Common.{◌≡◌, List, length, Err, [], ◌∷◌, ◌++◌, refl, ap, ◌∙◌, lit<, arith}
 use Rattle.std.proofs.lemmas.Result.{err_from_is_err_and}
 use Rattle.page_cache.specs.declared.faults.PageFault.{PageFault}
-use Rattle.point_codec.specs.Points.{ordered}
+use Rattle.point_codec.specs.Points.{ordered_points}
 use Rattle.point_codec.specs.Seen.{coordinates_of}
 use Rattle.point_codec.specs.declared.coordinates.Point.{Point}
 use Rattle.segment_set.proofs.Sizes.{point_fits, set_fits}
@@ -26,14 +26,14 @@ returns-in_err-list g c =
 made : (g : given.Over) (c : After-drop-of g) → c.of.result ≡ c.args.point.now.c ∷ []
 made g c =
     c.of.ensures
-    ∙ ap (λ (ps : List (Point g.row.D)). ordered (coordinates_of ps))
+    ∙ ap (λ (ps : List (Point g.row.D)). ordered_points (coordinates_of ps))
     (c.push_reserved.ensures.items ∙ ap (λ (ps : List (Point g.row.D)). ps ++ c.args.point.now ∷ []) c.in_ok-list.ensures.items)
     ∙ one_ordered c.args.point.now.c
 
 pub returns : goal.returns
 returns g c =
     adds_seen _ _ _ _ _ _ _ _ _ c.self.view_is
-    (adds_as _ _ _ _ _ _ _ c.added.ensures
+    (adds_as _ _ _ _ _ _ _ c.add_result.ensures
     (adds_one _ _ _ _ _ c.add-2.result (record {
       commit = refl;
       refused = refl;

@@ -6,7 +6,7 @@ use Rattle.page_cache.specs.declared.faults.PageFault.{PageFault}
 use Rattle.stored_index.specs.Kept.{SameKept}
 use Rattle.stored_index.proofs.KeptFiles.{stored_still}
 use Rattle.index_model.specs.State.{at_rest}
-use Rattle.segment_view.specs.Parts.{Part}
+use Rattle.segment_view.specs.LiveSegments.{LiveSegment}
 use Rattle.segment_set.specs.Sets.{SetData}
 use Rattle.segment_set.specs.Seen.{Sees}
 use Rattle.index_opening.proofs.Evident.{none_evident}
@@ -125,7 +125,8 @@ pub returns-clause-canon : goal.returns-clause-canon
 returns-clause-canon g c told =
     let parts = ap (λ (u : SetData). u.parts) (eased g c) in
     brings_then _ _ (g.F.Pages.files c.commit.new.folder) _ _ c.commit.new.self.set.parts _ (c.commit.ensures.canon told)
-    (brings_still _ _ _ c.commit.new.self.set.parts _ (λ p there. c.sweep.ensures.segments told p (subst (λ (ps : List Part). Contains ps p) (sym parts) there))
+    (brings_still _ _ _ c.commit.new.self.set.parts
+        _ (λ p there. c.sweep.ensures.segments told p (subst (λ (ps : List LiveSegment). Contains ps p) (sym parts) there))
     (ap (λ (u : SetData). u.parts) c.sweep.ensures.alone.is ∙ parts))
 
 pub returns-clause-cause : goal.returns-clause-cause

@@ -3,7 +3,7 @@ use Rattle.std.proofs.Common.{◌++◌, Err, refl, sym, ap, subst, ◌∙◌}
 use Rattle.std.proofs.lemmas.Result.{err_from_is_err_and}
 use Rattle.page_cache.specs.declared.faults.PageFault.{PageFault}
 use Rattle.point_codec.specs.Points.{in_box}
-use Rattle.cell_relate.specs.Boxes.{Asked, crosses}
+use Rattle.cell_relate.specs.Boxes.{CountedBox, crosses}
 use Rattle.documents.specs.Documents.{hits}
 use Rattle.script_lang.specs.Replies.{deleted_text}
 use Rattle.segment_set.specs.Sets.{SetData}
@@ -52,7 +52,7 @@ returns-clause-applies g c =
     (brings_named _ _ _ _ _ _ _ _ told (λ t. refl) c.delete_all.ensures.names c.delete_all.ensures.follows c.leaf-leaf.ensures.well.named))
     (λ told faithful. c.delete_all.ensures.faithful _ (c.visit.ensures.faithful told faithful)))
     (λ told i seen. does_delete_box _ _ _ _ _ i _ _ c.as_slice.result.now _ _ seen
-    (c.as_slice.ensures.value ∙ c.in_ok-hits.ensures.found told i seen i.docs refl ∙ ap (λ (s : Asked). hits (in_box s.bounds) i.docs) c.new-shape.ensures)
+    (c.as_slice.ensures.value ∙ c.in_ok-hits.ensures.found told i seen i.docs refl ∙ ap (λ (s : CountedBox). hits (in_box s.bounds) i.docs) c.new-shape.ensures)
     (c.delete_all.ensures.seen _ i (c.visit.ensures.seen told i seen))
     (c.in_ok-put_deleted.ensures.ok ∙ ap (λ n. c.args.out.now.items ++ deleted_text n) long))
     c.in_ok-put_deleted.ensures.ok c.in_ok-hits.ensures.cause)
@@ -83,7 +83,7 @@ returns-in_err-hits-clause-reads g c =
     subst (λ (u : SessionData).
     ReadsTouched g.row.D (in_box (bounds_of c.args.lo.now.c c.args.hi.now.c)) (crosses (bounds_of c.args.lo.now.c c.args.hi.now.c)) u.set.parts
     (g.F.Pages.reads c.args.folder.now) (g.F.Pages.reads c.visit.new.folder)) c.self.view_is
-    (subst (λ (s : Asked). ReadsTouched g.row.D (in_box s.bounds) (crosses s.bounds) c.self.inside.set.parts (g.F.Pages.reads c.args.folder.now)
+    (subst (λ (s : CountedBox). ReadsTouched g.row.D (in_box s.bounds) (crosses s.bounds) c.self.inside.set.parts (g.F.Pages.reads c.args.folder.now)
     (g.F.Pages.reads c.visit.new.folder)) c.new-shape.ensures c.visit.ensures.reads)
 
 pub returns-in_err-put_deleted-clause-reads : goal.returns-in_err-put_deleted-clause-reads
@@ -91,7 +91,7 @@ returns-in_err-put_deleted-clause-reads g c =
     subst (λ (u : SessionData).
     ReadsTouched g.row.D (in_box (bounds_of c.args.lo.now.c c.args.hi.now.c)) (crosses (bounds_of c.args.lo.now.c c.args.hi.now.c)) u.set.parts
     (g.F.Pages.reads c.args.folder.now) (g.F.Pages.reads c.visit.new.folder)) c.self.view_is
-    (subst (λ (s : Asked). ReadsTouched g.row.D (in_box s.bounds) (crosses s.bounds) c.self.inside.set.parts (g.F.Pages.reads c.args.folder.now)
+    (subst (λ (s : CountedBox). ReadsTouched g.row.D (in_box s.bounds) (crosses s.bounds) c.self.inside.set.parts (g.F.Pages.reads c.args.folder.now)
     (g.F.Pages.reads c.visit.new.folder)) c.new-shape.ensures c.visit.ensures.reads)
 
 pub returns-clause-reads : goal.returns-clause-reads
@@ -99,7 +99,7 @@ returns-clause-reads g c =
     subst (λ (u : SessionData).
     ReadsTouched g.row.D (in_box (bounds_of c.args.lo.now.c c.args.hi.now.c)) (crosses (bounds_of c.args.lo.now.c c.args.hi.now.c)) u.set.parts
     (g.F.Pages.reads c.args.folder.now) (g.F.Pages.reads c.visit.new.folder)) c.self.view_is
-    (subst (λ (s : Asked). ReadsTouched g.row.D (in_box s.bounds) (crosses s.bounds) c.self.inside.set.parts (g.F.Pages.reads c.args.folder.now)
+    (subst (λ (s : CountedBox). ReadsTouched g.row.D (in_box s.bounds) (crosses s.bounds) c.self.inside.set.parts (g.F.Pages.reads c.args.folder.now)
     (g.F.Pages.reads c.visit.new.folder)) c.new-shape.ensures c.visit.ensures.reads)
 
 pub returns-in_default-clause-reads : goal.returns-in_default-clause-reads
@@ -107,7 +107,7 @@ returns-in_default-clause-reads g c =
     subst (λ (u : SessionData).
     ReadsTouched g.row.D (in_box (bounds_of c.args.lo.now.c c.args.hi.now.c)) (crosses (bounds_of c.args.lo.now.c c.args.hi.now.c)) u.set.parts
     (g.F.Pages.reads c.args.folder.now) (g.F.Pages.reads c.visit.new.folder)) c.self.view_is
-    (subst (λ (s : Asked). ReadsTouched g.row.D (in_box s.bounds) (crosses s.bounds) c.self.inside.set.parts (g.F.Pages.reads c.args.folder.now)
+    (subst (λ (s : CountedBox). ReadsTouched g.row.D (in_box s.bounds) (crosses s.bounds) c.self.inside.set.parts (g.F.Pages.reads c.args.folder.now)
     (g.F.Pages.reads c.visit.new.folder)) c.new-shape.ensures c.visit.ensures.reads)
 
 pub returns-in_err-hits-clause-damage : goal.returns-in_err-hits-clause-damage

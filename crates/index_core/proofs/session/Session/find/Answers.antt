@@ -3,7 +3,7 @@ use Rattle.std.proofs.Common.{◌++◌, Err, sym, ap, subst, ◌∙◌}
 use Rattle.std.proofs.lemmas.Result.{err_from_is_err_and}
 use Rattle.page_cache.specs.declared.faults.PageFault.{PageFault}
 use Rattle.std.proofs.lemmas.Bool.{both_ways}
-use Rattle.script_lang.specs.Seen.{viewed}
+use Rattle.script_lang.specs.Seen.{view_name}
 use Rattle.script_lang.specs.declared.faults.Refusal.TheVariants as why
 use Rattle.segment_set.specs.Sets.{HasView}
 use Rattle.index_core.specs.Sessions.{SessionData}
@@ -26,12 +26,12 @@ use Rattle.index_core.proofs.session.Session.find.Goals as goal
 pub visit-requires : goal.visit-requires
 visit-requires g c = (
   set_fits g.row.D c.self.invariant.few,
-  subst (λ (u : SessionData). HasView (viewed c.args.view.now) u.set) (sym c.self.view_is) (c.has_view.ensures.0 c.if-not-has_view.false),
+  subst (λ (u : SessionData). HasView (view_name c.args.view.now) u.set) (sym c.self.view_is) (c.has_view.ensures.0 c.if-not-has_view.false),
 )
 
 pub returns-then-not-has_view-clause-applies : goal.returns-then-not-has_view-clause-applies
 returns-then-not-has_view-clause-applies g c = applies_refused _ _ _ _ _ _ _ why.UnknownSnapshot
-    (λ i seen. does_unknown _ _ _ i (viewed c.args.view.now) _ _ seen (λ has. both_ways c.has_view.result c.if-not-has_view.true (c.has_view.ensures.1 has)))
+    (λ i seen. does_unknown _ _ _ i (view_name c.args.view.now) _ _ seen (λ has. both_ways c.has_view.result c.if-not-has_view.true (c.has_view.ensures.1 has)))
 
 pub returns-in_err-hits-clause-applies : goal.returns-in_err-hits-clause-applies
 returns-in_err-hits-clause-applies g c =
@@ -52,9 +52,9 @@ pub returns-clause-applies : goal.returns-clause-applies
 returns-clause-applies g c = applies_seen _ _ _ _ _ _ _ _ _ _ _ c.self.view_is
     (applies_done _ _ _ _ _ c.in_ok-hits.hits _ (calm_cache _ _ _ _ _ _ _ _ _ _ _ _ c.visit.ensures.alone c.visit.ensures.files c.visit.ensures.faithful)
     (λ told i seen.
-    let has = (subst (λ (u : SessionData). HasView (viewed c.args.view.now) u.set) (sym c.self.view_is) (c.has_view.ensures.0 c.if-not-has_view.false)) in
-    let docs = view_docs _ _ _ i (viewed c.args.view.now) seen has in
-    does_answered _ _ _ i (viewed c.args.view.now) docs.0 _ _ _ docs.1 (c.visit.ensures.seen told i seen)
+    let has = (subst (λ (u : SessionData). HasView (view_name c.args.view.now) u.set) (sym c.self.view_is) (c.has_view.ensures.0 c.if-not-has_view.false)) in
+    let docs = view_docs _ _ _ i (view_name c.args.view.now) seen has in
+    does_answered _ _ _ i (view_name c.args.view.now) docs.0 _ _ _ docs.1 (c.visit.ensures.seen told i seen)
     (c.in_ok-put_hits.ensures.ok
     ∙ ap (λ ns. c.args.out.now.items ++ hits_text ns) (c.as_slice.ensures.value ∙ c.in_ok-hits.ensures.found told i seen docs.0 docs.1)))
     c.in_ok-put_hits.ensures.ok c.in_ok-hits.ensures.cause)
@@ -65,19 +65,19 @@ returns-then-not-has_view-clause-reads g c n touched = omega arith
 pub returns-in_err-hits-clause-reads : goal.returns-in_err-hits-clause-reads
 returns-in_err-hits-clause-reads g c =
     subst (λ (u : SessionData).
-    ReadsTouched g.row.D (g.S.Shape.has c.args.shape.now) (g.S.Shape.crosses c.args.shape.now) (viewed_parts (viewed c.args.view.now) u.set)
+    ReadsTouched g.row.D (g.S.Shape.has c.args.shape.now) (g.S.Shape.crosses c.args.shape.now) (viewed_parts (view_name c.args.view.now) u.set)
     (g.F.Pages.reads c.args.folder.now) (g.F.Pages.reads c.visit.new.folder)) c.self.view_is c.visit.ensures.reads
 
 pub returns-in_err-put_hits-clause-reads : goal.returns-in_err-put_hits-clause-reads
 returns-in_err-put_hits-clause-reads g c =
     subst (λ (u : SessionData).
-    ReadsTouched g.row.D (g.S.Shape.has c.args.shape.now) (g.S.Shape.crosses c.args.shape.now) (viewed_parts (viewed c.args.view.now) u.set)
+    ReadsTouched g.row.D (g.S.Shape.has c.args.shape.now) (g.S.Shape.crosses c.args.shape.now) (viewed_parts (view_name c.args.view.now) u.set)
     (g.F.Pages.reads c.args.folder.now) (g.F.Pages.reads c.visit.new.folder)) c.self.view_is c.visit.ensures.reads
 
 pub returns-clause-reads : goal.returns-clause-reads
 returns-clause-reads g c =
     subst (λ (u : SessionData).
-    ReadsTouched g.row.D (g.S.Shape.has c.args.shape.now) (g.S.Shape.crosses c.args.shape.now) (viewed_parts (viewed c.args.view.now) u.set)
+    ReadsTouched g.row.D (g.S.Shape.has c.args.shape.now) (g.S.Shape.crosses c.args.shape.now) (viewed_parts (view_name c.args.view.now) u.set)
     (g.F.Pages.reads c.args.folder.now) (g.F.Pages.reads c.visit.new.folder)) c.self.view_is c.visit.ensures.reads
 
 pub returns-then-not-has_view-clause-damage : goal.returns-then-not-has_view-clause-damage
@@ -87,7 +87,7 @@ pub returns-in_err-hits-clause-damage : goal.returns-in_err-hits-clause-damage
 returns-in_err-hits-clause-damage g c =
     let p = err_from_is_err_and c.from_residual.result c.from_residual.ensures.1 in
     subst (λ (u : SessionData).
-    ShowsLeaf g.row.D (IsTrue g.F.Pages.told) (g.F.Pages.files c.args.folder.now) u.set (viewed_parts (viewed c.args.view.now) u.set) c.from_residual.result)
+    ShowsLeaf g.row.D (IsTrue g.F.Pages.told) (g.F.Pages.files c.args.folder.now) u.set (viewed_parts (view_name c.args.view.now) u.set) c.from_residual.result)
     c.self.view_is
     (leaf_to {T = Unit {0}} _ _ _ _ _ _ c.in_err-hits.field-0.0 (p.1 ∙ ap (λ (e : PageFault). Err e) p.2)
     (record { shown = c.in_err-hits.ensures.shown; damage = c.in_err-hits.ensures.damage }))

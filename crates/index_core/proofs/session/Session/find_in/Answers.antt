@@ -2,12 +2,12 @@
 use Rattle.std.proofs.Common.{Err, refl, sym, ap, ◌∙◌}
 use Rattle.std.proofs.lemmas.Result.{err_from_is_err_and}
 use Rattle.page_cache.specs.declared.faults.PageFault.{PageFault}
-use Rattle.polygon_query.specs.Shape.{Asked, crosses, has}
+use Rattle.polygon_query.specs.Shape.{CountedPolygon, crosses, has}
 use Rattle.documents.specs.Documents.{hits}
 use Rattle.script_lang.specs.Replies.{hits_text}
-use Rattle.script_lang.specs.Seen.{viewed}
+use Rattle.script_lang.specs.Seen.{view_name}
 use Rattle.index_model.specs.State.{viewed_docs}
-use Rattle.index_model.specs.Step.{answered, in_plane_polygon, step_on}
+use Rattle.index_model.specs.Step.{query_outcome, in_plane_polygon, step_on}
 use Rattle.index_core.proofs.Answering.{applies_as, applies_memory}
 use Rattle.std.proofs.Common.{arith, subst}
 use Rattle.page_cache.specs.declared.faults.PageFault.TheVariants as page
@@ -26,8 +26,10 @@ returns-in_err-shape-clause-applies g c =
 pub returns-clause-applies : goal.returns-clause-applies
 unfolding step_on
 returns-clause-applies g c = applies_as _ _ _ _ _ _ _ _
-    (λ i seen. ap (λ n. answered i (viewed_docs (viewed c.args.view.now) i) (λ docs. hits_text (hits (in_plane_polygon n c.args.rings.now) docs))) seen.dims
-    ∙ ap (λ (s : Asked). answered i (viewed_docs (viewed c.args.view.now) i) (λ docs. hits_text (hits (has g.row.D s.edges) docs))) (sym c.in_ok-shape.ensures))
+    (λ i seen.
+        ap (λ n. query_outcome i (viewed_docs (view_name c.args.view.now) i) (λ docs. hits_text (hits (in_plane_polygon n c.args.rings.now) docs))) seen.dims
+    ∙ ap (λ (s : CountedPolygon). query_outcome i (viewed_docs (view_name c.args.view.now) i) (λ docs. hits_text (hits (has g.row.D s.edges) docs)))
+        (sym c.in_ok-shape.ensures))
     c.find.ensures.applies
 
 pub returns-in_err-shape-clause-reads : goal.returns-in_err-shape-clause-reads
@@ -35,7 +37,8 @@ returns-in_err-shape-clause-reads g c n touched = omega arith
 
 pub returns-clause-reads : goal.returns-clause-reads
 returns-clause-reads g c =
-    subst (λ (s : Asked). ReadsTouched g.row.D (has g.row.D s.edges) (crosses g.row.D s.edges) (viewed_parts (viewed c.args.view.now) c.args.self.now.set)
+    subst (λ (s : CountedPolygon).
+        ReadsTouched g.row.D (has g.row.D s.edges) (crosses g.row.D s.edges) (viewed_parts (view_name c.args.view.now) c.args.self.now.set)
     (g.F.Pages.reads c.args.folder.now) (g.F.Pages.reads c.find.new.folder))
     c.in_ok-shape.ensures c.find.ensures.reads
 

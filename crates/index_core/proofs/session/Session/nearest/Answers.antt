@@ -4,7 +4,7 @@ use Rattle.std.proofs.lemmas.Result.{err_from_is_err_and}
 use Rattle.page_cache.specs.declared.faults.PageFault.{PageFault}
 use Rattle.std.proofs.Common.{map}
 use Rattle.std.proofs.lemmas.Bool.{both_ways}
-use Rattle.script_lang.specs.Seen.{viewed}
+use Rattle.script_lang.specs.Seen.{view_name}
 use Rattle.script_lang.specs.declared.faults.Refusal.TheVariants as why
 use Rattle.segment_set.specs.Sets.{HasView}
 use Rattle.index_core.specs.Sessions.{SessionData}
@@ -33,7 +33,7 @@ nearest-requires g c =
       (
         point_fits g.row.D dims,
         (
-          subst (λ (u : SessionData). HasView (viewed c.args.view.now) u.set) (sym c.self.view_is) (c.has_view.ensures.0 c.if-not-has_view.false),
+          subst (λ (u : SessionData). HasView (view_name c.args.view.now) u.set) (sym c.self.view_is) (c.has_view.ensures.0 c.if-not-has_view.false),
           (c.requires.some, c.requires.few),
         ),
       ),
@@ -42,7 +42,7 @@ nearest-requires g c =
 pub returns-then-not-has_view-clause-applies : goal.returns-then-not-has_view-clause-applies
 unfolding step_on
 returns-then-not-has_view-clause-applies g c = applies_refused _ _ _ _ _ _ _ why.UnknownSnapshot
-    (λ i seen. does_unknown _ _ _ i (viewed c.args.view.now) _ _ seen (λ has. both_ways c.has_view.result c.if-not-has_view.true (c.has_view.ensures.1 has)))
+    (λ i seen. does_unknown _ _ _ i (view_name c.args.view.now) _ _ seen (λ has. both_ways c.has_view.result c.if-not-has_view.true (c.has_view.ensures.1 has)))
 
 pub returns-in_err-found-clause-applies : goal.returns-in_err-found-clause-applies
 returns-in_err-found-clause-applies g c =
@@ -67,9 +67,9 @@ returns-clause-applies g c = applies_seen _ _ _ _ _ _ _ _ _ _ _ c.self.view_is
     (applies_done _ _ _ _ _ c.in_ok-found.found
     _ (calm_cache _ _ _ _ _ _ _ _ _ _ _ _ c.nearest.ensures.alone c.nearest.ensures.files c.nearest.ensures.faithful)
     (λ told i seen.
-    let has = (subst (λ (u : SessionData). HasView (viewed c.args.view.now) u.set) (sym c.self.view_is) (c.has_view.ensures.0 c.if-not-has_view.false)) in
-    let docs = view_docs _ _ _ i (viewed c.args.view.now) seen has in
-    does_answered _ _ _ i (viewed c.args.view.now) docs.0 _ _ _ docs.1 (c.nearest.ensures.seen told i seen)
+    let has = (subst (λ (u : SessionData). HasView (view_name c.args.view.now) u.set) (sym c.self.view_is) (c.has_view.ensures.0 c.if-not-has_view.false)) in
+    let docs = view_docs _ _ _ i (view_name c.args.view.now) seen has in
+    does_answered _ _ _ i (view_name c.args.view.now) docs.0 _ _ _ docs.1 (c.nearest.ensures.seen told i seen)
     (c.in_ok-put_near.ensures.ok ∙ ap (λ xs. c.args.out.now.items ++ near_text xs)
     (ap found_of c.as_slice.ensures.value ∙ sym (numbers_first c.in_ok-found.found.items)
     ∙ ap (map (λ found. (found.1, found.0))) (c.in_ok-found.ensures.found told i seen docs.0 docs.1))))
@@ -81,19 +81,19 @@ returns-then-not-has_view-clause-reads g c told contents stands near is leaves n
 pub returns-in_err-found-clause-reads : goal.returns-in_err-found-clause-reads
 returns-in_err-found-clause-reads g c told =
     subst (λ (u : SessionData).
-    ReadsNear g.row.D (g.F.Pages.files c.args.folder.now) (viewed c.args.view.now) c.args.k c.args.at.now.c u.set (g.F.Pages.reads c.args.folder.now)
+    ReadsNear g.row.D (g.F.Pages.files c.args.folder.now) (view_name c.args.view.now) c.args.k c.args.at.now.c u.set (g.F.Pages.reads c.args.folder.now)
     (g.F.Pages.reads c.nearest.new.folder)) c.self.view_is (c.nearest.ensures.reads told)
 
 pub returns-in_err-put_near-clause-reads : goal.returns-in_err-put_near-clause-reads
 returns-in_err-put_near-clause-reads g c told =
     subst (λ (u : SessionData).
-    ReadsNear g.row.D (g.F.Pages.files c.args.folder.now) (viewed c.args.view.now) c.args.k c.args.at.now.c u.set (g.F.Pages.reads c.args.folder.now)
+    ReadsNear g.row.D (g.F.Pages.files c.args.folder.now) (view_name c.args.view.now) c.args.k c.args.at.now.c u.set (g.F.Pages.reads c.args.folder.now)
     (g.F.Pages.reads c.nearest.new.folder)) c.self.view_is (c.nearest.ensures.reads told)
 
 pub returns-clause-reads : goal.returns-clause-reads
 returns-clause-reads g c told =
     subst (λ (u : SessionData).
-    ReadsNear g.row.D (g.F.Pages.files c.args.folder.now) (viewed c.args.view.now) c.args.k c.args.at.now.c u.set (g.F.Pages.reads c.args.folder.now)
+    ReadsNear g.row.D (g.F.Pages.files c.args.folder.now) (view_name c.args.view.now) c.args.k c.args.at.now.c u.set (g.F.Pages.reads c.args.folder.now)
     (g.F.Pages.reads c.nearest.new.folder)) c.self.view_is (c.nearest.ensures.reads told)
 
 pub returns-then-not-has_view-clause-damage : goal.returns-then-not-has_view-clause-damage
@@ -103,7 +103,7 @@ pub returns-in_err-found-clause-damage : goal.returns-in_err-found-clause-damage
 returns-in_err-found-clause-damage g c =
     let p = err_from_is_err_and c.from_residual.result c.from_residual.ensures.1 in
     subst (λ (u : SessionData).
-    ShowsLeaf g.row.D (IsTrue g.F.Pages.told) (g.F.Pages.files c.args.folder.now) u.set (viewed_parts (viewed c.args.view.now) u.set) c.from_residual.result)
+    ShowsLeaf g.row.D (IsTrue g.F.Pages.told) (g.F.Pages.files c.args.folder.now) u.set (viewed_parts (view_name c.args.view.now) u.set) c.from_residual.result)
     c.self.view_is
     (leaf_to {T = Unit {0}} _ _ _ _ _ _ c.in_err-found.field-0.0 (p.1 ∙ ap (λ (e : PageFault). Err e) p.2)
     (record { shown = c.in_err-found.ensures.shown; damage = c.in_err-found.ensures.damage }))

@@ -1,13 +1,13 @@
 -- Each command is handed to the call that does it.
 use Rattle.std.proofs.Common.{refl, sym, ap, subst}
 use Rattle.std.proofs.lemmas.List.{append-nil}
-use Rattle.cell_relate.specs.Boxes.{Asked, crosses}
+use Rattle.cell_relate.specs.Boxes.{CountedBox, crosses}
 use Rattle.point_codec.specs.Points.{in_box}
 use Rattle.documents.specs.Documents.{hits}
 use Rattle.script_lang.specs.Replies.{hits_text}
-use Rattle.script_lang.specs.Seen.{viewed}
+use Rattle.script_lang.specs.Seen.{view_name}
 use Rattle.index_model.specs.State.{viewed_docs}
-use Rattle.index_model.specs.Step.{answered, step_on}
+use Rattle.index_model.specs.Step.{query_outcome, step_on}
 use Rattle.segment_set.proofs.Sizes.{point_fits}
 use Rattle.index_core.proofs.Answering.{applies_as, applies_refused, applies_still, applies_told, begins_itself, no_cause}
 use Rattle.index_core.proofs.Leaving.{leaves_any}
@@ -27,7 +27,7 @@ returns-in-DeleteBox-clause-applies g c = rw c.in-DeleteBox.is c.delete_box.ensu
 pub returns-in-InBox-clause-applies : goal.returns-in-InBox-clause-applies
 unfolding step_on
 returns-in-InBox-clause-applies g c = rw c.in-InBox.is (applies_as _ _ _ _ _ _ _ _
-    (λ i seen. ap (λ (s : Asked). answered i (viewed_docs (viewed c.in-InBox.view) i) (λ docs. hits_text (hits (in_box s.bounds) docs))) (sym c.new.ensures)) c.find.ensures.applies)
+    (λ i seen. ap (λ (s : CountedBox). query_outcome i (viewed_docs (view_name c.in-InBox.view) i) (λ docs. hits_text (hits (in_box s.bounds) docs))) (sym c.new.ensures)) c.find.ensures.applies)
 
 pub returns-in-Snapshot-clause-applies : goal.returns-in-Snapshot-clause-applies
 returns-in-Snapshot-clause-applies g c = rw c.in-Snapshot.is (applies_told _ _ _ _ _ _ _ (c.snapshot.ensures.applies _ _))
@@ -141,7 +141,7 @@ returns-in-MergeBegin-clause-damage g c = rw c.in-MergeBegin.is c.merge_begin.en
 
 pub returns-in-InBox-clause-reads : goal.returns-in-InBox-clause-reads
 returns-in-InBox-clause-reads g c = rw c.in-InBox.is
-    (subst (λ (s : Asked). ReadsTouched g.row.D (in_box s.bounds) (crosses s.bounds) (viewed_parts (viewed c.in-InBox.view) c.args.self.now.set) (g.F.Pages.reads c.args.folder.now) (g.F.Pages.reads c.find.new.folder)) c.new.ensures c.find.ensures.reads)
+    (subst (λ (s : CountedBox). ReadsTouched g.row.D (in_box s.bounds) (crosses s.bounds) (viewed_parts (view_name c.in-InBox.view) c.args.self.now.set) (g.F.Pages.reads c.args.folder.now) (g.F.Pages.reads c.find.new.folder)) c.new.ensures c.find.ensures.reads)
 
 pub returns-in-InBox-clause-damage : goal.returns-in-InBox-clause-damage
 returns-in-InBox-clause-damage g c = rw c.in-InBox.is c.find.ensures.damage

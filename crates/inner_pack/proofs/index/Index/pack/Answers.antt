@@ -1,9 +1,9 @@
 use Rattle.std.proofs.Common.{rules, arith, ◌≡◌, ◌∙◌, length, map, refl, sym, ap, subst}
 use Rattle.point_codec.specs.Seen.{region_of}
 use Rattle.inner_pack.specs.Bodies.{Body, HasTree, IsSpelled}
-use Rattle.inner_pack.specs.Packs.{placed_of}
 use Rattle.inner_pack.proofs.PackWhole.{dimensions_below, lengths_small, places_small, counted, whole_part, spelled_body, is_index}
 use Rattle.inner_pack.proofs.index.Index.pack.Goals as goal
+use Rattle.inner_pack.specs.Heads.{placed_of}
 
 pub invariant_of-whole : goal.invariant_of-whole
 invariant_of-whole g c =

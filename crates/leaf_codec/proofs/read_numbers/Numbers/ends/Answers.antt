@@ -1,5 +1,5 @@
 use Rattle.std.proofs.Common.{ℕ, ◌≡◌, subst, arith}
-use Rattle.leaf_codec.specs.Views.{AreEnds, raw_numbers_of}
+use Rattle.leaf_codec.specs.Views.{AreBounds, raw_numbers_of}
 use Rattle.leaf_codec.proofs.ReadNumbers.{ends_one, ends_more}
 use Rattle.leaf_codec.proofs.read_numbers.Numbers.ends.Goals as goal
 
@@ -22,4 +22,4 @@ pub returns : goal.returns
 returns c =
     let l = c.loop-i in
     let end : l.i ≡ c.args.self.now.count = omega (arith, c.loop-i-test.false, l.auto.i-end, c.requires.some) in
-    subst (λ (n : ℕ). AreEnds n (raw_numbers_of c.args.self.now) l.least l.greatest) end l.invariant.ends
+    subst (λ (n : ℕ). AreBounds n (raw_numbers_of c.args.self.now) l.least l.greatest) end l.invariant.ends

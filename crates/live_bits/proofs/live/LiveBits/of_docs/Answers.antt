@@ -2,7 +2,7 @@
 use Rattle.std.proofs.Common.{◌≡◌, ◌<◌, ap, subst, sym, ◌∙◌, List, ℕ, length, All, sum_by, count_ones, refl}
 use Rattle.std.proofs.lemmas.List.{with_items_is}
 use Rattle.live_bits.specs.LiveSet.{is_live}
-use Rattle.live_bits.specs.LiveBody.{live_set, IsStored}
+use Rattle.live_bits.specs.LiveBody.{live_set, AreCountedBits}
 use Rattle.live_bits.proofs.LiveNumbers.{live_set_is}
 use Rattle.live_bits.proofs.Tally.{sum_ones}
 use Rattle.live_bits.proofs.Made.{made_of, span_limit, made_bits, made_live}
@@ -22,7 +22,7 @@ invariant_of-result c =
     let seen = c.as_slice.ensures.value ∙ whole in
     let bytes = subst (All (λ (b : ℕ). b < 256)) seen c.count_set-count.ensures.bytes in
     let counted = c.count_set-count.ensures.value ∙ ap (λ (xs : List ℕ). sum_by count_ones xs) seen ∙ sum_ones base span new are bytes in
-    subst (λ (xs : List ℕ). IsStored base span c.count_set-count.result xs) (sym whole) (record { are_bits = are; counted = counted })
+    subst (λ (xs : List ℕ). AreCountedBits base span c.count_set-count.result xs) (sym whole) (record { are_bits = are; counted = counted })
 
 pub returns-clause-live : goal.returns-clause-live
 returns-clause-live c =

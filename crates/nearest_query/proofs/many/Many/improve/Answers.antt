@@ -1,5 +1,5 @@
 use Rattle.std.proofs.Common.{◌∷◌, refl}
-use Rattle.nearest_query.specs.Best.{AreKept, IsPut}
+use Rattle.nearest_query.specs.Best.{AreKept, IsInserted}
 use Rattle.nearest_query.proofs.Kept.{stay_best, improved_best}
 use Rattle.nearest_query.proofs.Results.{on_ok}
 use Rattle.nearest_query.proofs.many.Many.improve.Goals as goal
@@ -9,8 +9,10 @@ returns-then-dist2-near-clause-best c = λ entries best e. stay_best entries c.a
 
 pub returns-clause-best : goal.returns-clause-best
 returns-clause-best c = λ entries best e.
-    on_ok (IsPut c.args.near (record c.args.self.now { in_order = c.remove.new.self }) c.put.new.self) (AreKept (c.args.near ∷ entries) c.put.new.self)
-    c.put.result
-    (λ put. improved_best entries c.args.self.now (record c.args.self.now { in_order = c.remove.new.self }) c.put.new.self c.args.near c.args.dist2 best e
+    on_ok (IsInserted c.args.near (record c.args.self.now { in_order = c.remove.new.self }) c.insert_near.new.self)
+        (AreKept (c.args.near ∷ entries) c.insert_near.new.self)
+    c.insert_near.result
+    (λ put.
+        improved_best entries c.args.self.now (record c.args.self.now { in_order = c.remove.new.self }) c.insert_near.new.self c.args.near c.args.dist2 best e
     c.if-dist2-near.false refl refl c.remove.ensures.updates (rw (← c.remove.ensures.test) c.remove.ensures.len) put)
-    c.put.ensures.put
+    c.insert_near.ensures.put

@@ -7,7 +7,7 @@ use Rattle.outer_io.proofs.file_map.FileMap.rename.Goals as goal
 pub returns-then-not-is-clause-renamed : goal.returns-then-not-is-clause-renamed
 returns-then-not-is-clause-renamed c =
     let apart = same_name-false c.args.from.now c.args.to.now (sym c.if-not-is.ensures) in
-    rw (c.rename_all.ensures, c.take_out.ensures.items)
+    rw (c.rename_all.ensures, c.remove_all.ensures.items)
     record {
       moved = files_in-renamed_to c.args.from.now c.args.to.now c.args.self.now.entries.items apart;
       gone = files_in-renamed_from c.args.from.now c.args.to.now c.args.self.now.entries.items;
@@ -15,7 +15,7 @@ returns-then-not-is-clause-renamed c =
 
 pub returns-then-not-is-clause-others : goal.returns-then-not-is-clause-others
 returns-then-not-is-clause-others c other h k =
-    rw (c.rename_all.ensures, c.take_out.ensures.items)
+    rw (c.rename_all.ensures, c.remove_all.ensures.items)
     (files_in-renamed_other c.args.from.now c.args.to.now other c.args.self.now.entries.items h k)
 
 pub returns-else-not-is-clause-renamed : goal.returns-else-not-is-clause-renamed

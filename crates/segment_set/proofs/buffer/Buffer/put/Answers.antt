@@ -13,14 +13,14 @@ invariant_of-self-2 g c =
     let wait : waits c.self.inside.next ≡ true =
     lt-ltb c.self.inside.next 2147483648 (omega (arith, c.requires.numbered, ap (λ (b : BufferData). b.next) c.self.view_is)) in
     let many : length c.as_slice.result.now ≡ length c.args.points.now = sym (length-map c.as_slice.result.now _) ∙ ap length c.as_slice.ensures.value in
-    subst (λ n. IsHeld (c.self.inside.next + 1) (c.self.inside.live + n) (items_of c.put_document.new.entries.items)) (sym many)
-    (subst (IsHeld (c.self.inside.next + 1) (c.self.inside.live + length c.args.points.now)) (sym c.in_ok-put_document.ensures.put)
+    subst (λ n. IsHeld (c.self.inside.next + 1) (c.self.inside.live + n) (items_of c.push_document.new.entries.items)) (sym many)
+    (subst (IsHeld (c.self.inside.next + 1) (c.self.inside.live + length c.args.points.now)) (sym c.in_ok-push_document.ensures.put)
     (held_with c.self.inside.next c.self.inside.live (items_of c.self.inside.entries.items) c.args.points.now wait c.self.invariant))
 
 pub returns-clause-items : goal.returns-clause-items
 returns-clause-items g c =
     let wait : waits c.self.inside.next ≡ true =
     lt-ltb c.self.inside.next 2147483648 (omega (arith, c.requires.numbered, ap (λ (b : BufferData). b.next) c.self.view_is)) in
-    ap waiting c.in_ok-put_document.ensures.put
+    ap waiting c.in_ok-push_document.ensures.put
     ∙ waiting_with c.self.inside.next (items_of c.self.inside.entries.items) c.args.points.now wait
     ∙ ap (λ (b : BufferData). b.items ++ entries_of (record { number = b.next; points = c.args.points.now })) c.self.view_is

@@ -2,7 +2,7 @@
 use Rattle.std.proofs.Common.{◌≡◌, ◌+◌, ◌≤◌, ◌∙◌, IsTrue, length, refl, sym, ap, subst, arith}
 use Rattle.std.proofs.lemmas.Bool.{false≢true}
 use Rattle.std.proofs.lemmas.List.{length-map}
-use Rattle.segment_view.specs.Parts.{live_in_parts}
+use Rattle.segment_view.specs.LiveSegments.{live_in_parts}
 use Rattle.segment_set.specs.Sets.{SetData}
 use Rattle.segment_set.specs.Seen.{Sees}
 use Rattle.segment_set.specs.Kept.{AreCanonical, Follows, KeepsNamed, StaysAlone}
@@ -167,101 +167,101 @@ pub returns-in_err-make_room-clause-doubled : goal.returns-in_err-make_room-clau
 returns-in_err-make_room-clause-doubled g c = λ told agrees es read.
     add_damage (IsDoubt c.args.self.now.given (live_in_parts es c.args.self.now.parts)) c.in_err-make_room.field-0.0 c.from_residual.result c.from_residual.ensures.1 (c.in_err-make_room.ensures.doubled told agrees es read)
 
-pub returns-in_err-put-clause-seen : goal.returns-in_err-put-clause-seen
-returns-in_err-put-clause-seen g c = λ told i seen. never_ok _ c.from_residual-in_err-put.result c.from_residual-in_err-put.ensures.1 _
+pub returns-in_err-push-clause-seen : goal.returns-in_err-push-clause-seen
+returns-in_err-push-clause-seen g c = λ told i seen. never_ok _ c.from_residual-in_err-push.result c.from_residual-in_err-push.ensures.1 _
 
-pub returns-in_err-put-clause-refused : goal.returns-in_err-put-clause-refused
-returns-in_err-put-clause-refused g c = λ told i seen.
-    at_error _ c.from_residual-in_err-put.result c.from_residual-in_err-put.ensures.1 _ (subst (λ (s : SetData). Sees g.row.D (g.F.Pages.files c.make_room.new.folder) s i) (sym c.in_err-put.ensures.refused) (c.in_ok-make_room.ensures.seen told i seen))
+pub returns-in_err-push-clause-refused : goal.returns-in_err-push-clause-refused
+returns-in_err-push-clause-refused g c = λ told i seen.
+    at_error _ c.from_residual-in_err-push.result c.from_residual-in_err-push.ensures.1 _ (subst (λ (s : SetData). Sees g.row.D (g.F.Pages.files c.make_room.new.folder) s i) (sym c.in_err-push.ensures.refused) (c.in_ok-make_room.ensures.seen told i seen))
 
-pub returns-in_err-put-clause-number : goal.returns-in_err-put-clause-number
-returns-in_err-put-clause-number g c = never_value _ c.from_residual-in_err-put.result c.from_residual-in_err-put.ensures.1 _
+pub returns-in_err-push-clause-number : goal.returns-in_err-push-clause-number
+returns-in_err-push-clause-number g c = never_value _ c.from_residual-in_err-push.result c.from_residual-in_err-push.ensures.1 _
 
-pub returns-in_err-put-clause-given : goal.returns-in_err-put-clause-given
-returns-in_err-put-clause-given g c = never_ok _ c.from_residual-in_err-put.result c.from_residual-in_err-put.ensures.1 _
+pub returns-in_err-push-clause-given : goal.returns-in_err-push-clause-given
+returns-in_err-push-clause-given g c = never_ok _ c.from_residual-in_err-push.result c.from_residual-in_err-push.ensures.1 _
 
-pub returns-in_err-put-clause-full : goal.returns-in_err-put-clause-full
-returns-in_err-put-clause-full g c =
-    (λ is. absurd (add_memory_not_full c.from_residual-in_err-put.result c.from_residual-in_err-put.ensures.1 is), λ more. absurd (not_full c.args.self.now.given (length c.as_slice.result.now) (length c.args.points.now) c.is_full.ensures.full c.if-is_full.false (sym (length-map c.as_slice.result.now _) ∙ ap length c.as_slice.ensures.value) more))
+pub returns-in_err-push-clause-full : goal.returns-in_err-push-clause-full
+returns-in_err-push-clause-full g c =
+    (λ is. absurd (add_memory_not_full c.from_residual-in_err-push.result c.from_residual-in_err-push.ensures.1 is), λ more. absurd (not_full c.args.self.now.given (length c.as_slice.result.now) (length c.args.points.now) c.is_full.ensures.full c.if-is_full.false (sym (length-map c.as_slice.result.now _) ∙ ap length c.as_slice.ensures.value) more))
 
-pub returns-in_err-put-clause-stays : goal.returns-in_err-put-clause-stays
-returns-in_err-put-clause-stays g c =
-    at_error _ c.from_residual-in_err-put.result c.from_residual-in_err-put.ensures.1 _ (subst (StaysAlone c.args.self.now) (sym c.in_err-put.ensures.refused) c.in_ok-make_room.ensures.stays)
+pub returns-in_err-push-clause-stays : goal.returns-in_err-push-clause-stays
+returns-in_err-push-clause-stays g c =
+    at_error _ c.from_residual-in_err-push.result c.from_residual-in_err-push.ensures.1 _ (subst (StaysAlone c.args.self.now) (sym c.in_err-push.ensures.refused) c.in_ok-make_room.ensures.stays)
 
-pub returns-in_err-put-clause-kept : goal.returns-in_err-put-clause-kept
-returns-in_err-put-clause-kept g c =
-    subst (λ (s : SetData). KeepsNamed (IsTrue g.F.Pages.told) c.args.self.now.names s.names (g.F.Pages.files c.args.folder.now) (g.F.Pages.files c.make_room.new.folder)) (sym c.in_err-put.ensures.refused) c.in_ok-make_room.ensures.kept
+pub returns-in_err-push-clause-kept : goal.returns-in_err-push-clause-kept
+returns-in_err-push-clause-kept g c =
+    subst (λ (s : SetData). KeepsNamed (IsTrue g.F.Pages.told) c.args.self.now.names s.names (g.F.Pages.files c.args.folder.now) (g.F.Pages.files c.make_room.new.folder)) (sym c.in_err-push.ensures.refused) c.in_ok-make_room.ensures.kept
 
-pub returns-in_err-put-clause-follows : goal.returns-in_err-put-clause-follows
-returns-in_err-put-clause-follows g c =
-    subst (λ (s : SetData). Follows c.args.self.now.names c.args.self.now.parts s.parts) (sym c.in_err-put.ensures.refused) c.in_ok-make_room.ensures.follows
+pub returns-in_err-push-clause-follows : goal.returns-in_err-push-clause-follows
+returns-in_err-push-clause-follows g c =
+    subst (λ (s : SetData). Follows c.args.self.now.names c.args.self.now.parts s.parts) (sym c.in_err-push.ensures.refused) c.in_ok-make_room.ensures.follows
 
-pub returns-in_err-put-clause-saved : goal.returns-in_err-put-clause-saved
-returns-in_err-put-clause-saved g c = ap (λ (s : SetData). s.saved) c.in_err-put.ensures.refused ∙ c.in_ok-make_room.ensures.saved
+pub returns-in_err-push-clause-saved : goal.returns-in_err-push-clause-saved
+returns-in_err-push-clause-saved g c = ap (λ (s : SetData). s.saved) c.in_err-push.ensures.refused ∙ c.in_ok-make_room.ensures.saved
 
-pub returns-in_err-put-clause-begun : goal.returns-in_err-put-clause-begun
-returns-in_err-put-clause-begun g c = ap (λ (s : SetData). s.begun) c.in_err-put.ensures.refused ∙ c.in_ok-make_room.ensures.begun
+pub returns-in_err-push-clause-begun : goal.returns-in_err-push-clause-begun
+returns-in_err-push-clause-begun g c = ap (λ (s : SetData). s.begun) c.in_err-push.ensures.refused ∙ c.in_ok-make_room.ensures.begun
 
-pub returns-in_err-put-clause-snapshots : goal.returns-in_err-put-clause-snapshots
-returns-in_err-put-clause-snapshots g c = ap (λ (s : SetData). s.snapshots) c.in_err-put.ensures.refused ∙ c.in_ok-make_room.ensures.stays.snapshots
+pub returns-in_err-push-clause-snapshots : goal.returns-in_err-push-clause-snapshots
+returns-in_err-push-clause-snapshots g c = ap (λ (s : SetData). s.snapshots) c.in_err-push.ensures.refused ∙ c.in_ok-make_room.ensures.stays.snapshots
 
-pub returns-in_err-put-clause-leaf : goal.returns-in_err-put-clause-leaf
-returns-in_err-put-clause-leaf g c = ap (λ (s : SetData). s.leaf) c.in_err-put.ensures.refused ∙ c.in_ok-make_room.ensures.stays.leaf
+pub returns-in_err-push-clause-leaf : goal.returns-in_err-push-clause-leaf
+returns-in_err-push-clause-leaf g c = ap (λ (s : SetData). s.leaf) c.in_err-push.ensures.refused ∙ c.in_ok-make_room.ensures.stays.leaf
 
-pub returns-in_err-put-clause-canon : goal.returns-in_err-put-clause-canon
-returns-in_err-put-clause-canon g c = λ told.
-    subst (λ (s : SetData). AreCanonical g.row.D (g.F.Pages.files c.make_room.new.folder) c.args.self.now.names s.parts) (sym c.in_err-put.ensures.refused) (c.in_ok-make_room.ensures.canon told)
+pub returns-in_err-push-clause-canon : goal.returns-in_err-push-clause-canon
+returns-in_err-push-clause-canon g c = λ told.
+    subst (λ (s : SetData). AreCanonical g.row.D (g.F.Pages.files c.make_room.new.folder) c.args.self.now.names s.parts) (sym c.in_err-push.ensures.refused) (c.in_ok-make_room.ensures.canon told)
 
-pub returns-in_err-put-clause-unread : goal.returns-in_err-put-clause-unread
-returns-in_err-put-clause-unread g c = λ room. (c.in_ok-make_room.ensures.roomy (subst (λ n. length c.args.self.now.buffer + n ≤ 16384) (sym (sym (length-map c.as_slice.result.now _) ∙ ap length c.as_slice.ensures.value)) room)).2
+pub returns-in_err-push-clause-unread : goal.returns-in_err-push-clause-unread
+returns-in_err-push-clause-unread g c = λ room. (c.in_ok-make_room.ensures.roomy (subst (λ n. length c.args.self.now.buffer + n ≤ 16384) (sym (sym (length-map c.as_slice.result.now _) ∙ ap length c.as_slice.ensures.value)) room)).2
 
-pub returns-in_err-put-clause-files : goal.returns-in_err-put-clause-files
-returns-in_err-put-clause-files g c = λ told room. c.in_ok-make_room.ensures.files told (subst (λ n. length c.args.self.now.buffer + n ≤ 16384) (sym (sym (length-map c.as_slice.result.now _) ∙ ap length c.as_slice.ensures.value)) room)
+pub returns-in_err-push-clause-files : goal.returns-in_err-push-clause-files
+returns-in_err-push-clause-files g c = λ told room. c.in_ok-make_room.ensures.files told (subst (λ n. length c.args.self.now.buffer + n ≤ 16384) (sym (sym (length-map c.as_slice.result.now _) ∙ ap length c.as_slice.ensures.value)) room)
 
-pub returns-in_err-put-clause-room : goal.returns-in_err-put-clause-room
-returns-in_err-put-clause-room g c = λ room. add_memory_damage (λ _. ⊥) c.from_residual-in_err-put.result c.from_residual-in_err-put.ensures.1
+pub returns-in_err-push-clause-room : goal.returns-in_err-push-clause-room
+returns-in_err-push-clause-room g c = λ room. add_memory_damage (λ _. ⊥) c.from_residual-in_err-push.result c.from_residual-in_err-push.ensures.1
 
-pub returns-in_err-put-clause-parts : goal.returns-in_err-put-clause-parts
-returns-in_err-put-clause-parts g c = λ room.
-    let is = c.in_err-put.ensures.refused ∙ (c.in_ok-make_room.ensures.roomy (subst (λ n. length c.args.self.now.buffer + n ≤ 16384) (sym (sym (length-map c.as_slice.result.now _) ∙ ap length c.as_slice.ensures.value)) room)).1 in subst (λ (s : SetData). (s.parts ≡ c.args.self.now.parts) × (length s.buffer ≤ length c.args.self.now.buffer + length c.args.points.now)) (sym is) (refl, omega arith)
+pub returns-in_err-push-clause-parts : goal.returns-in_err-push-clause-parts
+returns-in_err-push-clause-parts g c = λ room.
+    let is = c.in_err-push.ensures.refused ∙ (c.in_ok-make_room.ensures.roomy (subst (λ n. length c.args.self.now.buffer + n ≤ 16384) (sym (sym (length-map c.as_slice.result.now _) ∙ ap length c.as_slice.ensures.value)) room)).1 in subst (λ (s : SetData). (s.parts ≡ c.args.self.now.parts) × (length s.buffer ≤ length c.args.self.now.buffer + length c.args.points.now)) (sym is) (refl, omega arith)
 
-pub returns-in_err-put-clause-rested : goal.returns-in_err-put-clause-rested
-returns-in_err-put-clause-rested g c = λ settled. c.in_ok-make_room.ensures.rested settled
+pub returns-in_err-push-clause-rested : goal.returns-in_err-push-clause-rested
+returns-in_err-push-clause-rested g c = λ settled. c.in_ok-make_room.ensures.rested settled
 
-pub returns-in_err-put-clause-cause : goal.returns-in_err-put-clause-cause
-returns-in_err-put-clause-cause g c =
-    add_memory_cause (g.F.Pages.faults c.args.folder.now) (g.F.Pages.faults c.make_room.new.folder) c.from_residual-in_err-put.result c.from_residual-in_err-put.ensures.1 c.in_ok-make_room.ensures.cause.fine
+pub returns-in_err-push-clause-cause : goal.returns-in_err-push-clause-cause
+returns-in_err-push-clause-cause g c =
+    add_memory_cause (g.F.Pages.faults c.args.folder.now) (g.F.Pages.faults c.make_room.new.folder) c.from_residual-in_err-push.result c.from_residual-in_err-push.ensures.1 c.in_ok-make_room.ensures.cause.fine
 
-pub returns-in_err-put-clause-whole : goal.returns-in_err-put-clause-whole
-returns-in_err-put-clause-whole g c = λ told i seen. add_memory_damage (λ _. ⊥) c.from_residual-in_err-put.result c.from_residual-in_err-put.ensures.1
+pub returns-in_err-push-clause-whole : goal.returns-in_err-push-clause-whole
+returns-in_err-push-clause-whole g c = λ told i seen. add_memory_damage (λ _. ⊥) c.from_residual-in_err-push.result c.from_residual-in_err-push.ensures.1
 
-pub returns-in_err-put-clause-shown : goal.returns-in_err-put-clause-shown
-returns-in_err-put-clause-shown g c =
-    add_memory_damage (IsMergeDamage g.row.D c.args.self.now.given c.args.self.now.names c.args.self.now.parts) c.from_residual-in_err-put.result c.from_residual-in_err-put.ensures.1
+pub returns-in_err-push-clause-shown : goal.returns-in_err-push-clause-shown
+returns-in_err-push-clause-shown g c =
+    add_memory_damage (IsMergeDamage g.row.D c.args.self.now.given c.args.self.now.names c.args.self.now.parts) c.from_residual-in_err-push.result c.from_residual-in_err-push.ensures.1
 
-pub returns-in_err-put-clause-damage : goal.returns-in_err-put-clause-damage
-returns-in_err-put-clause-damage g c = λ told agrees.
-    add_memory_damage (IsMergeDamageOf (g.F.Pages.files c.make_room.new.folder) c.args.self.now.given) c.from_residual-in_err-put.result c.from_residual-in_err-put.ensures.1
+pub returns-in_err-push-clause-damage : goal.returns-in_err-push-clause-damage
+returns-in_err-push-clause-damage g c = λ told agrees.
+    add_memory_damage (IsMergeDamageOf (g.F.Pages.files c.make_room.new.folder) c.args.self.now.given) c.from_residual-in_err-push.result c.from_residual-in_err-push.ensures.1
 
-pub returns-in_err-put-clause-doubled : goal.returns-in_err-put-clause-doubled
-returns-in_err-put-clause-doubled g c = λ told agrees es read.
-    add_memory_damage (IsDoubt c.args.self.now.given (live_in_parts es c.args.self.now.parts)) c.from_residual-in_err-put.result c.from_residual-in_err-put.ensures.1
+pub returns-in_err-push-clause-doubled : goal.returns-in_err-push-clause-doubled
+returns-in_err-push-clause-doubled g c = λ told agrees es read.
+    add_memory_damage (IsDoubt c.args.self.now.given (live_in_parts es c.args.self.now.parts)) c.from_residual-in_err-push.result c.from_residual-in_err-push.ensures.1
 
 pub returns-clause-seen : goal.returns-clause-seen
 returns-clause-seen g c = λ told i seen.
-    subst (λ (s : SetData). Sees g.row.D (g.F.Pages.files c.make_room.new.folder) s (index_with c.args.points.now i)) (sym c.in_ok-put.ensures.put)
-    (sees_with g.row.D (g.F.Pages.files c.make_room.new.folder) c.make_room.new.self i c.args.points.now c.in_ok-put.ensures.points (c.in_ok-make_room.ensures.seen told i seen))
+    subst (λ (s : SetData). Sees g.row.D (g.F.Pages.files c.make_room.new.folder) s (index_with c.args.points.now i)) (sym c.in_ok-push.ensures.put)
+    (sees_with g.row.D (g.F.Pages.files c.make_room.new.folder) c.make_room.new.self i c.args.points.now c.in_ok-push.ensures.points (c.in_ok-make_room.ensures.seen told i seen))
 
 pub returns-clause-refused : goal.returns-clause-refused
 returns-clause-refused g c = λ told i seen. tt
 
 pub returns-clause-number : goal.returns-clause-number
-returns-clause-number g c = c.in_ok-put.ensures.number ∙ c.in_ok-make_room.ensures.stays.next
+returns-clause-number g c = c.in_ok-push.ensures.number ∙ c.in_ok-make_room.ensures.stays.next
 
 pub returns-clause-given : goal.returns-clause-given
 returns-clause-given g c = (
-  ap (λ (s : SetData). s.next) c.in_ok-put.ensures.put ∙ ap (λ n. n + 1) c.in_ok-make_room.ensures.stays.next,
-  ap (λ (s : SetData). s.given) c.in_ok-put.ensures.put ∙ ap (λ n. n + length c.args.points.now) c.in_ok-make_room.ensures.stays.given,
+  ap (λ (s : SetData). s.next) c.in_ok-push.ensures.put ∙ ap (λ n. n + 1) c.in_ok-make_room.ensures.stays.next,
+  ap (λ (s : SetData). s.given) c.in_ok-push.ensures.put ∙ ap (λ n. n + length c.args.points.now) c.in_ok-make_room.ensures.stays.given,
 )
 
 pub returns-clause-full : goal.returns-clause-full
@@ -273,27 +273,27 @@ returns-clause-stays g c = tt
 
 pub returns-clause-kept : goal.returns-clause-kept
 returns-clause-kept g c =
-    subst (λ (s : SetData). KeepsNamed (IsTrue g.F.Pages.told) c.args.self.now.names s.names (g.F.Pages.files c.args.folder.now) (g.F.Pages.files c.make_room.new.folder)) (sym c.in_ok-put.ensures.put) c.in_ok-make_room.ensures.kept
+    subst (λ (s : SetData). KeepsNamed (IsTrue g.F.Pages.told) c.args.self.now.names s.names (g.F.Pages.files c.args.folder.now) (g.F.Pages.files c.make_room.new.folder)) (sym c.in_ok-push.ensures.put) c.in_ok-make_room.ensures.kept
 
 pub returns-clause-follows : goal.returns-clause-follows
 returns-clause-follows g c =
-    subst (λ (s : SetData). Follows c.args.self.now.names c.args.self.now.parts s.parts) (sym c.in_ok-put.ensures.put) c.in_ok-make_room.ensures.follows
+    subst (λ (s : SetData). Follows c.args.self.now.names c.args.self.now.parts s.parts) (sym c.in_ok-push.ensures.put) c.in_ok-make_room.ensures.follows
 
 pub returns-clause-saved : goal.returns-clause-saved
-returns-clause-saved g c = ap (λ (s : SetData). s.saved) c.in_ok-put.ensures.put ∙ c.in_ok-make_room.ensures.saved
+returns-clause-saved g c = ap (λ (s : SetData). s.saved) c.in_ok-push.ensures.put ∙ c.in_ok-make_room.ensures.saved
 
 pub returns-clause-begun : goal.returns-clause-begun
-returns-clause-begun g c = ap (λ (s : SetData). s.begun) c.in_ok-put.ensures.put ∙ c.in_ok-make_room.ensures.begun
+returns-clause-begun g c = ap (λ (s : SetData). s.begun) c.in_ok-push.ensures.put ∙ c.in_ok-make_room.ensures.begun
 
 pub returns-clause-snapshots : goal.returns-clause-snapshots
-returns-clause-snapshots g c = ap (λ (s : SetData). s.snapshots) c.in_ok-put.ensures.put ∙ c.in_ok-make_room.ensures.stays.snapshots
+returns-clause-snapshots g c = ap (λ (s : SetData). s.snapshots) c.in_ok-push.ensures.put ∙ c.in_ok-make_room.ensures.stays.snapshots
 
 pub returns-clause-leaf : goal.returns-clause-leaf
-returns-clause-leaf g c = ap (λ (s : SetData). s.leaf) c.in_ok-put.ensures.put ∙ c.in_ok-make_room.ensures.stays.leaf
+returns-clause-leaf g c = ap (λ (s : SetData). s.leaf) c.in_ok-push.ensures.put ∙ c.in_ok-make_room.ensures.stays.leaf
 
 pub returns-clause-canon : goal.returns-clause-canon
 returns-clause-canon g c = λ told.
-    subst (λ (s : SetData). AreCanonical g.row.D (g.F.Pages.files c.make_room.new.folder) c.args.self.now.names s.parts) (sym c.in_ok-put.ensures.put) (c.in_ok-make_room.ensures.canon told)
+    subst (λ (s : SetData). AreCanonical g.row.D (g.F.Pages.files c.make_room.new.folder) c.args.self.now.names s.parts) (sym c.in_ok-push.ensures.put) (c.in_ok-make_room.ensures.canon told)
 
 pub returns-clause-unread : goal.returns-clause-unread
 returns-clause-unread g c = λ room. (c.in_ok-make_room.ensures.roomy (subst (λ n. length c.args.self.now.buffer + n ≤ 16384) (sym (sym (length-map c.as_slice.result.now _) ∙ ap length c.as_slice.ensures.value)) room)).2
@@ -306,7 +306,7 @@ returns-clause-room g c = λ room. tt
 
 pub returns-clause-parts : goal.returns-clause-parts
 returns-clause-parts g c = λ room.
-    parts_with c.args.self.now c.make_room.new.self c.put.new.self c.args.points.now (c.in_ok-make_room.ensures.roomy (subst (λ n. length c.args.self.now.buffer + n ≤ 16384) (sym (sym (length-map c.as_slice.result.now _) ∙ ap length c.as_slice.ensures.value)) room)).1 c.in_ok-put.ensures.put
+    parts_with c.args.self.now c.make_room.new.self c.push.new.self c.args.points.now (c.in_ok-make_room.ensures.roomy (subst (λ n. length c.args.self.now.buffer + n ≤ 16384) (sym (sym (length-map c.as_slice.result.now _) ∙ ap length c.as_slice.ensures.value)) room)).1 c.in_ok-push.ensures.put
 
 pub returns-clause-rested : goal.returns-clause-rested
 returns-clause-rested g c = λ settled. c.in_ok-make_room.ensures.rested settled
@@ -340,15 +340,15 @@ pub returns-in_err-make_room-clause-evident : goal.returns-in_err-make_room-clau
 returns-in_err-make_room-clause-evident g c =
     add_damage (IsEvidentIn g.row.D c.args.self.now.parts (IsTrusted g.F.Pages.told g.row.D (g.F.Pages.files c.args.folder.now) c.args.self.now) (g.F.Pages.files c.make_room.new.folder)) c.in_err-make_room.field-0.0 c.from_residual.result c.from_residual.ensures.1 c.in_err-make_room.ensures.evident
 
-pub returns-in_err-put-clause-faithful : goal.returns-in_err-put-clause-faithful
-returns-in_err-put-clause-faithful g c = λ told faithful. subst (IsFaithful g.row.D (g.F.Pages.files c.make_room.new.folder)) (sym c.in_err-put.ensures.refused) (c.in_ok-make_room.ensures.faithful told faithful)
+pub returns-in_err-push-clause-faithful : goal.returns-in_err-push-clause-faithful
+returns-in_err-push-clause-faithful g c = λ told faithful. subst (IsFaithful g.row.D (g.F.Pages.files c.make_room.new.folder)) (sym c.in_err-push.ensures.refused) (c.in_ok-make_room.ensures.faithful told faithful)
 
-pub returns-in_err-put-clause-evident : goal.returns-in_err-put-clause-evident
-returns-in_err-put-clause-evident g c = add_memory_damage (IsEvidentIn g.row.D c.args.self.now.parts (IsTrusted g.F.Pages.told g.row.D (g.F.Pages.files c.args.folder.now) c.args.self.now) (g.F.Pages.files c.make_room.new.folder)) c.from_residual-in_err-put.result c.from_residual-in_err-put.ensures.1
+pub returns-in_err-push-clause-evident : goal.returns-in_err-push-clause-evident
+returns-in_err-push-clause-evident g c = add_memory_damage (IsEvidentIn g.row.D c.args.self.now.parts (IsTrusted g.F.Pages.told g.row.D (g.F.Pages.files c.args.folder.now) c.args.self.now) (g.F.Pages.files c.make_room.new.folder)) c.from_residual-in_err-push.result c.from_residual-in_err-push.ensures.1
 
 pub returns-clause-faithful : goal.returns-clause-faithful
 returns-clause-faithful g c = λ told faithful.
-    subst (IsFaithful g.row.D (g.F.Pages.files c.make_room.new.folder)) (sym c.in_ok-put.ensures.put)
+    subst (IsFaithful g.row.D (g.F.Pages.files c.make_room.new.folder)) (sym c.in_ok-push.ensures.put)
     (faithful_with g.row.D (g.F.Pages.files c.make_room.new.folder) c.args.points.now c.make_room.new.self (c.in_ok-make_room.ensures.faithful told faithful))
 
 pub returns-clause-evident : goal.returns-clause-evident
@@ -378,18 +378,18 @@ returns-in_err-make_room-clause-added g c = never_ok _ c.from_residual.result c.
 pub returns-in_err-make_room-clause-left : goal.returns-in_err-make_room-clause-left
 returns-in_err-make_room-clause-left g c = at_error _ c.from_residual.result c.from_residual.ensures.1 _ (left_settled g.row.D (IsTrue g.F.Pages.told) (moment (g.F.Pages.files c.args.folder.now) c.args.self.now) c.make_room.new.self c.in_err-make_room.ensures.left)
 
-pub returns-in_err-put-clause-kept_full : goal.returns-in_err-put-clause-kept_full
-returns-in_err-put-clause-kept_full g c = λ is. absurd (add_memory_not_full c.from_residual-in_err-put.result c.from_residual-in_err-put.ensures.1 is)
+pub returns-in_err-push-clause-kept_full : goal.returns-in_err-push-clause-kept_full
+returns-in_err-push-clause-kept_full g c = λ is. absurd (add_memory_not_full c.from_residual-in_err-push.result c.from_residual-in_err-push.ensures.1 is)
 
-pub returns-in_err-put-clause-files_full : goal.returns-in_err-put-clause-files_full
-returns-in_err-put-clause-files_full g c = λ told is. absurd (add_memory_not_full c.from_residual-in_err-put.result c.from_residual-in_err-put.ensures.1 is)
+pub returns-in_err-push-clause-files_full : goal.returns-in_err-push-clause-files_full
+returns-in_err-push-clause-files_full g c = λ told is. absurd (add_memory_not_full c.from_residual-in_err-push.result c.from_residual-in_err-push.ensures.1 is)
 
-pub returns-in_err-put-clause-added : goal.returns-in_err-put-clause-added
-returns-in_err-put-clause-added g c = never_ok _ c.from_residual-in_err-put.result c.from_residual-in_err-put.ensures.1 _
+pub returns-in_err-push-clause-added : goal.returns-in_err-push-clause-added
+returns-in_err-push-clause-added g c = never_ok _ c.from_residual-in_err-push.result c.from_residual-in_err-push.ensures.1 _
 
-pub returns-in_err-put-clause-left : goal.returns-in_err-put-clause-left
-returns-in_err-put-clause-left g c = at_error _ c.from_residual-in_err-put.result c.from_residual-in_err-put.ensures.1 _
-    ((moment (g.F.Pages.files c.make_room.new.folder) c.make_room.new.self), c.in_ok-make_room.ensures.flushed, before_same c.make_room.new.self c.put.new.self c.in_err-put.ensures.refused)
+pub returns-in_err-push-clause-left : goal.returns-in_err-push-clause-left
+returns-in_err-push-clause-left g c = at_error _ c.from_residual-in_err-push.result c.from_residual-in_err-push.ensures.1 _
+    ((moment (g.F.Pages.files c.make_room.new.folder) c.make_room.new.self), c.in_ok-make_room.ensures.flushed, before_same c.make_room.new.self c.push.new.self c.in_err-push.ensures.refused)
 
 pub returns-clause-kept_full : goal.returns-clause-kept_full
 returns-clause-kept_full g c = λ is. absurd cc
@@ -398,7 +398,7 @@ pub returns-clause-files_full : goal.returns-clause-files_full
 returns-clause-files_full g c = λ told is. absurd cc
 
 pub returns-clause-added : goal.returns-clause-added
-returns-clause-added g c = ((moment (g.F.Pages.files c.make_room.new.folder) c.make_room.new.self), c.in_ok-make_room.ensures.flushed, c.in_ok-put.ensures.put)
+returns-clause-added g c = ((moment (g.F.Pages.files c.make_room.new.folder) c.make_room.new.self), c.in_ok-make_room.ensures.flushed, c.in_ok-push.ensures.put)
 
 pub returns-clause-left : goal.returns-clause-left
 returns-clause-left g c = tt

@@ -11,7 +11,7 @@ use Rattle.page_cache.proofs.Damages.{fault_weaker}
 use Rattle.commit_list.specs.declared.listed.Listed.{Listed}
 use Rattle.commit_list.specs.CommitFiles.{IsCommitFile}
 use Rattle.stored_index.specs.Segments.{places}
-use Rattle.segment_view.specs.Parts.{lives_of}
+use Rattle.segment_view.specs.LiveSegments.{lives_of}
 use Rattle.segment_set.specs.Sets.{IsWell, SetData}
 use Rattle.segment_set.specs.Seen.{Sees}
 use Rattle.segment_set.specs.Kept.{IsAtRest}

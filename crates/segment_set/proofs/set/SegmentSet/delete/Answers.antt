@@ -1,6 +1,6 @@
 -- The set afterwards is the one before without the document.
 use Rattle.std.proofs.Common.{◌≡◌, lit<, sym, ap, subst, ◌∙◌}
-use Rattle.documents.specs.Documents.{deleted}
+use Rattle.documents.specs.Documents.{docs_without}
 use Rattle.segment_set.specs.Sets.{IsWell, SetData, is_live_in, set_but}
 use Rattle.segment_set.specs.Seen.{Sees}
 use Rattle.segment_set.specs.Kept.{Follows}
@@ -63,7 +63,7 @@ returns-clause-answer g c =
 
 pub returns-clause-seen : goal.returns-clause-seen
 returns-clause-seen g c files i seen =
-    subst (λ (s : SetData). Sees g.row.D files s (record i { docs = deleted c.args.doc i.docs })) (sym (whole g c))
+    subst (λ (s : SetData). Sees g.row.D files s (record i { docs = docs_without c.args.doc i.docs })) (sym (whole g c))
     (sees_but g.row.D c.args.doc files c.args.self.now i seen)
 
 pub returns-clause-live : goal.returns-clause-live

@@ -3,7 +3,7 @@ use Rattle.std.proofs.Common.{◌≡◌, Bool, true, false, not, List, [], ◌�
 use Rattle.std.proofs.lemmas.Bool.{eqb-true}
 use Rattle.std.specs.List.{All}
 use Rattle.live_bits.specs.LiveSet.{IsLiveSet}
-use Rattle.segment_view.specs.Parts.{Part}
+use Rattle.segment_view.specs.LiveSegments.{LiveSegment}
 use Rattle.segment_set.specs.Sets.{SetData}
 use Rattle.segment_set.specs.Kept.{IsAsCommitted}
 use Rattle.segment_set.proofs.Listed.{as_committed, listed_as, sets_parts}
@@ -51,5 +51,5 @@ returns-clause-same g c = (
 
 pub returns-clause-sets : goal.returns-clause-sets
 returns-clause-sets g c = λ e.
-    subst (λ (s : SetData). All (λ (p : Part). IsLiveSet p.live) s.parts) c.self.view_is
+    subst (λ (s : SetData). All (λ (p : LiveSegment). IsLiveSet p.live) s.parts) c.self.view_is
     (sets_parts c.self.inside.segments (subst (All IsLiveSet) c.lives.ensures (c.are_listed.ensures.sets (listed c.are_listed.result e))))

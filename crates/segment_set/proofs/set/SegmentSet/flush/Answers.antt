@@ -2,7 +2,7 @@ use Rattle.std.proofs.Common.{◌∙◌, IsTrue, subst, arith}
 use Rattle.std.proofs.lemmas.Result.{err_from_is_err_and, on_err_weaker, on_ok_weaker}
 use Rattle.page_cache.specs.Causes.{HasPageCause}
 use Rattle.page_cache.proofs.Damages.{on_damage_weaker}
-use Rattle.segment_view.specs.Parts.{live_in_parts}
+use Rattle.segment_view.specs.LiveSegments.{live_in_parts}
 use Rattle.segment_set.specs.Merged.{Rearranges}
 use Rattle.segment_set.specs.Settles.{moment}
 use Rattle.segment_set.specs.Damages.{IsDoubt, IsMergeDamage, IsMergeDamageOf}

@@ -1,7 +1,7 @@
 use Rattle.std.proofs.Common.{◌≤◌, length, subst}
 use Rattle.std.specs.Prelude.{◌↔◌, IsTrue}
 use Rattle.std.specs.List.{All}
-use Rattle.segment_view.specs.Parts.{parts_among}
+use Rattle.segment_view.specs.LiveSegments.{parts_among}
 use Rattle.segment_set.specs.Sets.{SetData}
 use Rattle.segment_set.specs.Merged.{IsWhole}
 use Rattle.segment_set.proofs.set.SegmentSet.is_settled.Goals as goal

@@ -18,7 +18,7 @@ use Rattle.segment_set.proofs.Refused.{at_error, memory_caused, memory_damage, n
 use Rattle.segment_set.proofs.Saving.{done_cause}
 use Rattle.segment_set.specs.Damages.{IsDoubt, IsMergeDamage, IsMergeDamageOf}
 use Rattle.index_opening.specs.Evidence.{IsEvidentIn}
-use Rattle.segment_view.specs.Parts.{ids_of, live_in_parts, parts_among, parts_but}
+use Rattle.segment_view.specs.LiveSegments.{ids_of, live_in_parts, parts_among, parts_but}
 use Rattle.segment_set.proofs.Trusted.{IsTrusted}
 use Rattle.segment_set.proofs.set.SegmentSet.merge_all.Goals as goal
 

@@ -5,7 +5,7 @@ use Rattle.outer_io.specs.Files.{Files}
 use Rattle.documents.specs.Entries.{is_among}
 use Rattle.page_cache.specs.Cache.{Agrees}
 use Rattle.page_cache.specs.Evidence.{OnDamage}
-use Rattle.segment_view.specs.Parts.{AreRead, ids_of, live_in_parts, parts_among}
+use Rattle.segment_view.specs.LiveSegments.{AreRead, ids_of, live_in_parts, parts_among}
 use Rattle.segment_set.specs.declared.set.SegmentSet.TheInside.{Inside}
 use Rattle.segment_set.specs.Sets.{BegunMerge, SetData}
 use Rattle.segment_set.specs.Seen.{Sees}

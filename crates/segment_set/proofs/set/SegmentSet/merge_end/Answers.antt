@@ -3,7 +3,7 @@ use Rattle.std.proofs.lemmas.List.Elements.{All-contains}
 use Rattle.std.proofs.lemmas.Result.{err_from_is_err_and}
 use Rattle.documents.specs.Entries.{is_among}
 use Rattle.documents.proofs.Kept.{among_to}
-use Rattle.segment_view.specs.Parts.{Part, ids_of}
+use Rattle.segment_view.specs.LiveSegments.{LiveSegment, ids_of}
 use Rattle.segment_build.specs.NewSegments.{NewSegmentData}
 use Rattle.segment_set.specs.declared.set.SegmentSet.TheInside.{Inside}
 use Rattle.segment_set.specs.Sets.{BegunMerge, IsWell, SetData, inputs_of}
@@ -79,7 +79,7 @@ replace-requires g c =
 
 pub invariant_of-self : goal.invariant_of-self
 invariant_of-self g c =
-    subst (λ (ps : List Part).
+    subst (λ (ps : List LiveSegment).
     IsWell g.row.D (moved (set_of c.self.inside) c.replace.new.names ps c.self.inside.buffer.items c.self.inside.begun c.self.inside.cache))
     (sym c.in_err-replace.ensures.refused) (refused g c).well
 
@@ -87,7 +87,7 @@ pub returns-in_err-replace-clause-refused : goal.returns-in_err-replace-clause-r
 returns-in_err-replace-clause-refused g c = λ told i seen.
     let p = err_from_is_err_and c.from_residual.result c.from_residual.ensures.1 in
     rw p.1
-    (subst (λ (ps : List Part).
+    (subst (λ (ps : List LiveSegment).
     Sees g.row.D (g.F.Pages.files c.replace.new.folder)
     (moved (set_of c.self.inside) c.replace.new.names ps c.self.inside.buffer.items c.self.inside.begun c.self.inside.cache) i)
     (sym c.in_err-replace.ensures.refused)
@@ -97,7 +97,7 @@ pub returns-in_err-replace-clause-stays : goal.returns-in_err-replace-clause-sta
 returns-in_err-replace-clause-stays g c =
     subst (λ (s : SetData). StaysAlone s
     (moved (set_of c.self.inside) c.replace.new.names c.replace.new.segments c.self.inside.buffer.items s.begun c.self.inside.cache)) c.self.view_is
-    (subst (λ (ps : List Part).
+    (subst (λ (ps : List LiveSegment).
     StaysAlone (set_of c.self.inside)
     (moved (set_of c.self.inside) c.replace.new.names ps c.self.inside.buffer.items c.self.inside.begun c.self.inside.cache))
     (sym c.in_err-replace.ensures.refused) (refused g c).stays)

@@ -1,7 +1,7 @@
 use Rattle.std.proofs.Common.{◌≤◌, ◌∙◌, ℕ, IsTrue, List, Err, length, refl, sym, subst, arith}
 use Rattle.std.proofs.lemmas.Result.{err_from_is_err_and}
 use Rattle.page_cache.proofs.Damages.{on_damage_weaker}
-use Rattle.segment_view.specs.Parts.{live_in_parts, parts_among}
+use Rattle.segment_view.specs.LiveSegments.{live_in_parts, parts_among}
 use Rattle.segment_set.specs.Damages.{IsDoubt, IsMergeDamage, IsMergeDamageOf}
 use Rattle.index_opening.specs.Evidence.{IsEvidentIn}
 use Rattle.segment_set.proofs.Chosen.{unsettled}

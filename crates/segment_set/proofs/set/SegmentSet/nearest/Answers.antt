@@ -6,8 +6,8 @@ use Rattle.page_cache.specs.Cache.{Agrees}
 use Rattle.page_cache.specs.Evidence.{OnDamage}
 use Rattle.documents.specs.NearestEntries.{IsNearest, nears_of}
 use Rattle.nearest_query.specs.Segments.{AreNearLeaves, bound_of}
-use Rattle.script_lang.specs.Seen.{viewed}
-use Rattle.segment_view.specs.Parts.{AreRead, Part, heads_of}
+use Rattle.script_lang.specs.Seen.{view_name}
+use Rattle.segment_view.specs.LiveSegments.{AreRead, LiveSegment, heads_of}
 use Rattle.segment_view.specs.Damages.{IsPartDamage}
 use Rattle.index_model.specs.State.{Index}
 use Rattle.segment_set.specs.Sets.{IsWell, SetData, buffer_at, parts_at, viewed_buffer, viewed_parts}
@@ -46,18 +46,18 @@ same g c = λ i. record (was g c) {
 }
 
 here : (g : given.Over) (c : goal.After-nearest g)
-    → c.view_of.result.0.now ≡ parts_at (viewed c.args.view.now) c.self.inside.segments c.self.inside.snapshots.items
-here g c = c.view_of.ensures.segments ∙ ap (parts_at (viewed c.args.view.now) c.self.inside.segments) c.as_slice.ensures.value
+    → c.view_of.result.0.now ≡ parts_at (view_name c.args.view.now) c.self.inside.segments c.self.inside.snapshots.items
+here g c = c.view_of.ensures.segments ∙ ap (parts_at (view_name c.args.view.now) c.self.inside.segments) c.as_slice.ensures.value
 
-parts_are : (g : given.Over) (c : goal.After-nearest g) → c.view_of.result.0.now ≡ viewed_parts (viewed c.args.view.now) c.args.self.now
-parts_are g c = looked_parts (was g c) _ (viewed c.args.view.now) _ c.self.view_is (here g c)
+parts_are : (g : given.Over) (c : goal.After-nearest g) → c.view_of.result.0.now ≡ viewed_parts (view_name c.args.view.now) c.args.self.now
+parts_are g c = looked_parts (was g c) _ (view_name c.args.view.now) _ c.self.view_is (here g c)
 
-buffer_is : (g : given.Over) (c : goal.After-nearest g) → items_of c.view_of.result.1.now ≡ viewed_buffer (viewed c.args.view.now) c.args.self.now
+buffer_is : (g : given.Over) (c : goal.After-nearest g) → items_of c.view_of.result.1.now ≡ viewed_buffer (view_name c.args.view.now) c.args.self.now
 buffer_is g c =
-    looked_buffer (was g c) _ (viewed c.args.view.now) _ c.self.view_is
+    looked_buffer (was g c) _ (view_name c.args.view.now) _ c.self.view_is
     (c.view_of.ensures.buffer
-    ∙ ap (λ xs. buffer_at (viewed c.args.view.now) xs c.as_slice.result.now) c.settle_for.ensures.items
-    ∙ ap (buffer_at (viewed c.args.view.now) c.self.inside.buffer.items) c.as_slice.ensures.value)
+    ∙ ap (λ xs. buffer_at (view_name c.args.view.now) xs c.as_slice.result.now) c.settle_for.ensures.items
+    ∙ ap (buffer_at (view_name c.args.view.now) c.self.inside.buffer.items) c.as_slice.ensures.value)
 
 agreed : (g : given.Over) (c : goal.After-nearest g) (i : Index) → Sees g.row.D (g.F.Pages.files c.args.folder.now) c.args.self.now i
     → Agrees (g.F.Pages.files c.args.folder.now) c.self.inside.cache
@@ -66,7 +66,7 @@ agreed g c i seen = subst (λ (u : SetData). Agrees (g.F.Pages.files c.args.fold
 pub invariant_of-self : goal.invariant_of-self
 invariant_of-self g c =
     subst (IsWell g.row.D) (sym (same g c))
-    (looked_well _ _ _ _ (was g c) (viewed c.args.view.now) _ _ c.self.invariant (here g c) c.nearest.ensures.calm)
+    (looked_well _ _ _ _ (was g c) (view_name c.args.view.now) _ _ c.self.invariant (here g c) c.nearest.ensures.calm)
 
 pub nearest-requires : goal.nearest-requires
 nearest-requires g c =
@@ -75,7 +75,7 @@ nearest-requires g c =
 
 pub returns-clause-found : goal.returns-clause-found
 returns-clause-found g c told i seen docs is =
-    looked_nearest (λ v. v.items) _ _ _ i (viewed c.args.view.now) _ _ _ _ docs (parts_are g c) (buffer_is g c) seen is _
+    looked_nearest (λ v. v.items) _ _ _ i (view_name c.args.view.now) _ _ _ _ docs (parts_are g c) (buffer_is g c) seen is _
     (c.nearest.ensures.answer told (agreed g c i seen) seen.contents (looked_read _ _ _ i _ _ (parts_are g c) seen))
 
 pub returns-clause-seen : goal.returns-clause-seen
@@ -89,15 +89,15 @@ returns-clause-alone g c = record { is = same g c ∙ (λ i. record (c.self.view
 pub returns-clause-reads : goal.returns-clause-reads
 returns-clause-reads g c told contents stands found is leaves are =
     c.nearest.ensures.reads told (subst (λ (u : SetData). Agrees (g.F.Pages.files c.args.folder.now) u.cache) (sym c.self.view_is) stands.agrees) contents
-    (subst (AreRead g.row.D (g.F.Pages.files c.args.folder.now) contents) (sym (parts_are g c)) (viewed_read _ _ contents (viewed c.args.view.now) _ stands))
+    (subst (AreRead g.row.D (g.F.Pages.files c.args.folder.now) contents) (sym (parts_are g c)) (viewed_read _ _ contents (view_name c.args.view.now) _ stands))
     found
-    (subst (λ (ps : List Part). IsNearest c.args.k (nears_of c.args.at.now.c (entries_seen contents ps (items_of c.view_of.result.1.now))) found)
+    (subst (λ (ps : List LiveSegment). IsNearest c.args.k (nears_of c.args.at.now.c (entries_seen contents ps (items_of c.view_of.result.1.now))) found)
     (sym (parts_are g c))
     (subst (λ (xs : List Item).
-    IsNearest c.args.k (nears_of c.args.at.now.c (entries_seen contents (viewed_parts (viewed c.args.view.now) c.args.self.now) xs)) found)
+    IsNearest c.args.k (nears_of c.args.at.now.c (entries_seen contents (viewed_parts (view_name c.args.view.now) c.args.self.now) xs)) found)
     (sym (buffer_is g c)) is))
     leaves
-    (subst (λ (ps : List Part). AreNearLeaves g.row.D c.args.at.now.c (bound_of c.args.k found) (heads_of ps) leaves) (sym (parts_are g c)) are)
+    (subst (λ (ps : List LiveSegment). AreNearLeaves g.row.D c.args.at.now.c (bound_of c.args.k found) (heads_of ps) leaves) (sym (parts_are g c)) are)
 
 pub returns-clause-whole : goal.returns-clause-whole
 returns-clause-whole g c told i seen =
@@ -109,9 +109,10 @@ returns-clause-faithful g c told keeps =
     (looked_faithful g.row.D _ _ _ (was g c) _ _ _ c.self.view_is c.nearest.ensures.calm told keeps)
 
 pub returns-clause-shown : goal.returns-clause-shown
-returns-clause-shown g c = subst (λ (ps : List Part). OnDamage c.nearest.result (IsPartDamage g.row.D ps)) (parts_are g c) c.nearest.ensures.shown
+returns-clause-shown g c = subst (λ (ps : List LiveSegment). OnDamage c.nearest.result (IsPartDamage g.row.D ps)) (parts_are g c) c.nearest.ensures.shown
 
 pub returns-clause-evident : goal.returns-clause-evident
 returns-clause-evident g c =
-    looked_evident g.row.D _ _ _ _ _ (viewed c.args.view.now) c.view_of.result.0.now _ _ c.nearest.result c.self.view_is (parts_are g c) c.nearest.ensures.calm
+    looked_evident g.row.D _ _ _ _ _ (view_name c.args.view.now) c.view_of.result.0.now _ _ c.nearest.result c.self.view_is (parts_are g c)
+        c.nearest.ensures.calm
     c.nearest.ensures.shown c.nearest.ensures.damage

@@ -1,7 +1,7 @@
 use Rattle.std.proofs.Common.{◌≡◌, ◌≤◌, ◌<◌, ℕ, List, get_or, length, map, subst, sym}
 use Rattle.std.specs.Prelude.{IfOk, IfNone, IfSome}
 use Rattle.merge_policy.specs.Choice.{IsChoice, free_count}
-use Rattle.segment_view.specs.Parts.{ids_of, parts_among}
+use Rattle.segment_view.specs.LiveSegments.{ids_of, parts_among}
 use Rattle.segment_set.specs.Sets.{IsWell, SetData, inputs_of, pins_of, sizes_of}
 use Rattle.segment_set.specs.Merged.{IsApart}
 use Rattle.segment_set.proofs.Leveled.{pinned}

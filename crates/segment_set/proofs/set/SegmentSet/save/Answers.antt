@@ -13,7 +13,7 @@ use Rattle.merge_policy.specs.Choice.{free_count}
 use Rattle.stored_index.specs.Kept.{ListsFile}
 use Rattle.stored_index.specs.Stored.{IsStored}
 use Rattle.index_model.specs.State.{at_rest}
-use Rattle.segment_view.specs.Parts.{Part, live_in_parts}
+use Rattle.segment_view.specs.LiveSegments.{LiveSegment, live_in_parts}
 use Rattle.file_names.specs.Names.{is_named}
 use Rattle.segment_set.specs.Sets.{BegunMerge, pins_of, sizes_of}
 use Rattle.segment_set.specs.Kept.{Follows, IsCommitOf}
@@ -27,7 +27,7 @@ use Rattle.segment_set.proofs.Saving.{no_damage, ok_always, sees_saved, stays_sa
 use Rattle.segment_set.proofs.SavedCommit.{saved_is_stored}
 use Rattle.segment_set.proofs.Refused.{at_error, never_ok, never_value, same_cause, same_damage}
 use Rattle.segment_set.proofs.Settled.{left_settled}
-use Rattle.segment_set.specs.Settles.{Flushes, Moment, moment}
+use Rattle.segment_set.specs.Settles.{Flushes, SetMoment, moment}
 use Rattle.segment_set.proofs.set.SegmentSet.save.Goals as goal
 
 pub returns-in_err-flush-clause-whole : goal.returns-in_err-flush-clause-whole
@@ -53,7 +53,7 @@ returns-clause-levels g c =
     let t = c.list_segments.new.self in
     let alone = c.list_segments.ensures.alone in
     ok_always c.list_segments.result ((level : ℕ) → free_count level (sizes_of t.parts) (pins_of t.begun t.parts) ≤ 10) (λ level.
-    subst (λ (ps : List Part). free_count level (sizes_of ps) (pins_of t.begun ps) ≤ 10) (sym alone.parts)
+    subst (λ (ps : List LiveSegment). free_count level (sizes_of ps) (pins_of t.begun ps) ≤ 10) (sym alone.parts)
     (subst (λ (b : Option BegunMerge). free_count level (sizes_of s.parts) (pins_of b s.parts) ≤ 10) (sym alone.begun) (c.in_ok-flush.ensures.levels level)))
 
 pub returns-clause-fresh : goal.returns-clause-fresh
@@ -73,7 +73,7 @@ returns-clause-live g c = λ told.
     let files = g.F.Pages.files c.list_segments.new.folder in
     if_ok_map c.list_segments.result (λ (k : CommitData). AllZip (IsSaved (IsTrue g.F.Pages.told) s.names t.names files) k.listed s.parts)
     (λ (k : CommitData).
-    AllZip (λ (l : Listed) (p : Part). IsLiveFile l.segment l.generation (bytes_of (files (Live l.segment l.generation))) p.live) k.listed t.parts)
+    AllZip (λ (l : Listed) (p : LiveSegment). IsLiveFile l.segment l.generation (bytes_of (files (Live l.segment l.generation))) p.live) k.listed t.parts)
     (λ k all. all_written (IsTrue g.F.Pages.told) s.names t.names files k.listed s.parts t.parts told c.list_segments.ensures.alone.parts all)
     c.list_segments.ensures.listed
 
@@ -236,7 +236,7 @@ returns-clause-flushed g c =
     let t = c.list_segments.new.self in
     let files = g.F.Pages.files c.list_segments.new.folder in
     if_ok_map c.list_segments.result (λ (k : CommitData). AllZip (IsSaved (IsTrue g.F.Pages.told) s.names t.names files) k.listed s.parts)
-    (λ (k : CommitData). (u : Moment) × Flushes g.row.D (IsTrue g.F.Pages.told) (moment (g.F.Pages.files c.args.folder.now) c.args.self.now) u
+    (λ (k : CommitData). (u : SetMoment) × Flushes g.row.D (IsTrue g.F.Pages.told) (moment (g.F.Pages.files c.args.folder.now) c.args.self.now) u
     × StaysButSaved u.set t × All (HasNextGeneration u.set.names) k.listed)
     (λ k all. (
       moment (g.F.Pages.files c.flush.new.folder) s,

@@ -2,7 +2,7 @@ use Rattle.std.proofs.Common.{◌≡◌, ℕ, List, not, subst}
 use Rattle.std.specs.Prelude.{IfOk}
 use Rattle.std.specs.List.{filter}
 use Rattle.documents.specs.Entries.{is_among}
-use Rattle.segment_view.specs.Parts.{ids_of}
+use Rattle.segment_view.specs.LiveSegments.{ids_of}
 use Rattle.segment_set.specs.Sets.{IsWell, SetData, inputs_of}
 use Rattle.segment_set.specs.Merged.{IsApart}
 use Rattle.segment_set.proofs.Chosen.{if_ok, unpinned_apart}

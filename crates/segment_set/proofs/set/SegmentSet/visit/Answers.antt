@@ -4,8 +4,8 @@ use Rattle.std.proofs.lemmas.List.{length-map}
 use Rattle.point_codec.specs.Seen.{items_of}
 use Rattle.page_cache.specs.Cache.{Agrees}
 use Rattle.page_cache.specs.Evidence.{OnDamage}
-use Rattle.script_lang.specs.Seen.{viewed}
-use Rattle.segment_view.specs.Parts.{Part, heads_of}
+use Rattle.script_lang.specs.Seen.{view_name}
+use Rattle.segment_view.specs.LiveSegments.{LiveSegment, heads_of}
 use Rattle.segment_view.specs.Costs.{AreTested, AreTouched, leaves_in}
 use Rattle.segment_view.specs.Damages.{IsPartDamage}
 use Rattle.index_model.specs.State.{Index}
@@ -44,18 +44,18 @@ same g c = λ i. record (was g c) {
 }
 
 here : (g : given.Over) (c : goal.After-visit g)
-    → c.view_of.result.0.now ≡ parts_at (viewed c.args.view.now) c.self.inside.segments c.self.inside.snapshots.items
-here g c = c.view_of.ensures.segments ∙ ap (parts_at (viewed c.args.view.now) c.self.inside.segments) c.as_slice.ensures.value
+    → c.view_of.result.0.now ≡ parts_at (view_name c.args.view.now) c.self.inside.segments c.self.inside.snapshots.items
+here g c = c.view_of.ensures.segments ∙ ap (parts_at (view_name c.args.view.now) c.self.inside.segments) c.as_slice.ensures.value
 
-parts_are : (g : given.Over) (c : goal.After-visit g) → c.view_of.result.0.now ≡ viewed_parts (viewed c.args.view.now) c.args.self.now
-parts_are g c = looked_parts (was g c) _ (viewed c.args.view.now) _ c.self.view_is (here g c)
+parts_are : (g : given.Over) (c : goal.After-visit g) → c.view_of.result.0.now ≡ viewed_parts (view_name c.args.view.now) c.args.self.now
+parts_are g c = looked_parts (was g c) _ (view_name c.args.view.now) _ c.self.view_is (here g c)
 
-buffer_is : (g : given.Over) (c : goal.After-visit g) → items_of c.view_of.result.1.now ≡ viewed_buffer (viewed c.args.view.now) c.args.self.now
+buffer_is : (g : given.Over) (c : goal.After-visit g) → items_of c.view_of.result.1.now ≡ viewed_buffer (view_name c.args.view.now) c.args.self.now
 buffer_is g c =
-    looked_buffer (was g c) _ (viewed c.args.view.now) _ c.self.view_is
+    looked_buffer (was g c) _ (view_name c.args.view.now) _ c.self.view_is
     (c.view_of.ensures.buffer
-    ∙ ap (λ xs. buffer_at (viewed c.args.view.now) xs c.as_slice.result.now) c.settle_for.ensures.items
-    ∙ ap (buffer_at (viewed c.args.view.now) c.self.inside.buffer.items) c.as_slice.ensures.value)
+    ∙ ap (λ xs. buffer_at (view_name c.args.view.now) xs c.as_slice.result.now) c.settle_for.ensures.items
+    ∙ ap (buffer_at (view_name c.args.view.now) c.self.inside.buffer.items) c.as_slice.ensures.value)
 
 agreed : (g : given.Over) (c : goal.After-visit g) (i : Index) → Sees g.row.D (g.F.Pages.files c.args.folder.now) c.args.self.now i
     → Agrees (g.F.Pages.files c.args.folder.now) c.self.inside.cache
@@ -64,11 +64,11 @@ agreed g c i seen = subst (λ (u : SetData). Agrees (g.F.Pages.files c.args.fold
 pub invariant_of-self : goal.invariant_of-self
 invariant_of-self g c =
     subst (IsWell g.row.D) (sym (same g c))
-    (looked_well _ _ _ _ (was g c) (viewed c.args.view.now) _ _ c.self.invariant (here g c) c.visit.ensures.calm)
+    (looked_well _ _ _ _ (was g c) (view_name c.args.view.now) _ _ c.self.invariant (here g c) c.visit.ensures.calm)
 
 pub returns-clause-found : goal.returns-clause-found
 returns-clause-found g c told i seen docs is =
-    looked_found (λ v. v.items) _ _ _ i (viewed c.args.view.now) _ _ _ docs (parts_are g c) (buffer_is g c) seen is _
+    looked_found (λ v. v.items) _ _ _ i (view_name c.args.view.now) _ _ _ docs (parts_are g c) (buffer_is g c) seen is _
     (c.visit.ensures.found told (agreed g c i seen) seen.contents (looked_read _ _ _ i _ _ (parts_are g c) seen))
 
 pub returns-clause-seen : goal.returns-clause-seen
@@ -82,20 +82,21 @@ returns-clause-alone g c = record { is = same g c ∙ (λ i. record (c.self.view
 pub returns-clause-tests : goal.returns-clause-tests
 returns-clause-tests g c n are =
     let most = c.visit.ensures.tests n
-    (subst (λ (ps : List Part). AreTested g.row.D (g.S.Shape.crosses c.args.shape.now) (heads_of ps) n) (sym (parts_are g c)) are) in
-    let long : length (viewed_buffer (viewed c.args.view.now) c.args.self.now) ≡ length c.view_of.result.1.now =
+    (subst (λ (ps : List LiveSegment). AreTested g.row.D (g.S.Shape.crosses c.args.shape.now) (heads_of ps) n) (sym (parts_are g c)) are) in
+    let long : length (viewed_buffer (view_name c.args.view.now) c.args.self.now) ≡ length c.view_of.result.1.now =
     ap length (sym (buffer_is g c)) ∙ length-map c.view_of.result.1.now _ in
     omega (arith, most, long)
 
 pub returns-clause-compares : goal.returns-clause-compares
 returns-clause-compares g c =
-    subst (λ (ps : List Part). g.S.Shape.compares c.visit.new.shape ≤ g.S.Shape.compares c.args.shape.now + 2 * leaves_in (heads_of ps)) (parts_are g c)
+    subst (λ (ps : List LiveSegment). g.S.Shape.compares c.visit.new.shape ≤ g.S.Shape.compares c.args.shape.now + 2 * leaves_in (heads_of ps)) (parts_are g c)
     c.visit.ensures.compares
 
 pub returns-clause-reads : goal.returns-clause-reads
 returns-clause-reads g c n are =
     c.visit.ensures.reads n
-    (subst (λ (ps : List Part). AreTouched g.row.D (g.S.Shape.has c.args.shape.now) (g.S.Shape.crosses c.args.shape.now) (heads_of ps) n) (sym (parts_are g c))
+    (subst (λ (ps : List LiveSegment). AreTouched g.row.D (g.S.Shape.has c.args.shape.now) (g.S.Shape.crosses c.args.shape.now) (heads_of ps) n)
+        (sym (parts_are g c))
     are)
 
 pub returns-clause-whole : goal.returns-clause-whole
@@ -108,9 +109,9 @@ returns-clause-faithful g c told keeps =
     (looked_faithful g.row.D _ _ _ (was g c) _ _ _ c.self.view_is c.visit.ensures.calm told keeps)
 
 pub returns-clause-shown : goal.returns-clause-shown
-returns-clause-shown g c = subst (λ (ps : List Part). OnDamage c.visit.result (IsPartDamage g.row.D ps)) (parts_are g c) c.visit.ensures.shown
+returns-clause-shown g c = subst (λ (ps : List LiveSegment). OnDamage c.visit.result (IsPartDamage g.row.D ps)) (parts_are g c) c.visit.ensures.shown
 
 pub returns-clause-evident : goal.returns-clause-evident
 returns-clause-evident g c =
-    looked_evident g.row.D _ _ _ _ _ (viewed c.args.view.now) c.view_of.result.0.now _ _ c.visit.result c.self.view_is (parts_are g c) c.visit.ensures.calm
+    looked_evident g.row.D _ _ _ _ _ (view_name c.args.view.now) c.view_of.result.0.now _ _ c.visit.result c.self.view_is (parts_are g c) c.visit.ensures.calm
     c.visit.ensures.shown c.visit.ensures.damage

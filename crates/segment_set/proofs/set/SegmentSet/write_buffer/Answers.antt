@@ -5,7 +5,7 @@ use Rattle.std.proofs.lemmas.Bool.Decides.{nat_tests}
 use Rattle.std.proofs.lemmas.Result.{on_err_weaker, on_ok_weaker}
 use Rattle.outer_io.specs.declared.file_name.FileName.TheVariants.{Segment}
 use Rattle.page_cache.proofs.Agreement.{agrees_other}
-use Rattle.segment_view.specs.Parts.{Part}
+use Rattle.segment_view.specs.LiveSegments.{LiveSegment}
 use Rattle.merge_policy.specs.Choice.{free_count}
 use Rattle.segment_set.specs.Sets.{IsNamed, IsWell, SetData, inputs_of, pins_of, sizes_of}
 use Rattle.segment_set.specs.Kept.{IsAsBefore}
@@ -157,7 +157,7 @@ returns-clause-faithful g c = λ told faithful.
 pub returns-clause-one_more : goal.returns-clause-one_more
 returns-clause-one_more g c = λ level.
     let inputs = inputs_of c.self.inside.begun in
-    let free : List Part → ℕ = λ parts. free_count level (sizes_of parts) (pinned inputs parts) in
+    let free : List LiveSegment → ℕ = λ parts. free_count level (sizes_of parts) (pinned inputs parts) in
     subst (λ (s : SetData). free c.write_buffer.new.segments ≤ free_count level (sizes_of s.parts) (pins_of s.begun s.parts) + 1) c.self.view_is
     (elim (ok_or_err c.write_buffer.result (spilled g c) c.write_buffer.ensures.refused) [
       | inl s ↦ free_placed level inputs (part_at s.put.id s.n) c.self.inside.segments c.write_buffer.new.segments s.put.placed

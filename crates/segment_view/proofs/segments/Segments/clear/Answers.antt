@@ -1,5 +1,5 @@
 use Rattle.std.proofs.Common.{ap, ◌∙◌}
-use Rattle.segment_view.specs.Parts.{parts_of, has_live, cleared}
+use Rattle.segment_view.specs.LiveSegments.{parts_of, has_live, cleared_parts}
 use Rattle.segment_view.proofs.Beside.{live_parts, parts-without}
 use Rattle.segment_view.proofs.segments.Segments.clear.Goals as goal
 
@@ -11,4 +11,4 @@ returns-clause-answer g c =
 pub returns-clause-after : goal.returns-clause-after
 returns-clause-after g c =
     ap (parts_of c.self.inside.heads.items) c.clear_in.ensures.after ∙ parts-without c.args.doc c.self.inside.heads.items c.self.inside.lives.items
-    ∙ ap (cleared c.args.doc) c.self.view_is
+    ∙ ap (cleared_parts c.args.doc) c.self.view_is

@@ -1,7 +1,7 @@
 use Rattle.std.proofs.Common.{List, ap, sym, map, ◌∙◌, ℕ}
 use Rattle.segment_file.specs.Heads.{Head}
 use Rattle.documents.specs.Entries.{is_among}
-use Rattle.segment_view.specs.Parts.{ids_of}
+use Rattle.segment_view.specs.LiveSegments.{ids_of}
 use Rattle.segment_view.proofs.Beside.{ids_parts}
 use Rattle.segment_view.proofs.segments.Segments.has.Goals as goal
 

@@ -1,6 +1,6 @@
 use Rattle.std.proofs.Common.{List, ap, sym, subst, ◌∙◌}
 use Rattle.std.specs.List.Sorted.{IsStrictlyIncreasing}
-use Rattle.segment_view.specs.Parts.{Part, heads_of, ids_of}
+use Rattle.segment_view.specs.LiveSegments.{LiveSegment, heads_of, ids_of}
 use Rattle.segment_view.proofs.Beside.{heads_parts, ids_in_step}
 use Rattle.segment_view.proofs.segments.Segments.heads.Goals as goal
 
@@ -10,5 +10,5 @@ returns-clause-value g c =
 
 pub returns-clause-ascend : goal.returns-clause-ascend
 returns-clause-ascend g c =
-    subst (λ (ps : List Part). IsStrictlyIncreasing (ids_of ps)) c.self.view_is
+    subst (λ (ps : List LiveSegment). IsStrictlyIncreasing (ids_of ps)) c.self.view_is
     (ids_in_step g.row.D c.self.inside.heads.items c.self.inside.lives.items c.self.invariant)

@@ -2,13 +2,13 @@ use Rattle.std.proofs.Common.{◌<◌, ℕ, List, length, map, ap, sym, subst, �
 use Rattle.std.specs.List.Sorted.{IsStrictlyIncreasing}
 use Rattle.documents.specs.Entries.{is_among}
 use Rattle.segment_file.specs.Heads.{Head}
-use Rattle.segment_view.specs.Parts.{Part, parts_of, ids_of}
+use Rattle.segment_view.specs.LiveSegments.{LiveSegment, parts_of, ids_of}
 use Rattle.segment_view.proofs.Beside.{ids_parts, ids_in_step, in_step_put, placed_put}
 use Rattle.segment_view.proofs.segments.Segments.insert.Goals as goal
 
 pub returns-then-len-ge-MOST_SEGMENTS-clause-ascend : goal.returns-then-len-ge-MOST_SEGMENTS-clause-ascend
 returns-then-len-ge-MOST_SEGMENTS-clause-ascend g c =
-    subst (λ (ps : List Part). IsStrictlyIncreasing (ids_of ps)) c.self.view_is
+    subst (λ (ps : List LiveSegment). IsStrictlyIncreasing (ids_of ps)) c.self.view_is
     (ids_in_step g.row.D c.self.inside.heads.items c.self.inside.lives.items c.self.invariant)
 
 pub place_of-place-requires : goal.place_of-place-requires
@@ -24,32 +24,33 @@ place_of-place-requires g c = (
   ),
 )
 
-pub returns-in_err-put-clause-ascend : goal.returns-in_err-put-clause-ascend
-returns-in_err-put-clause-ascend g c =
-    let stays = c.in_err-put.ensures.refused in
-    let same = ap (λ (hs : List Head). parts_of hs c.put.new.lives.items) stays.0 ∙ ap (parts_of c.self.inside.heads.items) stays.1 in
-    subst (λ (ps : List Part). IsStrictlyIncreasing (ids_of ps)) (sym same)
+pub returns-in_err-insert_pair-clause-ascend : goal.returns-in_err-insert_pair-clause-ascend
+returns-in_err-insert_pair-clause-ascend g c =
+    let stays = c.in_err-insert_pair.ensures.refused in
+    let same = ap (λ (hs : List Head). parts_of hs c.insert_pair.new.lives.items) stays.0 ∙ ap (parts_of c.self.inside.heads.items) stays.1 in
+    subst (λ (ps : List LiveSegment). IsStrictlyIncreasing (ids_of ps)) (sym same)
     (ids_in_step g.row.D c.self.inside.heads.items c.self.inside.lives.items c.self.invariant)
 
 pub invariant_of-self-2 : goal.invariant_of-self-2
 invariant_of-self-2 g c =
     let room : length c.self.inside.heads.items < 16777216 = omega (arith, c.if-len-ge-MOST_SEGMENTS.false, c.len.ensures, c.self.inside.heads.ok.0) in
-    in_step_put g.row.D c.self.inside.heads.items c.as_slice.result.now c.put.new.heads.items c.self.inside.lives.items c.put.new.lives.items
+    in_step_put g.row.D c.self.inside.heads.items c.as_slice.result.now c.insert_pair.new.heads.items c.self.inside.lives.items c.insert_pair.new.lives.items
     c.place_of-place.result c.id.result c.args.head c.args.live
     c.self.invariant c.as_slice.ensures.value c.id.ensures room c.place_of-place.ensures.bound c.place_of-place.ensures.below c.place_of-place.ensures.above
-    c.in_ok-put.ensures.heads c.in_ok-put.ensures.lives
+    c.in_ok-insert_pair.ensures.heads c.in_ok-insert_pair.ensures.lives
 
 pub returns-clause-placed : goal.returns-clause-placed
 returns-clause-placed g c =
-    placed_put c.self.inside.heads.items c.put.new.heads.items c.self.inside.lives.items c.put.new.lives.items c.args.self.now c.place_of-place.result
+    placed_put c.self.inside.heads.items c.insert_pair.new.heads.items c.self.inside.lives.items c.insert_pair.new.lives.items c.args.self.now
+        c.place_of-place.result
     c.args.head c.args.live
-    c.self.invariant.same c.self.view_is c.in_ok-put.ensures.heads c.in_ok-put.ensures.lives
+    c.self.invariant.same c.self.view_is c.in_ok-insert_pair.ensures.heads c.in_ok-insert_pair.ensures.lives
 
 pub returns-clause-ascend : goal.returns-clause-ascend
 returns-clause-ascend g c =
     let room : length c.self.inside.heads.items < 16777216 = omega (arith, c.if-len-ge-MOST_SEGMENTS.false, c.len.ensures, c.self.inside.heads.ok.0) in
-    ids_in_step g.row.D c.put.new.heads.items c.put.new.lives.items
-    (in_step_put g.row.D c.self.inside.heads.items c.as_slice.result.now c.put.new.heads.items c.self.inside.lives.items c.put.new.lives.items
+    ids_in_step g.row.D c.insert_pair.new.heads.items c.insert_pair.new.lives.items
+    (in_step_put g.row.D c.self.inside.heads.items c.as_slice.result.now c.insert_pair.new.heads.items c.self.inside.lives.items c.insert_pair.new.lives.items
     c.place_of-place.result c.id.result c.args.head c.args.live
     c.self.invariant c.as_slice.ensures.value c.id.ensures room c.place_of-place.ensures.bound c.place_of-place.ensures.below c.place_of-place.ensures.above
-    c.in_ok-put.ensures.heads c.in_ok-put.ensures.lives)
+    c.in_ok-insert_pair.ensures.heads c.in_ok-insert_pair.ensures.lives)

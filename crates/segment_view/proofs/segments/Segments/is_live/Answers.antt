@@ -1,7 +1,7 @@
 use Rattle.std.proofs.Common.{List, ap, ◌∙◌}
 use Rattle.std.specs.List.{list_any}
 use Rattle.live_bits.specs.LiveSet.{LiveSet, is_live}
-use Rattle.segment_view.specs.Parts.{has_live}
+use Rattle.segment_view.specs.LiveSegments.{has_live}
 use Rattle.segment_view.proofs.Beside.{live_parts}
 use Rattle.segment_view.proofs.segments.Segments.is_live.Goals as goal
 

@@ -1,5 +1,5 @@
 use Rattle.std.proofs.Common.{ap, sym, ◌∙◌}
-use Rattle.segment_view.specs.Parts.{lives_of}
+use Rattle.segment_view.specs.LiveSegments.{lives_of}
 use Rattle.segment_view.proofs.Beside.{lives_parts}
 use Rattle.segment_view.proofs.segments.Segments.lives.Goals as goal
 

@@ -1,0 +1,33 @@
+use Rattle.outer_io.specs.Files.{bytes_of}
+use Rattle.outer_io.specs.declared.file_name.FileName.TheVariants.{Segment}
+use Rattle.segment_file.specs.Damages.{IsLeafDamage}
+use Rattle.bkd_reader.proofs.Trees.{handed_on, first_page, never_bad, taken_hits}
+use Rattle.bkd_reader.proofs.inside.collect_leaf.Goals as goal
+
+pub returns-in_err-place-clause-shown : goal.returns-in_err-place-clause-shown
+returns-in_err-place-clause-shown g c = λ first s path t is.
+    handed_on c.from_residual.result c.in_err-place.field-0.0 (IsLeafDamage g.row.D c.args.head.now first s t) c.from_residual.ensures.1
+    (c.in_err-place.ensures.shown first s path t is)
+
+pub returns-in_err-place-clause-whole : goal.returns-in_err-place-clause-whole
+returns-in_err-place-clause-whole g c = λ told agrees first s path t items is holds.
+    handed_on c.from_residual.result c.in_err-place.field-0.0 (λ _. ⊥) c.from_residual.ensures.1
+    (c.in_err-place.ensures.whole told first s path t is (first_page _ _ _ first s t items holds))
+
+pub returns-in_default-clause-shown : goal.returns-in_default-clause-shown
+returns-in_default-clause-shown g c = λ first s path t is. c.bad_leaf.ensures.shown first s path t is (c.in_ok-place.ensures.place first s path t is)
+
+pub returns-in_default-clause-whole : goal.returns-in_default-clause-whole
+returns-in_default-clause-whole g c = λ told agrees first s path t items is holds.
+    absurd (never_bad (bytes_of (g.F.Pages.files c.args.folder.now (Segment c.args.head.now.id))) c.args.head.now c.args.node.now c.in_ok-place.place first s
+    path t items is (c.in_ok-place.ensures.place first s path t is) holds
+    (λ len own at place here.
+    c.in_default.ensures.none (g.F.Pages.files c.args.folder.now) first s path len own (c.in_ok-place.ensures.agrees told agrees) at place items here))
+
+pub returns-clause-hits : goal.returns-clause-hits
+returns-clause-hits g c = λ told agrees first s path t is has all.
+    taken_hits (bytes_of (g.F.Pages.files c.args.folder.now (Segment c.args.head.now.id))) c.args.head.now has c.args.live.now c.args.node.now
+    c.in_ok-place.place first s path t c.in-Some.leaf c.args.hits.now.items c.push_live.new.hits.items
+    is (c.in_ok-place.ensures.place first s path t is) all
+    (λ len own at place. c.in-Some.ensures.some (g.F.Pages.files c.args.folder.now) first s path len own (c.in_ok-place.ensures.agrees told agrees) at place)
+    c.in_ok-push_live.ensures.hits

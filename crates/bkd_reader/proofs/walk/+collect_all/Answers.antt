@@ -1,0 +1,70 @@
+use Rattle.std.proofs.Common.{◌+◌, Err, true, sym, subst}
+use Rattle.std.specs.Prelude.{OnOk}
+use Rattle.outer_io.specs.Files.{bytes_of}
+use Rattle.outer_io.specs.declared.file_name.FileName.TheVariants.{Segment}
+use Rattle.inner_pack.specs.Trees.{leaf_count}
+use Rattle.inner_pack.specs.Bodies.{right_begin}
+use Rattle.page_cache.specs.Cache.{Agrees}
+use Rattle.segment_file.specs.Segments.{HoldsTree}
+use Rattle.segment_file.specs.Damages.{IsLeafDamage}
+use Rattle.bkd_reader.specs.Hits.{AreHits, Appends}
+use Rattle.bkd_reader.proofs.Trees.{handed_on, on_ok, left_damage, right_damage, held, left_root, right_root, children_all, children_hits}
+use Rattle.bkd_reader.proofs.walk.+collect_all.Goals as goal
+
+pub returns-in_err-collect_all-in-Some-clause-shown : goal.returns-in_err-collect_all-in-Some-clause-shown
+returns-in_err-collect_all-in-Some-clause-shown g t c = λ first s path t' is.
+    let k = c.in-Some.ensures.some first s path t' is in
+    handed_on c.from_residual.result c.in_err-collect_all-in-Some.field-0.0 (IsLeafDamage g.row.D c.args.head.now first s t') c.from_residual.ensures.1
+    (left_damage {T = Unit {0}} (Err c.in_err-collect_all-in-Some.field-0.0) c.args.head.now c.in-Some.left c.in-Some.right first s path t' k
+    (c.in_err-collect_all-in-Some.ensures.shown first s _ k.l k.left_is))
+
+pub returns-in_err-collect_all-in-Some-clause-whole : goal.returns-in_err-collect_all-in-Some-clause-whole
+returns-in_err-collect_all-in-Some-clause-whole g t c = λ told agrees first s path t' items is holds.
+    let k = c.in-Some.ensures.some first s path t' is in
+    let j = held (bytes_of (g.F.Pages.files c.args.folder.now (Segment c.args.head.now.id))) c.args.head.now c.in-Some.left c.in-Some.right first s path t' k
+    items holds in
+    handed_on c.from_residual.result c.in_err-collect_all-in-Some.field-0.0 (λ _. ⊥) c.from_residual.ensures.1
+    (c.in_err-collect_all-in-Some.ensures.whole told agrees first s _ k.l j.front_items k.left_is j.front_holds)
+
+pub returns-in_ok-collect_all-in-Some-clause-hits : goal.returns-in_ok-collect_all-in-Some-clause-hits
+returns-in_ok-collect_all-in-Some-clause-hits g t c = λ told agrees first s path t' root has all.
+    let k = c.in-Some.ensures.some first s path t' root.is in
+    let alls = children_all has true c.in-Some.left c.in-Some.right first s path t' k root.cells all in
+    let same = c.collect_all.ensures.files told in
+    let agree = subst (λ f. Agrees f c.collect_all.new.cache) (sym same) (c.collect_all.ensures.agrees told agrees) in
+    let front =
+    c.in_ok-collect_all-in-Some.ensures.hits told agrees first s _ k.l (left_root c.in-Some.left c.in-Some.right first s path t' k root.cells) has alls.0 in
+    let back = c.collect_all-in-Some.ensures.hits told agree (first + leaf_count k.l) (right_begin s k.l k.r) _ k.r
+    (right_root c.in-Some.left c.in-Some.right first s path t' k root.cells) has alls.1 in
+    on_ok (Appends c.collect_all.new.hits.items c.collect_all-in-Some.new.hits.items
+    (AreHits g.row.D (bytes_of (g.F.Pages.files c.args.folder.now (Segment c.args.head.now.id))) c.args.head.now has c.args.live.now (first + leaf_count k.l)
+    (right_begin s k.l k.r) k.r))
+    (Appends c.args.hits.now.items c.collect_all-in-Some.new.hits.items
+    (AreHits g.row.D (bytes_of (g.F.Pages.files c.args.folder.now (Segment c.args.head.now.id))) c.args.head.now has c.args.live.now first s t'))
+    c.collect_all-in-Some.result
+    (λ b. children_hits (bytes_of (g.F.Pages.files c.args.folder.now (Segment c.args.head.now.id))) c.args.head.now has c.args.live.now c.in-Some.left
+    c.in-Some.right first s path t' k c.args.hits.now.items c.collect_all.new.hits.items c.collect_all-in-Some.new.hits.items front b)
+    (subst (λ f. OnOk c.collect_all-in-Some.result
+    (Appends c.collect_all.new.hits.items c.collect_all-in-Some.new.hits.items
+    (AreHits g.row.D (bytes_of (f (Segment c.args.head.now.id))) c.args.head.now has c.args.live.now (first + leaf_count k.l) (right_begin s k.l k.r) k.r)))
+    same back)
+
+pub returns-in_ok-collect_all-in-Some-clause-shown : goal.returns-in_ok-collect_all-in-Some-clause-shown
+returns-in_ok-collect_all-in-Some-clause-shown g t c = λ first s path t' is.
+    let k = c.in-Some.ensures.some first s path t' is in
+    right_damage c.collect_all-in-Some.result c.args.head.now c.in-Some.left c.in-Some.right first s path t' k
+    (c.collect_all-in-Some.ensures.shown (first + leaf_count k.l) (right_begin s k.l k.r) _ k.r k.right_is)
+
+pub returns-in_ok-collect_all-in-Some-clause-whole : goal.returns-in_ok-collect_all-in-Some-clause-whole
+returns-in_ok-collect_all-in-Some-clause-whole g t c = λ told agrees first s path t' items is holds.
+    let k = c.in-Some.ensures.some first s path t' is in
+    let same = c.collect_all.ensures.files told in
+    let agree = subst (λ f. Agrees f c.collect_all.new.cache) (sym same) (c.collect_all.ensures.agrees told agrees) in
+    let j = held (bytes_of (g.F.Pages.files c.args.folder.now (Segment c.args.head.now.id))) c.args.head.now c.in-Some.left c.in-Some.right first s path t' k
+    items holds in
+    c.collect_all-in-Some.ensures.whole told agree (first + leaf_count k.l) (right_begin s k.l k.r) _ k.r j.back_items k.right_is
+    (subst (λ f. HoldsTree g.row.D (bytes_of (f (Segment c.args.head.now.id))) c.args.head.now (first + leaf_count k.l) (right_begin s k.l k.r) k.r
+    j.back_items) (sym same) j.back_holds)
+
+pub returns-in-None-clause-hits : goal.returns-in-None-clause-hits
+returns-in-None-clause-hits g t c = λ told agrees first s path t' root has all. c.collect_leaf.ensures.hits told agrees first s path t' root.is has all

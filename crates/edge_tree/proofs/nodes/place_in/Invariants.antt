@@ -1,7 +1,0 @@
-use Rattle.std.proofs.Common.{map, take}
-use Rattle.ring_parity.specs.Seen.{ends_of}
-use Rattle.edge_tree.specs.Outlines.{IsPlace}
-use Rattle.edge_tree.proofs.nodes.place_in.Given as goal
-
-abbrev pub invariant-loop-edge : goal.invariant-loop-edge
-invariant-loop-edge l = IsPlace (map ends_of (take l.edge-index l.edges)) l.p.c l.on l.odd

@@ -1,0 +1,45 @@
+-- The set afterwards is the one before with a document more.
+use Rattle.std.proofs.Common.{◌≡◌, ◌+◌, ◌≤◌, ◌^◌, length, lit<, sym, ap, subst, ◌∙◌}
+use Rattle.std.proofs.lemmas.List.{length-map}
+use Rattle.segment_set.specs.Sets.{IsWell, SetData}
+use Rattle.segment_set.proofs.Changed.{set_with_is}
+use Rattle.segment_set.proofs.DocumentEntries.{well_with}
+use Rattle.segment_set.proofs.Held.{few_numbers}
+use Rattle.segment_set.proofs.set.SegmentSet.push.Goals as goal
+
+pub put-requires : goal.put-requires
+put-requires g c = (
+  lit< tt,
+  (
+    lit< tt,
+    (
+      c.self.invariant.few_dims,
+      (
+        subst (λ (t : SetData). length t.buffer + length c.args.points.now ≤ 16384) (sym c.self.view_is) c.requires.room,
+        few_numbers c.self.inside.buffer.next c.self.inside.given c.self.invariant.numbered c.self.invariant.most_given,
+      ),
+    ),
+  ),
+)
+
+pub invariant_of-self-2 : goal.invariant_of-self-2
+invariant_of-self-2 g c =
+    let s : SetData = record {
+      leaf = c.self.inside.leaf;
+      next = c.self.inside.buffer.next;
+      given = c.self.inside.given;
+      names = c.self.inside.names;
+      parts = c.self.inside.segments;
+      buffer = c.self.inside.buffer.items;
+      snapshots = c.self.inside.snapshots.items;
+      begun = c.self.inside.begun;
+      cache = c.self.inside.cache;
+      saved = c.self.inside.saved;
+    } in
+    let many : length c.as_slice.result.now ≡ length c.args.points.now = sym (length-map c.as_slice.result.now _) ∙ ap length c.as_slice.ensures.value in
+    subst (IsWell g.row.D)
+    (sym (set_with_is c.args.points.now s c.put.new.self.next (s.given + length c.as_slice.result.now) c.put.new.self.items c.in_ok-number.ensures.next
+    (ap (λ n. s.given + n) many) c.in_ok-number.ensures.items))
+    (well_with g.row.D s c.args.points.now c.as_slice.ensures.points
+    (subst (λ (t : SetData). length t.buffer + length c.args.points.now ≤ 16384) (sym c.self.view_is) c.requires.room)
+    (subst (λ (t : SetData). t.given + length c.args.points.now ≤ 2 ^ 24) (sym c.self.view_is) c.requires.given) c.self.invariant)
