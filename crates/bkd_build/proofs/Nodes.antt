@@ -156,7 +156,7 @@ node_adds D leaf d x items ls rs before middle after p split left right = record
 -- from halves that were built apart
 pub halves_add : (D leaf d : ℕ) (x : ℤ) (items ls rs : List Item) (first second whole : Pieces) → IsPermutation items (ls ++ rs) → IsCanonSplit D leaf d x ls rs
     → AddsPieces D leaf ls no_pieces first → AddsPieces D leaf rs no_pieces second → whole ≡ joined_pieces (joined_pieces (one_node d x) first) second
-        → AddsPieces D leaf items no_pieces whole
+    → AddsPieces D leaf items no_pieces whole
 halves_add D leaf d x items ls rs first second whole p split left right is = record {
   tree = Split d x left.tree right.tree;
   canon = (split-IsPermutation D leaf d x ls rs (entries_of left.tree) (entries_of right.tree) left.same right.same split, left.canon, right.canon);
@@ -164,7 +164,7 @@ halves_add D leaf d x items ls rs first second whole p split left right is = rec
       (IsPermutation-append ls (entries_of left.tree) rs (entries_of right.tree) left.same right.same);
   is = is ∙ ap (λ (ps : Pieces). joined_pieces (joined_pieces (one_node d x) ps) second) left.is
       ∙ ap (λ (ps : Pieces). joined_pieces (joined_pieces (one_node d x) (pieces_of D left.tree)) ps) right.is
-          ∙ pieces_joined D d x left.tree right.tree no_pieces;
+      ∙ pieces_joined D d x left.tree right.tree no_pieces;
 }
 
 -- ---- a leaf

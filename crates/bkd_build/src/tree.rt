@@ -93,7 +93,7 @@ fn over<const D: usize>(
     requires { (1 ≤ D) × (D ≤ 8) }
     ensures { IfOk result
         (λ part. held_pieces part ≡ joined_pieces
-            (joined_pieces (one_node node.dimension node.at) (held_pieces left.entry)) (held_pieces right.entry)) }
+        (joined_pieces (one_node node.dimension node.at) (held_pieces left.entry)) (held_pieces right.entry)) }
 {
     let mut part = BuiltSubtree::with_room(alloc, left.leaves.len() + right.leaves.len())?;
     part.push_node(node)?;
@@ -140,7 +140,10 @@ fn both<const D: usize, R: Threads + Sync, G: Gate>(
     leaf: usize,
     forks: u8,
     gate: &G,
-) -> (Result<BuiltSubtree<D>, Memory>, Result<BuiltSubtree<D>, Memory>)
+) -> (
+    Result<BuiltSubtree<D>, Memory>,
+    Result<BuiltSubtree<D>, Memory>,
+)
     requires dims { (1 ≤ D) × (D ≤ 8) }
     requires leaf { (1 ≤ leaf) × (leaf ≤ leaf_limit D) }
     requires forks { 0 < forks }

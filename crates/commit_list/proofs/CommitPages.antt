@@ -75,7 +75,7 @@ begins_none payload len none c body rest h e =
     let front : take 4064 (padded_body body) ≡ payload = ap (λ (bytes : List ℕ). take 4064 bytes) (sym e) ∙ take_at payload rest 4064 len in
     none (length body)
     (subst (λ (bytes : List ℕ). BeginsBody bytes (length body)) front
-        (begins-front (padded_body body) 4064 (length body) (omega arith) (filled_begins body c h)))
+    (begins-front (padded_body body) 4064 (length body) (omega arith) (filled_begins body c h)))
 
 -- nor do payloads that are as many as their head asks for and are those of no body
 pub filled_none : (payloads : List ℕ) (n : ℕ) → BeginsBody payloads n → length payloads ≡ 4064 * pages_for n → HasNoFilled payloads → IsNoCommitBody payloads

@@ -188,7 +188,7 @@ module _ (D : ℕ) (files : Files) (parts : List LiveSegment) (s : Scope) (numbe
       → TellsCount s number bytes t
   line_to ask t reads (i, is, h) =
       subst (λ (r : CountReading). TellsReading s number r t) (sym (reads_as (Says ask) reads))
-          (subst (λ (o : State). TellsIn o s.parts number ask t) (sym is) h)
+      (subst (λ (o : State). TellsIn o s.parts number ask t) (sym is) h)
 
   pub line_from : (ask : Ask) (t : Told) → read_counts (Some D) bytes ≡ Says ask → TellsCount s number bytes t
       → InScope s (λ i u. TellsOn i s.parts number ask u) t

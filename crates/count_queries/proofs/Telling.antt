@@ -38,7 +38,7 @@ module _ (D : ℕ) (files : Files) (parts : List LiveSegment) (s : Scope) (befor
     opened_in : (bounds : Region) (test : Region → Bool) (n : ℕ) → OpensLeaves D bounds test parts n → OpensLeaves e.index.dims bounds test s.parts n
     opened_in bounds test n opened =
         subst (λ (ps : List LiveSegment). OpensLeaves e.index.dims bounds test ps n) (sym e.parts_are)
-            (subst (λ m. OpensLeaves m bounds test parts n) (sym e.dims) opened)
+        (subst (λ m. OpensLeaves m bounds test parts n) (sym e.dims) opened)
 
     pub points_told : (bounds : Region) (n : ℕ) → n ≡ number_in bounds (live_in_parts e.contents parts ++ none) → after ≡ before ++ points_text n
         → IsTold (λ t. InScope s (λ i u. TellsPoints i s.parts bounds u) t) before after false

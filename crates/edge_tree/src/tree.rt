@@ -8,7 +8,7 @@ ghost use Rattle.ring_parity.specs.Seen.{ends_of};
 ghost use Rattle.edge_tree.specs.Outlines.{IsLocation, HasPosition};
 ghost use Rattle.edge_tree.specs.Ways.{IsStretch, all_on, AreNear};
 
-use crate::nodes::{Node, Location, meets_run, nodes_over, location_in};
+use crate::nodes::{Location, Node, location_in, meets_run, nodes_over};
 use crate::outline::Bounds;
 use crate::runs::runs_over;
 use crate::stretch::Stretch;

@@ -64,7 +64,7 @@ followed_by a b = record { text = a.text ++ b.text; refused = a.refused + b.refu
 unfoldable pub shape_text : (tested touched hits : ℕ) → List ℕ
 shape_text tested touched hits =
     text_line (codes "tested " ++ decimal tested ++ codes " touched " ++ decimal touched ++ codes " hits " ++ decimal
-        hits)
+    hits)
 
 unfoldable pub near_text : (touched near : ℕ) → List ℕ
 near_text touched near = text_line (codes "touched " ++ decimal touched ++ codes " near " ++ decimal near)

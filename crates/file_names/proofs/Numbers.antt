@@ -96,7 +96,7 @@ pub greatest_number : (series : Series) (names : List FileName) (r : Option ℕ)
     → MatchOption r ((q : ℕ) → is_named names (name_in series q) ≡ false) (IsGreatestTaken (λ q. is_named names (name_in series q)))
 greatest_number series names r is =
     subst (λ (o : Option ℕ). MatchOption o ((q : ℕ) → is_named names (name_in series q) ≡ false) (IsGreatestTaken (λ q. is_named names (name_in series q))))
-        (sym is)
+    (sym is)
     (go (numbers_in series names) (λ q. named_number series names q))
   where
     go : (xs : List ℕ) → ((q : ℕ) → is_named names (name_in series q) ≡ list_any (eqb q) xs)

@@ -168,7 +168,7 @@ module _ (files : Files) (c : CommitData) (held : List SegmentData) (findings : 
 pub gather_all : (T : Type 0) (D : ℕ) (files : Files) (c : CommitData) (parts : List LiveSegment) (findings : List Finding) → T → c.dims ≡ D
     → IsCommitFile (bytes_of (files Commit)) c
     → AllZip (IsOpened T files c) c.listed parts → ((number : ℕ) → IsPlacedOnce c.next (lives_of parts) number)
-        → (all : AllZip (IsFinding D files) parts findings)
+    → (all : AllZip (IsFinding D files) parts findings)
     → AreGathered files c (gathered D files parts findings all) findings
 gather_all T D files c parts findings t dims says opened placed all = record {
   says = says;

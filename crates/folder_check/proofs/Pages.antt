@@ -91,7 +91,7 @@ pages_upto files parts i p at =
     let back = drop (i + 1) parts in
     let joined = ap (λ (ps : List LiveSegment). sum_by (leaf_pages files) (heads_of ps)) (sym (take-append-drop (i + 1) parts))
     ∙ ap (sum_by (leaf_pages files)) (map-append (λ (q : LiveSegment). q.head) front back)
-        ∙ sum_by-append (leaf_pages files) (heads_of front) (heads_of back) in
+    ∙ sum_by-append (leaf_pages files) (heads_of front) (heads_of back) in
     omega (arith, joined, pages_more files parts i p at)
 
 -- what is read of the same files

@@ -137,7 +137,7 @@ makes_reads told i a b r seen guards files parts cause whole faithful evident = 
   faithful = faithful;
   traced = λ t trusts.
       subst (λ (ps : List LiveSegment). AreTraced 2 b.files ps) (sym parts)
-          (subst (λ (f : Files). AreTraced 2 f a.session.set.parts) (sym (files t)) trusts.traced);
+      (subst (λ (f : Files). AreTraced 2 f a.session.set.parts) (sym (files t)) trusts.traced);
   evident = on_evident_less (told × IsFaithful 2 a.files a.session.set) (told × Trusts 2 a.files a.session) b.files r (λ h. (h.0, h.1.faithful)) evident;
 }
 

@@ -13,7 +13,7 @@ pub fn put_summary(text: &mut Vec<u8>, s: &Summary) -> Result<(), AllocError>
         (text.new.items ≡ text.old.items ++
         (text_line (codes "docs " ++ decimal s.now.docs ++ codes " live " ++ decimal s.now.live)
         ++ text_line (codes "box hits " ++ decimal s.now.hits) ++ text_line
-            (codes "nearest sum " ++ decimal s.now.near))) }
+        (codes "nearest sum " ++ decimal s.now.near))) }
 {
     let mut digits = Buffer::new();
     text.extend_from_slice(b"docs ")?;

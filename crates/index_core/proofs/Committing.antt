@@ -76,7 +76,7 @@ as_committed D s m t c of empty same stays = record {
   ids = ap (λ (u : SetData). ids_of u.parts) stays.is ∙ ap (λ (u : SetData). ids_of u.parts) same ∙ (saved_ids c.listed s.parts of.lists).0;
   counts =
       ap (λ (u : SetData). map (λ (p : LiveSegment). length p.live.live) u.parts) stays.is
-          ∙ ap (λ (u : SetData). map (λ (p : LiveSegment). length p.live.live) u.parts) same
+      ∙ ap (λ (u : SetData). map (λ (p : LiveSegment). length p.live.live) u.parts) same
       ∙ (saved_ids c.listed s.parts of.lists).1;
   empty = ap (λ (u : SetData). u.buffer) stays.is ∙ ap (λ (u : SetData). u.buffer) same ∙ empty;
 }

@@ -160,7 +160,7 @@ traced_written : (D : ℕ) (f g : Files) (s : SetData) (c : CommitData) → IsCo
 traced_written D f g s c of lives others says = traced_last D g s c of.dims ((guards_written D f g s c of lives others says).last refl)
     (λ p there.
     let m =
-        partner_of (λ (l : Listed) (q : LiveSegment). (l.segment ≡ q.head.id) × (l.entries ≡ q.head.entries) × (l.live ≡ length q.live.live)) c.listed s.parts
+    partner_of (λ (l : Listed) (q : LiveSegment). (l.segment ≡ q.head.id) × (l.entries ≡ q.head.entries) × (l.live ≡ length q.live.live)) c.listed s.parts
     of.lists p there in (m.0, m.1, m.2.0))
 
 -- it says the one of before

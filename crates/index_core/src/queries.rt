@@ -47,7 +47,7 @@ impl<const D: usize> Session<D> {
     ) -> Result<Applied, PageFault>
         ensures applies { Applies D (IsTrue F.told)
             (λ i. query_outcome i (viewed_docs (view_name view.now) i)
-                (λ docs. hits_text (hits (S.has shape.old) docs)))
+            (λ docs. hits_text (hits (S.has shape.old) docs)))
             false
             (record {
               files = F.files folder.old;

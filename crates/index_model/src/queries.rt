@@ -85,7 +85,7 @@ impl<const D: usize> ListSession<D> {
         requires { D ≤ 8 }
         ensures { Does
             (step_on self.now (asks.Nearest (view_name view.now) k at.now.c)) self.now self.now out.old.items
-                out.new.items
+            out.new.items
             result }
     {
         let Some(docs) = self.viewed(view) else {

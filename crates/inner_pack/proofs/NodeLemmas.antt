@@ -103,7 +103,7 @@ leaf_span e b f t n m own is same begin end =
 pub as_leaf : (D form : ℕ) (e : Spot) (path : Region) (references : List (List ℕ)) (bytes places : List ℕ) (t : IndexTree) (n : ℕ) (own : Region)
     → t ≡ Leaf n own
     → IsNodeOf D form 1 (leaf_begin e (first_length t)) path references bytes places t
-        → IsNodeOf D form 1 (leaf_begin e n) path references bytes places (Leaf n own)
+    → IsNodeOf D form 1 (leaf_begin e n) path references bytes places (Leaf n own)
 as_leaf D form e path references bytes places t n own is h =
     subst (λ (u : IndexTree). IsNodeOf D form 1 (leaf_begin e (first_length u)) path references bytes places u) is h
 

@@ -104,7 +104,7 @@ right_part D k s nodes places cells d x l r half p =
           (omega (arith, length-map (cuts_of l) split_of, length-cuts_of l));
       places_are =
           seen_dropped placed_of k places (leaf_spans s (lengths_of l)) (leaf_spans e (lengths_of r))
-              (p.places_are ∙ placed_append s (lengths_of l) (lengths_of r))
+          (p.places_are ∙ placed_append s (lengths_of l) (lengths_of r))
           (omega (arith, length-placed s (lengths_of l), length-lengths_of l)) ∙ sym (placed_first e r all);
       cells_are = seen_dropped region_of k cells (own_cells l) (own_cells r) p.cells_are (omega (arith, length-own_cells l));
     }

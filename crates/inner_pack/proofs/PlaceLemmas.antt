@@ -142,7 +142,7 @@ unfolding places_table right_begin
 places_split s d x l r h =
     ap (flat_map place_bytes)
     (placed_append s (lengths_of l) (lengths_of r)
-        ∙ ap (λ (t : List LeafSpan). leaf_spans s (lengths_of l) ++ t) (sym (placed_first (end_of s (lengths_of l)) r h)))
+    ∙ ap (λ (t : List LeafSpan). leaf_spans s (lengths_of l) ++ t) (sym (placed_first (end_of s (lengths_of l)) r h)))
     ∙ flat_map-append place_bytes (leaf_spans s (lengths_of l)) (leaf_spans (leaf_begin (end_of s (lengths_of l)) (first_length r)) (lengths_of r))
 
 length-placed : (e : Spot) (ns : List ℕ) → length (flat_map place_bytes (leaf_spans e ns)) ≡ 8 * length ns
@@ -156,10 +156,10 @@ length-places s t = length-placed s (lengths_of t) ∙ ap (λ n. 8 * n) (length-
 -- the table begins with the place of the first leaf
 pub places_first : (s : Spot) (t : IndexTree) → s.offset + first_length t ≤ 4064
     → places_table s t
-        ≡ place_bytes (record { at = s; length = first_length t }) ++ flat_map place_bytes (leaf_spans (leaf_end s (first_length t)) (rest_lengths t))
+    ≡ place_bytes (record { at = s; length = first_length t }) ++ flat_map place_bytes (leaf_spans (leaf_end s (first_length t)) (rest_lengths t))
 unfolding places_table
 places_first s t fits =
     ap (λ (ns : List ℕ). flat_map place_bytes (leaf_spans s ns)) (lengths_first t)
     ∙ ap (λ (e : Spot).
-        place_bytes (record { at = e; length = first_length t }) ++ flat_map place_bytes (leaf_spans (leaf_end e (first_length t)) (rest_lengths t)))
+    place_bytes (record { at = e; length = first_length t }) ++ flat_map place_bytes (leaf_spans (leaf_end e (first_length t)) (rest_lengths t)))
     (fitted_here s (first_length t) fits)

@@ -44,7 +44,7 @@ shared_front (x ∷ xs) [] = 0
 unfoldable pub head_bytes : (references : List (List ℕ)) (dimension : ℕ) (at : ℤ) (pages offset left : ℕ) → List ℕ
 head_bytes references d x pages offset left =
     (5 * d + shared_front (key x) (slice_index_or references d [])) ∷ drop
-        (shared_front (key x) (slice_index_or references d []))
+    (shared_front (key x) (slice_index_or references d []))
     (key x) ++ vint pages ++ vint offset ++ vint left
 
 -- in form 3 a leaf's own cell stands behind its length

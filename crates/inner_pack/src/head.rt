@@ -111,7 +111,10 @@ fn take_cut<const D: usize>(b: &[u8]) -> Option<(usize, [u8; 4], &[u8])>
 }
 
 /// The head of an inner node of a packed form.
-fn packed_head<'a, const D: usize>(references: &[[u8; 4]; D], part: NodeBytes<'a>) -> Option<Head<'a>>
+fn packed_head<'a, const D: usize>(
+    references: &[[u8; 4]; D],
+    part: NodeBytes<'a>,
+) -> Option<Head<'a>>
     requires dims { D ≤ 8 }
     ensures found { (form : ℕ) → 2 ≤ form
         → IfSome result (IsNodeHead D form references.now part.entry.bytes.now part.entry.places.now) }

@@ -89,7 +89,7 @@ AreBytes-rests : (D : ℕ) (items : List Item) → AreBytes (rests D items)
 unfolding rests
 AreBytes-rests D items =
     AreBytes-flat_map (rest D items) items
-        (λ x. AreBytes-flat_map (λ d. drop (told_length (sorted_dimension D items) d items) (key_of d x)) (range_with_len 0 D) (λ d.
+    (λ x. AreBytes-flat_map (λ d. drop (told_length (sorted_dimension D items) d items) (key_of d x)) (range_with_len 0 D) (λ d.
     All-drop (λ (n : ℕ). n < 256) (told_length (sorted_dimension D items) d items) (key_of d x) (AreBytes-key_of d x)))
 
 pub raw_keys_are : (D : ℕ) (items : List Item) → 1 ≤ length items → AreRawKeys D (length items) (raw_keys D items)

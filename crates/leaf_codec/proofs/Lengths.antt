@@ -121,7 +121,7 @@ length-rest D items x =
     length-flat_map (λ d. drop (told_length (sorted_dimension D items) d items) (key_of d x)) (range_with_len 0 D)
     ∙ sum_agree _ (λ d. 4 - told_length (sorted_dimension D items) d items) 0 D (λ d low high.
     length-drop (told_length (sorted_dimension D items) d items) (key_of d x)
-        ∙ ap (λ n. n - told_length (sorted_dimension D items) d items) (length-key_of d x))
+    ∙ ap (λ n. n - told_length (sorted_dimension D items) d items) (length-key_of d x))
 
 length-rests : (D : ℕ) (items : List Item) → length (rests D items) ≤ length items * all_left D items
 unfolding rests

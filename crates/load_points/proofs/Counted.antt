@@ -58,7 +58,7 @@ pub matched_is : (D : ℕ) (stored : State) (i : Index) (points : List (List ℤ
 matched_is D None i points e dims = refl
 matched_is D (Some j) i points e dims =
     ap (λ b. cond b (refusal (Some j) (dims_text j.dims)) (points_answer D (Some j) points))
-        (same_dims j.dims D (ap (λ (k : Index). k.dims) (some_inj _ _ e) ∙ dims))
+    (same_dims j.dims D (ap (λ (k : Index). k.dims) (some_inj _ _ e) ∙ dims))
 
 -- and where it has others
 pub matched_not : (D : ℕ) (i : Index) (points : List (List ℤ)) → (D ≡ i.dims → ⊥) → columns_answer D (Some i) points ≡ refusal (Some i) (dims_text i.dims)

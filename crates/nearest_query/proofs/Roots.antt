@@ -65,7 +65,7 @@ root_adds w at i node old new roots lt walk put g =
     let count : node.leaves ≡ (head_at w i).index.leaves = facts.2 ∙ sym (shaped_count (head_at w i).index.leaves r.tree r.has.tree.shaped) in
     let s = waiting_sum at i node old new put g in
     let p : leaf_sum g i node.first node.leaves ≡ leaf_sum g i 0 (head_at w i).index.leaves =
-        ap (λ k. leaf_sum g i k node.leaves) facts.1 ∙ ap (λ k. leaf_sum g i 0 k) count in
+    ap (λ k. leaf_sum g i k node.leaves) facts.1 ∙ ap (λ k. leaf_sum g i 0 k) count in
     omega (arith, s, p)
 
 pub root_totals : {D : ℕ} (w : World) (at : List ℤ) (i : ℕ) (node : NodeAt D) (old new : Front D) → HasRoots D w → i < length w.heads

@@ -97,7 +97,7 @@ children_span w nodes next n left right kids leaves g sum counted =
     let b : right.first ≡ next.first + left.leaves = kids.right_is.first_is ∙ ap (λ k. next.first + k) (sym lc) in
     let c : next.leaves ≡ left.leaves + right.leaves = n.count ∙ sym n.node_count ∙ sym sum in
     let p : leaf_sum g next.segment left.first left.leaves ≡ leaf_sum g next.segment next.first left.leaves =
-        ap (λ k. leaf_sum g next.segment k left.leaves) a in
+    ap (λ k. leaf_sum g next.segment k left.leaves) a in
     let q : leaf_sum g next.segment right.first right.leaves ≡ leaf_sum g next.segment (next.first + left.leaves) right.leaves =
     ap (λ k. leaf_sum g next.segment k right.leaves) b in
     let r : sum_below g next ≡ leaf_sum g next.segment next.first (left.leaves + right.leaves) = ap (λ k. leaf_sum g next.segment next.first k) c in
@@ -212,7 +212,7 @@ pub leaf_counts : {D : ℕ} (w : World) (bound : Option ℕ) (nodes : List (Node
     → sum_below (one_within w bound) next ≡ 1
 leaf_counts {D} w bound nodes next n single in' =
     ap (λ k. leaf_sum (one_within w bound) next.segment next.first k) (n.count ∙ sym n.node_count ∙ single)
-        ∙ span_one (one_within w bound) next.segment next.first
+    ∙ span_one (one_within w bound) next.segment next.first
     ∙ ap (λ b. cond b 1 0)
     (one_leaf_tree
     (λ t. HasLeaves D w next.segment next.first n.spot t → next.dist2.0 ≡ least_dist2 w.at (cell_of n.path t)

@@ -43,7 +43,7 @@ fn fork<'a, const D: usize>(
         → left.now.leaves ≡ leaf_count t }
     ensures most { (g : ℕ → ℕ → ℕ) → sum_by (sum_below g) frontier.new.turns
         ≤ leaf_sum g segment left.now.first left.now.leaves + leaf_sum g segment right.now.first right.now.leaves +
-            sum_by
+        sum_by
         (sum_below g) frontier.old.turns }
 {
     frontier.push(segment, left, at)?;

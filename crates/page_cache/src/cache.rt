@@ -3,7 +3,7 @@
 ghost use Rattle.page_cache.specs.Keys.{AllValid};
 
 use crate::faults::{Memory, PageFault};
-use crate::kept::{KeptPages, add_note, keep, kept_page, remove_pages, remove_page, touch};
+use crate::kept::{KeptPages, add_note, keep, kept_page, remove_page, remove_pages, touch};
 use crate::key::PageKey;
 use crate::note::LeafNote;
 use crate::read::read_page;

@@ -162,4 +162,4 @@ module _ (ps : List (List ℤ)) (q : List ℤ) where
 pub all_ordered : (P : List ℤ → Type 0) (ps : List (List ℤ)) → All P ps → All P (ordered_points ps)
 all_ordered P ps all =
     All-weaker (λ q. Contains (ordered_points ps) q) P (λ q there. All-contains P ps q all (was_there ps q there)) (ordered_points ps)
-        (All-contains_itself (ordered_points ps))
+    (All-contains_itself (ordered_points ps))

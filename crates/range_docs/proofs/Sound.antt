@@ -220,7 +220,7 @@ add_sound r dims words two =
     by : (whole few : Bool) → (length words % dims == 0) ≡ whole
         → IsSound r (if_ranges r
         (cond (whole && few)
-            (on_success (points_of (length words / dims) dims (values_of coordinate 2 words)) (λ points. Says (asks.Add (ordered_points points))))
+        (on_success (points_of (length words / dims) dims (values_of coordinate 2 words)) (λ points. Says (asks.Add (ordered_points points))))
         (Fails line.Words)))
     by true true e = added_sound r (length words / dims) dims (values_of coordinate 2 words) two (λ xs is.
         let values = are_values 2 words xs is in

@@ -43,7 +43,7 @@ as_committed : (s : SetData) (c : CommitData) → OrNot (IsAsCommitted s c)
 as_committed s c = or_as
     (λ (h : ((s.next ≡ c.next) × (s.given ≡ c.given))
     × ((ids_of s.parts ≡ map (λ (l : Listed). l.segment) c.listed)
-        × (map (λ (p : LiveSegment). length p.live.live) s.parts ≡ map (λ (l : Listed). l.live) c.listed))
+    × (map (λ (p : LiveSegment). length p.live.live) s.parts ≡ map (λ (l : Listed). l.live) c.listed))
     × (s.buffer ≡ [])).
     record { next = h.0.0; given = h.0.1; ids = h.1.0; counts = h.1.1; empty = h.2 })
     (λ (a : IsAsCommitted s c). ((a.next, a.given), (a.ids, a.counts), a.empty))

@@ -161,7 +161,7 @@ module _ {told : Type 0} (lang : Language) (from : ScriptPlace) (files : Files) 
   first_stops : {T : Type 0} (bytes : List ℕ) (rest : List (List ℕ)) → ls ≡ bytes ∷ rest → (e : Stop)
       → IsErrOf {T = T} (Err e) stop.SinkFault ⊎ IsErrOf {T = T} (Err e) stop.Memory
       → (told → IsSentPart (answer lang line None bytes).text written new e)
-          → EndsLines (meaning lang) told (place_off line refused ls written) files new (Err e)
+      → EndsLines (meaning lang) told (place_off line refused ls written) files new (Err e)
   first_stops bytes rest next stop.SinkFault cause sent = breaks_here (meaning lang) (place_off line refused ls written) files new bytes rest next sent none
   first_stops bytes rest next stop.Memory cause sent = stops_here (meaning lang) (place_off line refused ls written) files new sent (inl none)
   first_stops bytes rest next stop.FolderFault cause sent = absurd (elim cause as (λ _. ⊥) [ inl e ↦ cc | inr e ↦ cc ])

@@ -31,7 +31,7 @@ step_on_ranges test state (Asks request) = step state request
 step_on_ranges test None (Finds question view query) = Done None []
 step_on_ranges test (Some i) (Finds question view query) =
     query_outcome i (viewed_docs view i)
-        (λ docs. hits_text (hits (λ p. test question (range_of (i.dims / 2) p) query) docs))
+    (λ docs. hits_text (hits (λ p. test question (range_of (i.dims / 2) p) query) docs))
 
 abbrev pub range_answer_of : Test → ℕ → State → RangeReading → Answer
 range_answer_of test line state (Ok request) = answer_to line state (step_on_ranges test state request)

@@ -67,7 +67,7 @@ pub index_begins : (payload pages rest : List ℕ) (f : HeadFields) (dims said :
 index_begins payload pages rest f dims said head has fits h e =
     let g = fields_of dims head said in
     let long : length payload ≡ length (padded_body (fields_bytes g)) =
-        ap (λ (l : List ℕ). length l) has.is ∙ first_length (fields_said f) ∙ sym (first_length g) in
+    ap (λ (l : List ℕ). length l) has.is ∙ first_length (fields_said f) ∙ sym (first_length g) in
     let whole : payload ++ (pages ++ rest) ≡ padded_body (fields_bytes g) ++ padded_body head.index.bytes = sym (append_assoc payload pages rest) ∙ e in
     record {
       same = fields_same payload f g has (head_fields dims head said h.ranges fits)
@@ -257,7 +257,7 @@ spells_head D id bytes payload f index root tree fits dims has i tree_is page fr
       pages = pages_from_first (Segment id) bytes (pages_for (length index.bytes)) page (subst (λ (n : ℕ). ArePages (Segment id) bytes 1 (1 + n)) count pages);
       first =
           sym front ∙ has.is
-              ∙ ap (λ (g : Fields). padded_body (fields_bytes g)) (said_fields D id f (payloads_of bytes 1 (pages_for f.index_length)) index dims i);
+          ∙ ap (λ (g : Fields). padded_body (fields_bytes g)) (said_fields D id f (payloads_of bytes 1 (pages_for f.index_length)) index dims i);
       index = ap (λ (n : ℕ). payloads_of bytes 1 n) (sym count) ∙ i.payloads_are;
     }
 

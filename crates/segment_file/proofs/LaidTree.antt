@@ -79,7 +79,7 @@ are_laid pre current payloads base e [] front_is offset some few lengths same = 
   all = tt;
   total =
       (let full = filled_length current in
-          omega (arith, full, front_is, some, few, ap (λ (l : List ℕ). length l) same, length-append pre (padded_body current)));
+      omega (arith, full, front_is, some, few, ap (λ (l : List ℕ). length l) same, length-append pre (padded_body current)));
 }
 are_laid pre current payloads base e (leaf ∷ leaves) front_is offset some few lengths same =
     let n = head_length (length leaf) (map length leaves) lengths in
@@ -92,14 +92,14 @@ are_laid pre current payloads base e (leaf ∷ leaves) front_is offset some few 
           same ∙ ap (λ (l : List ℕ). pre ++ l) (laid_next current leaf leaves over) ∙ sym (append_assoc pre (padded_body current) (laid_pages leaf leaves)) in
           let begin = laid_begins leaf leaves in
           let len : length (pre ++ padded_body current) ≡ 4064 * (base + (e.page + 1)) =
-              omega (arith, length-append pre (padded_body current), full, front_is) in
+          omega (arith, length-append pre (padded_body current), full, front_is) in
           add_first payloads base e s leaf leaves (fitted_next e (length leaf) (omega arith))
           (record {
             here = stand (pre ++ padded_body current) leaf begin.0 payloads (4064 * (base + (e.page + 1)) + 0) (omega (arith, len))
                 (next ∙ ap (λ (l : List ℕ). (pre ++ padded_body current) ++ l) begin.1);
           })
           (are_laid (pre ++ padded_body current) leaf payloads base (record { page = e.page + 1; offset = 0 + length leaf }) leaves len (omega arith) n.0 n.1
-              others
+          others
           next)
       | inr fits ↦
           let next : payloads ≡ pre ++ laid_pages (current ++ leaf) leaves = same ∙ ap (λ (l : List ℕ). pre ++ l) (laid_here current leaf leaves fits) in

@@ -25,7 +25,7 @@ more_pages name n payloads old body bytes p a =
     let len = p.len in
     let more = a.len in
     let back : payloads_of (old ++ bytes) n (pages_for (length body)) ≡ padded_body body =
-        payloads_back old bytes n (pages_for (length body)) p.len ∙ a.payload in
+    payloads_back old bytes n (pages_for (length body)) p.len ∙ a.payload in
     let behind_is : payloads_of (old ++ bytes) (0 + n) (pages_for (length body)) ≡ padded_body body =
     ap (λ (m : ℕ). payloads_of (old ++ bytes) m (pages_for (length body))) (zero-add n) ∙ back in
     let front : payloads_of (old ++ bytes) 0 n ≡ payloads = payloads_stay name 0 n old bytes (λ i from below. p.pages i from (omega arith)) ∙ p.payloads_are in

@@ -123,7 +123,7 @@ written D id leaf entries index leaves items bytes count f fits ranges fields na
     let one = page_length f in
     let more = filled_length index.bytes in
     let pre_is : length pre ≡ 4064 * (1 + index_pages head) =
-        omega (arith, length-append (padded_body (fields_bytes f)) (padded_body index.bytes), one, more) in
+    omega (arith, length-append (padded_body (fields_bytes f)) (padded_body index.bytes), one, more) in
     let laid_is = leaves_laid pre (pre ++ laid_pages [] leaves) (1 + index_pages head) leaves t pre_is same lengths refl in
     let total = laid_is.total in
     let end_is : (end_of front (map length leaves)).page ≡ (end_of front (lengths_of t)).page = ap (λ (ns : List ℕ). (end_of front ns).page) same in
@@ -143,7 +143,7 @@ written D id leaf entries index leaves items bytes count f fits ranges fields na
     let first_is : payloads_of bytes 0 1 ≡ padded_body (fields_bytes f) =
     fronts_equal (payloads_of bytes 0 1) (padded_body (fields_bytes f)) (I ++ L) (padded_body index.bytes ++ laid_pages [] leaves) (omega arith) parts in
     let behind_is =
-        backs_equal (payloads_of bytes 0 1) (padded_body (fields_bytes f)) (I ++ L) (padded_body index.bytes ++ laid_pages [] leaves) (omega arith) parts in
+    backs_equal (payloads_of bytes 0 1) (padded_body (fields_bytes f)) (I ++ L) (padded_body index.bytes ++ laid_pages [] leaves) (omega arith) parts in
     let index_is : I ≡ padded_body index.bytes = fronts_equal I (padded_body index.bytes) L (laid_pages [] leaves) (omega arith) behind_is in
     let room = first_fits t lengths in
     record {

@@ -34,7 +34,7 @@ counts_lives (p ∷ ps) = ap (λ ns. length p.live.live ∷ ns) (counts_lives ps
 pub sets_parts : (parts : List LiveSegment) → All IsLiveSet (lives_of parts) → All (λ (p : LiveSegment). IsLiveSet p.live) parts
 sets_parts parts all k p lt =
     subst IsLiveSet (get_or-map (λ (q : LiveSegment). q.live) parts k p p.live lt)
-        (all k p.live (omega (arith, lt, length-map parts (λ (q : LiveSegment). q.live))))
+    (all k p.live (omega (arith, lt, length-map parts (λ (q : LiveSegment). q.live))))
 
 -- ---- a set and a commit
 

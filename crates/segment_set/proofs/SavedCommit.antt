@@ -55,7 +55,7 @@ is_commit D s n listed well ascend all = record {
   segments = record {
     rising =
         subst IsStrictlyIncreasing (zip_same (IsLine n) (λ (l : Listed). l.segment) (λ (p : LiveSegment). p.head.id) (λ l p r. sym r.0) listed s.parts all)
-            ascend;
+        ascend;
     each = zip_left (IsLine n) (IsListed n) listed s.parts (λ l p r. r.1) all;
   };
 }
@@ -73,7 +73,7 @@ listed_named told before files names c parts named all (Segment id) (l, there, i
     segments = zip_left (λ (k : Listed) (p : LiveSegment). is_named names.names (Segment k.segment) ≡ true)
         (λ (k : Listed). is_named names.names (Segment k.segment) ≡ true) c.listed parts (λ k p h. h)
         (zip_beside (IsSaved told before names files) (λ (k : Listed) (p : LiveSegment). is_named names.names (Segment k.segment) ≡ true) (IsNamed names)
-            c.listed
+        c.listed
         parts
         (λ k p saved is. ap (λ n. is_named names.names (Segment n)) saved.segment ∙ is) named all)
 listed_named told before files names c parts named all (Live id generation) (l, there, is, at) =

@@ -140,7 +140,7 @@ stays_saved s t alone = record {
   live = λ number live.
       subst (λ (xs : List Item). cond (list_any (λ (p : LiveSegment). is_live p.live number) s.parts) true (has_entry number xs) ≡ true) alone.buffer
       (subst (λ (ps : List LiveSegment). cond (list_any (λ (p : LiveSegment). is_live p.live number) ps) true (has_entry number t.buffer) ≡ true) alone.parts
-          live);
+      live);
 }
 
 -- the segments are the same, so those whose files weren't named before are canonical still
@@ -169,7 +169,7 @@ pub all_written : (told : Type 0) (before after : NameList) (files : Files) (lis
     → AllZip (λ (l : Listed) (p : LiveSegment). IsLiveFile l.segment l.generation (bytes_of (files (Live l.segment l.generation))) p.live) listed others
 all_written told before after files listed parts others t same all =
     subst (AllZip (λ (l : Listed) (p : LiveSegment). IsLiveFile l.segment l.generation (bytes_of (files (Live l.segment l.generation))) p.live) listed)
-        (sym same)
+    (sym same)
     (zip_moved (IsSaved told before after files)
     (λ (l : Listed) (p : LiveSegment). IsLiveFile l.segment l.generation (bytes_of (files (Live l.segment l.generation))) p.live) listed parts
     (λ l p there saved. saved.written t) all)

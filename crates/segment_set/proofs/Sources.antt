@@ -141,4 +141,4 @@ chosen_is which places inputs parts are at =
     at
     ∙ ap (map (λ i. get_or (ids_of parts) i 0)) are
     ∙ ap (λ n. map (λ i. get_or (ids_of parts) i 0) (take 64 (filter (λ i. ltb i n) (each_once which))))
-        (sym (length-map parts (λ (p : LiveSegment). p.head.id)))
+    (sym (length-map parts (λ (p : LiveSegment). p.head.id)))

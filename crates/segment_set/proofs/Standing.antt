@@ -136,7 +136,7 @@ pub alike_begun : (D : ℕ) (names : NameList) (old new : Files) (c d : Contents
 alike_begun D names old new c d parts None same named stands = tt
 alike_begun D names old new c d parts (Some b) same named stands =
     alike_merges D names old new c d (parts_among b.inputs parts) b.built same
-        (named_among names (λ (p : LiveSegment). is_among b.inputs p.head.id) parts named)
+    (named_among names (λ (p : LiveSegment). is_among b.inputs p.head.id) parts named)
     stands
 
 -- over other files, which have the same for each named segment

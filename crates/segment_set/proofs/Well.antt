@@ -69,8 +69,13 @@ fewer_places number m (p ∷ ps) =
     let one = cond_le (is_live (live_set_without number p.live) m) (is_live p.live m)
     (λ e. left_of (is_live p.live m) (not (eqb m number)) (sym (is_live-without p.live number m) ∙ e)) in
     omega (
-        arith, one, places_cons m (live_set_without number p.live) (lives_of (cleared_parts number ps)), places_cons m p.live (lives_of ps), fewer_places number
-            m ps)
+      arith,
+      one,
+      places_cons m (live_set_without number p.live) (lives_of (cleared_parts number ps)),
+      places_cons m p.live (lives_of ps),
+      fewer_places number
+          m ps,
+    )
 
 -- the number is live exactly where it was and is another one
 pub live_but : (number m : ℕ) (s : SetData) → is_live_in (set_but number s) m ≡ (is_live_in s m && not (eqb m number))
@@ -169,7 +174,7 @@ well_but D number s well = record {
   leaf_size = All-map (λ (p : LiveSegment). p.head.leaf ≡ s.leaf) clear s.parts well.leaf_size;
   live_fits = All-map (λ (p : LiveSegment). length p.live.live ≤ p.head.entries) clear s.parts
       (All-weaker (λ (p : LiveSegment). length p.live.live ≤ p.head.entries)
-          (λ (p : LiveSegment). length (live_set_without number p.live).live ≤ p.head.entries)
+      (λ (p : LiveSegment). length (live_set_without number p.live).live ≤ p.head.entries)
       (λ p h. omega (arith, h, length_but number p.live)) s.parts well.live_fits);
   named = All-map (IsNamed s.names) clear s.parts well.named;
   kept = well.kept;

@@ -84,8 +84,12 @@ begun_but number (Some b) = Some (record b { built = built_but number b.built })
 
 abbrev pub set_but : ℕ → SetData → SetData
 set_but number s =
-    record s { parts = cleared_parts number s.parts; buffer = entries_but number s.buffer; begun = begun_but number
-        s.begun }
+    record s {
+      parts = cleared_parts number s.parts;
+      buffer = entries_but number s.buffer;
+      begun = begun_but number
+          s.begun;
+    }
 
 -- the set with one more document, of the next number, which waits in the buffer
 abbrev pub set_with : List (List ℤ) → SetData → SetData

@@ -187,7 +187,7 @@ in_step_but D ids heads kept lives sets a same is =
     subst IsStrictlyIncreasing (sym (ids-but ids (parts_of heads lives)))
     (IsStrictlyIncreasing-filter (λ n. not (is_among ids n)) (ids_of (parts_of heads lives)) (ids_in_step D heads lives a)) in
     let fewer = length-filter_both (λ (p : LiveSegment). is_among ids p.head.id) (λ (p : LiveSegment). not (is_among ids p.head.id)) (λ p. refl)
-        (parts_of heads lives) in
+    (parts_of heads lives) in
     let left = sym (length_parts kept sets same) ∙ ap length is in
     record {
       few_dims = a.few_dims;
@@ -203,10 +203,10 @@ pub cleared_more : (number : ℕ) (sets now : List LiveSet) (i : ℕ) (set : Liv
     → was ≡ list_any (λ s. is_live s number) (take i sets) → (was || is_live set number) ≡ list_any (λ s. is_live s number) (take (i + 1) sets)
 cleared_more number sets now i set was within is read so_far =
     let front : length (map (live_set_without number) (take i sets)) ≡ i =
-        length-map (take i sets) (live_set_without number) ∙ length-take-le i sets (omega (arith, within)) in
+    length-map (take i sets) (live_set_without number) ∙ length-take-le i sets (omega (arith, within)) in
     let same : set ≡ get_or sets i set =
     read ∙ ap (λ (xs : List LiveSet). get_or xs i set)
-        (is ∙ ap (λ (xs : List LiveSet). map (live_set_without number) (take i sets) ++ xs) (drop_more sets i set within))
+    (is ∙ ap (λ (xs : List LiveSet). map (live_set_without number) (take i sets) ++ xs) (drop_more sets i set within))
     ∙ get_or_at (map (live_set_without number) (take i sets)) (get_or sets i set) (drop (i + 1) sets) set i front in
     ap (λ b. b || is_live set number) so_far
     ∙ ap (λ s. list_any (λ (t : LiveSet). is_live t number) (take i sets) || is_live s number) same

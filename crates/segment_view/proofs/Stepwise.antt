@@ -42,7 +42,7 @@ pub leaves_upto : (parts : List LiveSegment) (i : ℕ) (p : LiveSegment) → sli
     → leaves_in (heads_of (take i parts)) + leaves_in (heads_of (p ∷ [])) ≤ leaves_in (heads_of parts)
 leaves_upto parts i p is =
     let whole =
-        ap (λ (ps : List LiveSegment). leaves_in (heads_of ps)) (sym (split_at parts i p is)) ∙ leaves-append (take i parts ++ p ∷ []) (drop (i + 1) parts) in
+    ap (λ (ps : List LiveSegment). leaves_in (heads_of ps)) (sym (split_at parts i p is)) ∙ leaves-append (take i parts ++ p ∷ []) (drop (i + 1) parts) in
     let front = leaves-append (take i parts) (p ∷ []) in
     omega (arith, whole, front)
 
@@ -58,14 +58,14 @@ pub leaves_among_more : (ids : List ℕ) (parts : List LiveSegment) (i : ℕ) (p
     ≡ leaves_in (heads_of (parts_among ids (take i parts))) + leaves_in (heads_of (parts_among ids (p ∷ [])))
 leaves_among_more ids parts i p is =
     ap (λ (ps : List LiveSegment). leaves_in (heads_of ps)) (among_more ids parts i p is)
-        ∙ leaves-append (parts_among ids (take i parts)) (parts_among ids (p ∷ []))
+    ∙ leaves-append (parts_among ids (take i parts)) (parts_among ids (p ∷ []))
 
 pub leaves_among_upto : (ids : List ℕ) (parts : List LiveSegment) (i : ℕ) (p : LiveSegment) → slice_get parts i ≡ Some p
     → leaves_in (heads_of (parts_among ids (take i parts))) + leaves_in (heads_of (parts_among ids (p ∷ []))) ≤ leaves_in (heads_of (parts_among ids parts))
 leaves_among_upto ids parts i p is =
     let whole = ap (λ (ps : List LiveSegment). leaves_in (heads_of (parts_among ids ps))) (sym (split_at parts i p is))
     ∙ ap (λ (ps : List LiveSegment). leaves_in (heads_of ps))
-        (filter-append (λ (q : LiveSegment). is_among ids q.head.id) (take i parts ++ p ∷ []) (drop (i + 1) parts))
+    (filter-append (λ (q : LiveSegment). is_among ids q.head.id) (take i parts ++ p ∷ []) (drop (i + 1) parts))
     ∙ leaves-append (parts_among ids (take i parts ++ p ∷ [])) (parts_among ids (drop (i + 1) parts)) in
     let front = ap (λ (ps : List LiveSegment). leaves_in (heads_of ps)) (filter-append (λ (q : LiveSegment). is_among ids q.head.id) (take i parts) (p ∷ []))
     ∙ leaves-append (parts_among ids (take i parts)) (parts_among ids (p ∷ [])) in
@@ -101,7 +101,7 @@ pub counted_more : (D : ℕ) (count : Head → IndexTree → ℕ) (parts : List 
 counted_more D count parts i p n is all =
     let h = halves D count (heads_of (take i parts)) (p.head ∷ []) n
     (subst (λ (hs : List Head). AreCounted D count hs n)
-        (ap heads_of (parts_more parts i p is) ∙ map-append (λ (q : LiveSegment). q.head) (take i parts) (p ∷ []))
+    (ap heads_of (parts_more parts i p is) ∙ map-append (λ (q : LiveSegment). q.head) (take i parts) (p ∷ []))
     all) in
     record { before = h.left; here = h.right; of_before = h.of_left; of_here = h.of_right; within = omega (arith, h.sum) }
 

@@ -120,7 +120,7 @@ fn append_live<const D: usize, F: Pages>(
         → IsRead D (F.files folder.old) c (live_segment head.now live.now)
         → OnOk result
         (items_of entries.new.items ≡ items_of entries.old.items ++ live_in_parts c
-            (live_segment head.now live.now ∷ [])) }
+        (live_segment head.now live.now ∷ [])) }
     ensures held { IsTrue F.told → Agrees (F.files folder.old) cache.old
         → HasOwnHead D (F.files folder.old) (live_segment head.now live.now)
         → OnOk result

@@ -1,7 +1,8 @@
 //! Segments with their live bits.
 
 use crate::pairs::{
-    clear_in, copy_heads, copy_lives, has_id, is_live_in, place_of, insert_pair, sizes_of, remove_pairs,
+    clear_in, copy_heads, copy_lives, has_id, insert_pair, is_live_in, place_of, remove_pairs,
+    sizes_of,
 };
 use live_bits::LiveBits;
 use segment_file::SegmentHead;

@@ -146,7 +146,7 @@ returns-in_ok-visit-in-Some-clause-tests g t c = λ first s path t' root.
     (c.visit.ensures.tests first s _ k.l (left_root c.in-Some.left c.in-Some.right first s path t' k root.cells)) in
     let right = subst
     (λ f. g.S.Shape.tests c.visit-in-Some.new.shape
-        ≤ g.S.Shape.tests c.visit.new.shape + tested_entries f (count_of c.args.head.now) (first + leaf_count k.l) k.r)
+    ≤ g.S.Shape.tests c.visit.new.shape + tested_entries f (count_of c.args.head.now) (first + leaf_count k.l) k.r)
     (c.visit.ensures.crosses ∙ c.compare.ensures.crosses)
     (c.visit-in-Some.ensures.tests (first + leaf_count k.l) (right_begin s k.l k.r) _ k.r
     (right_root c.in-Some.left c.in-Some.right first s path t' k root.cells)) in
@@ -177,7 +177,7 @@ returns-in_ok-visit-in-Some-clause-reads g t c = λ first s path t' root.
     (λ f. g.F.Pages.reads c.visit-in-Some.new.folder ≤ g.F.Pages.reads c.visit.new.folder + touched_leaves f (g.S.Shape.crosses c.visit.new.shape) k.r)
     (c.visit.ensures.has ∙ c.compare.ensures.has) given_right in
     let right =
-        subst (λ f. g.F.Pages.reads c.visit-in-Some.new.folder ≤ g.F.Pages.reads c.visit.new.folder + touched_leaves (g.S.Shape.has c.args.shape.now) f k.r)
+    subst (λ f. g.F.Pages.reads c.visit-in-Some.new.folder ≤ g.F.Pages.reads c.visit.new.folder + touched_leaves (g.S.Shape.has c.args.shape.now) f k.r)
     (c.visit.ensures.crosses ∙ c.compare.ensures.crosses) has_right in
     let both = ap (touched_leaves (g.S.Shape.has c.args.shape.now) (g.S.Shape.crosses c.args.shape.now)) k.is in
     omega (arith, left, right, both)
@@ -231,7 +231,7 @@ returns-in-None-clause-reads g t c = λ first s path t' root.
     let crossed = subst (λ r. g.S.Shape.crosses c.args.shape.now r ≡ true) (c.cell.ensures first s path t' root.is) c.in-Crosses.ensures.answer in
     let it = only_leaf
     (λ u. g.S.Shape.crosses c.args.shape.now (cell_of path u) ≡ true
-        → 1 ≡ touched_leaves (g.S.Shape.has c.args.shape.now) (g.S.Shape.crosses c.args.shape.now) u) t'
+    → 1 ≡ touched_leaves (g.S.Shape.has c.args.shape.now) (g.S.Shape.crosses c.args.shape.now) u) t'
     (count_at c.args.node.now first s path t' root.is ∙ one)
     (λ len own e. crossed_touched (g.S.Shape.has c.args.shape.now) (g.S.Shape.crosses c.args.shape.now) (count_of c.args.head.now) first len own own refl e)
     crossed in

@@ -84,7 +84,7 @@ pub returns-in_err-put_exists-in-Ok-Some-clause-generates : goal.returns-in_err-
 returns-in_err-put_exists-in-Ok-Some-clause-generates g c = λ told state h.
     let p = err_from_is_err_and c.from_residual.result c.from_residual.ensures.1 in
     ends_untold (g.F.Pages.files c.read_commit.new.folder) state (generate_answer state c.args.docs c.args.seed) c.args.text.now.items
-        c.put_exists.new.text.items
+    c.put_exists.new.text.items
     _ (p.1 ∙ ap (λ (e : PageFault). Err e) p.2)
     (subst (λ (f : Files). IsStored f state) (sym (c.in-Ok-Some.ensures.files told)) h)
 

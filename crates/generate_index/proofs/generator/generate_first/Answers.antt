@@ -34,7 +34,7 @@ pub returns-in_err-summary-clause-generates : goal.returns-in_err-summary-clause
 returns-in_err-summary-clause-generates g c told none =
     let p = err_from_is_err_and c.from_residual-in_err-summary.result c.from_residual-in_err-summary.ensures.1 in
     ends_early _ c.args.seed c.args.docs _ _ (generate_answer None c.args.docs c.args.seed) c.args.text.now.items c.args.text.now.items
-        c.in_err-summary.field-0.0
+    c.in_err-summary.field-0.0
     _ (p.1 ∙ ap (λ (e : PageFault). Err e) p.2) c.in_err-summary.ensures.makes told
     (created c.args.seed c.greatest_leaf.result (g.F.Pages.files c.args.folder.now) c.in_ok-session.session (g.F.Pages.faults c.args.folder.now)
     c.greatest_leaf.ensures (c.documents_deleted.ensures.none c.args.seed 0) (c.documents_added.ensures.none c.args.seed) none

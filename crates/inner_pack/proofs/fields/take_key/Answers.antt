@@ -10,7 +10,7 @@ returns-then-shared_length-prefix-clause-only c k rest long sh e =
     c.if-shared_length-prefix.true
     (c.shared_length.ensures.value
     ∙ ap (λ t. shared_front t c.args.reference) (key_again k c.args.reference c.in_ok-back.back.now c.joined-key.result p sh back.0 c.joined-key.ensures.value)
-        ∙ sh)
+    ∙ sh)
 
 pub returns-clause-only : goal.returns-clause-only
 returns-clause-only c k rest long sh e =

@@ -28,7 +28,7 @@ returns-in_err-span-clause-only g c t h =
     c.in_ok-part.part.places.now t refl refl parts.0 parts.1 (root_node D form n root c.args.b.now t c.requires.form.0 c.requires.form.1 h) in
     absurd (c.in_err-span.ensures.only t
     (said_otherwise D form n front (leaf_begin front (first_length t)) root root refs c.keys_of.result c.in_ok-part.part.bytes.now c.in_ok-part.part.places.now
-        t
+    t
     here refl same node))
 
 pub returns-clause-found : goal.returns-clause-found

@@ -33,7 +33,7 @@ returns-in_err-length-clause-only g c references n own h =
     let packed : 2 ≤ c.args.form = omega (arith, c.requires.form, c.if-form-eq1.false) in
     absurd (c.in_err-length.ensures.only n own
     (to_packed_leaf g.row.D c.args.form 1 (leaf_begin (spot_of c.args.behind) n) (region_of c.args.path.now) references c.args.part.bytes.now
-        c.args.part.places.now
+    c.args.part.places.now
     n own packed h))
 
 pub returns-clause-found : goal.returns-clause-found
@@ -48,5 +48,5 @@ returns-clause-only g c references n own h =
     let packed : 2 ≤ c.args.form = omega (arith, c.requires.form, c.if-form-eq1.false) in
     (c.in_ok-length.ensures.only n own
     (to_packed_leaf g.row.D c.args.form 1 (leaf_begin (spot_of c.args.behind) n) (region_of c.args.path.now) references c.args.part.bytes.now
-        c.args.part.places.now
+    c.args.part.places.now
     n own packed h)).0

@@ -15,7 +15,7 @@ returns-clause-spelled g c =
     shared_key c.shared_length-shared.result c.sortable-key.result (get_or references head.dimension []) head.at c.shared_length-shared.ensures.value is in
     let rest = ap (λ (t : List ℕ). c.put_u8.new.out.items ++ t) (key_rest head.at c.sortable-key.result c.shared_length-shared.result k is same) in
     turned old c.put_vint-3.new.out.items c.reverse_from.new.out.items (head_bytes references head.dimension head.at head.pages head.offset head.left)
-        c.len-from.result
+    c.len-from.result
     (search rules)
     (head_joined references head.dimension head.at head.pages head.offset head.left old c.put_u8.new.out.items c.put_slice.new.out.items
     c.put_vint.new.out.items

@@ -30,5 +30,5 @@ returns-clause-room g c =
 pub returns-clause-more : goal.returns-clause-more
 returns-clause-more g c =
     let longer =
-        length-turned c.args.out.now.items c.reverse_from.new.out.items (leaf_bytes 3 c.args.size (region_of c.args.own.now)) (returns-clause-spelled g c) in
+    length-turned c.args.out.now.items c.reverse_from.new.out.items (leaf_bytes 3 c.args.size (region_of c.args.own.now)) (returns-clause-spelled g c) in
     omega arith

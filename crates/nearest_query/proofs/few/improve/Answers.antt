@@ -17,7 +17,7 @@ returns-then-index-near c = λ entries room was e lead.
 pub returns : goal.returns
 returns c = λ entries room was e lead.
     on_ok (IsInsertedAmong c.args.near c.remove.new.self.items c.insert_near.new.nears.items)
-        (IsNearest room (c.args.near ∷ entries) c.insert_near.new.nears.items) c.insert_near.result
+    (IsNearest room (c.args.near ∷ entries) c.insert_near.new.nears.items) c.insert_near.result
     (λ put. improve_few room entries c.args.nears.now.items c.remove.new.self.items c.insert_near.new.nears.items c.args.near c.args.place was c.requires e
     (subst (λ (y : Near). c.args.near.dist2 < y.dist2)
     (same_place c.args.nears.now.items c.args.place c.index.result.now c.args.near c.requires c.index.ensures) c.if-index-near.false) lead

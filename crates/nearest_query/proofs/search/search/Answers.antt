@@ -93,7 +93,7 @@ loop-next-preserved g c = record {
       (next_within w all c.in-Some.next c.pop.new.self.turns c.loop-next.frontier.nodes c.loop-next.found here c.args.found.now.many.room nearest
       c.loop-next.invariant.room is c.in-Some.ensures.least (c.ends_before.ensures.no c.if-ends_before.false)) in
       let p =
-          sum_by_popped (sum_below (one_within w (bound_of c.args.found.now.many.room nearest))) c.in-Some.next c.loop-next.frontier.turns c.pop.new.self.turns
+      sum_by_popped (sum_below (one_within w (bound_of c.args.found.now.many.room nearest))) c.in-Some.next c.loop-next.frontier.turns c.pop.new.self.turns
       c.in-Some.ensures.some in
       omega (arith, r, o, p);
 }
@@ -109,7 +109,7 @@ returns-in_err-open-clause-reads g c = λ told a w all nearest over s is.
     (next_within w all c.in-Some.next c.pop.new.self.turns c.loop-next.frontier.nodes c.loop-next.found here c.args.found.now.many.room nearest
     c.loop-next.invariant.room is c.in-Some.ensures.least (c.ends_before.ensures.no c.if-ends_before.false)) in
     let p =
-        sum_by_popped (sum_below (one_within w (bound_of c.args.found.now.many.room nearest))) c.in-Some.next c.loop-next.frontier.turns c.pop.new.self.turns
+    sum_by_popped (sum_below (one_within w (bound_of c.args.found.now.many.room nearest))) c.in-Some.next c.loop-next.frontier.turns c.pop.new.self.turns
     c.in-Some.ensures.some in
     omega (arith, r, o, p)
 

@@ -7,5 +7,5 @@ use Rattle.script_lang.proofs.replies.append_hits.Given as goal
 abbrev pub invariant-loop-doc : goal.invariant-loop-doc
 invariant-loop-doc l =
     (l.out.items ≡ (l.fn.out.items ++ text_line (codes "hits " ++ decimal (length l.docs)))
-        ++ flat_map (λ doc. text_line (decimal doc)) (take l.doc-index l.docs))
+    ++ flat_map (λ doc. text_line (decimal doc)) (take l.doc-index l.docs))
     × (drop 10 l.line ≡ 10 ∷ [])

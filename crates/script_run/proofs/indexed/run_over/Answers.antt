@@ -39,7 +39,7 @@ pub returns-in-Err-clause-does : goal.returns-in-Err-clause-does
 returns-in-Err-clause-does g c = λ told. of_any _ c.args.reader.now (g.S.Source.left c.args.input.now) _ (λ lines i stored h. (
   halted_ends (meaning c.args.work.now.language) (IsTrue g.K.Sink.told)
       (place_on c.args.tally.line c.args.tally.refused i stored lines (g.K.Sink.written c.args.out.now)) _ _ c.stopped.result c.halt_result.result
-          c.halt_result.ensures
+      c.halt_result.ensures
       (unopened c.args.work.now.language (IsTrue g.K.Sink.told)
       (place_on c.args.tally.line c.args.tally.refused i stored lines (g.K.Sink.written c.args.out.now)) _ _ _ c.in-Err.fault
       (c.in-Err.ensures.whole told i stored h) (c.in-Err.ensures.files told) (origin_keeps (g.F.Pages.files c.args.folder.now) c.args.origin i stored h)
@@ -66,7 +66,7 @@ returns-in-Ok-clause-evident g c = halt_less _ _ _ c.run_made.result (λ p. (p.0
 pub returns-in-Err-clause-evident : goal.returns-in-Err-clause-evident
 returns-in-Err-clause-evident g c =
     halted_shows _ c.stopped.result c.halt_result.result c.halt_result.ensures
-        (fault_shows _ c.in-Err.fault c.in-Err.ensures.evident c.stopped.result c.stopped.ensures)
+    (fault_shows _ c.in-Err.fault c.in-Err.ensures.evident c.stopped.result c.stopped.ensures)
 
 pub returns-in-Ok-clause-undone : goal.returns-in-Ok-clause-undone
 returns-in-Ok-clause-undone g c = λ told.

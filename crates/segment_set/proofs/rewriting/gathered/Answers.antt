@@ -151,7 +151,7 @@ returns-in_err-entries-clause-evident g c =
     (λ t. t) (λ t. c.in_err-entries.ensures.calm.files t.0)
     (on_part_evident {X = Unit {0}} (IsCrowdedIn g.row.D files parts) told g.row.D files (parts_among c.args.ids.now parts) (Err c.in_err-entries.field-0.0)
     (λ t. All-filter (λ (q : LiveSegment). is_among c.args.ids.now q.head.id) (HasFileHead g.row.D files) parts t.2)
-        (λ t. c.in_err-entries.ensures.damage t.0 t.1)
+    (λ t. c.in_err-entries.ensures.damage t.0 t.1)
     c.in_err-entries.ensures.shown))
 
 pub returns-in_err-build_of-clause-evident : goal.returns-in_err-build_of-clause-evident

@@ -66,7 +66,7 @@ returns-clause-put g c = record {
   placed = subst (IsPlaced (part_at c.in_ok-id.id c.args.new.now) (parts_but c.args.ids.now c.args.segments.now)) (sym c.remove.ensures.rest)
       (but_placed c.args.ids.now (part_at c.in_ok-id.id c.args.new.now) c.args.segments.now c.insert.new.self
       (subst (λ (p : LiveSegment). IsPlaced p c.args.segments.now c.insert.new.self)
-          (same_part c.in_ok-head.ensures.head (c.in_ok-live.ensures ∙ c.live.ensures))
+      (same_part c.in_ok-head.ensures.head (c.in_ok-live.ensures ∙ c.live.ensures))
       c.in_ok-insert.ensures.placed)
       (free_id g.row.D (IsTrue g.F.Pages.told) c.args.names.now c.args.names.now (g.F.Pages.files c.args.folder.now) c.args.ids.now c.args.segments.now
       c.args.segments.now c.args.ids.now c.in_ok-id.id c.in_ok-id.ensures.fresh

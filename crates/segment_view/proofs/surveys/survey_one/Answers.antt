@@ -9,7 +9,7 @@ use Rattle.segment_view.proofs.surveys.survey_one.Goals as goal
 pub returns-clause-tested : goal.returns-clause-tested
 returns-clause-tested g c =
     counted_one g.row.D (λ (h : Head) (t : IndexTree). tested_entries (g.S.Shape.crosses c.args.shape.now) (count_of h) 0 t) c.args.head.now
-        c.survey.result.tested
+    c.survey.result.tested
     (λ root t has. (c.survey.ensures.counts root t has).0)
 
 pub returns-clause-touched : goal.returns-clause-touched

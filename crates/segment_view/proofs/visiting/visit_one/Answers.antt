@@ -25,7 +25,7 @@ pub returns-clause-found : goal.returns-clause-found
 returns-clause-found g c = λ told agrees es r.
     let has = g.S.Shape.has c.args.shape.now in
     let same =
-        hits_live has c.args.live.now (es c.args.head.now.id) ∙ ap (numbers_found has) (sym (live_one es (live_segment c.args.head.now c.args.live.now))) in
+    hits_live has c.args.live.now (es c.args.head.now.id) ∙ ap (numbers_found has) (sym (live_one es (live_segment c.args.head.now c.args.live.now))) in
     subst (λ (ys : List ℕ). OnOk c.intersect.result (c.intersect.new.hits.items ≡ c.args.hits.now.items ++ ys)) same
     (c.intersect.ensures.found told agrees (es c.args.head.now.id) r.held)
 
@@ -34,7 +34,7 @@ returns-clause-tests g c = λ n all.
     le_by_tree g.row.D c.args.head.now.index c.index.result.now c.index.ensures.value c.is_spelled.ensures _ _
     (λ root t has.
     let e = one_counted g.row.D (λ (h : Head) (u : IndexTree). tested_entries (g.S.Shape.crosses c.args.shape.now) (count_of h) 0 u) c.args.head.now n root t
-        all has in
+    all has in
     let m = c.intersect.ensures.tests root t has in
     omega (arith, e, m))
 
@@ -51,7 +51,7 @@ returns-clause-reads g c = λ n all.
     le_by_tree g.row.D c.args.head.now.index c.index.result.now c.index.ensures.value c.is_spelled.ensures _ _
     (λ root t has.
     let e = one_counted g.row.D (λ (h : Head) (u : IndexTree). touched_leaves (g.S.Shape.has c.args.shape.now) (g.S.Shape.crosses c.args.shape.now) u)
-        c.args.head.now
+    c.args.head.now
     n root t all has in
     let m = c.intersect.ensures.reads root t has in
     omega (arith, e, m))

@@ -67,7 +67,7 @@ returns-in_err-visit_one-clause-tests g c = λ n all.
     let p = live_segment c.part.result.0.now c.part.result.1.now in
     let was = c.loop-i.invariant in
     let u = counted_upto g.row.D (λ (h : Head) (t : IndexTree). tested_entries (g.S.Shape.crosses c.args.shape.now) (count_of h) 0 t) c.args.segments.now
-        c.loop-i.i p n
+    c.loop-i.i p n
     c.part.ensures all in
     let before = was.tests u.before u.of_before in
     let here = c.in_err-visit_one.ensures.tests u.here (subst (λ f. AreTested g.row.D f (p.head ∷ []) u.here) (sym was.crosses) u.of_here) in

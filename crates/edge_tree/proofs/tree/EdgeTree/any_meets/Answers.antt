@@ -45,7 +45,7 @@ returns-then-meets_run-clause-told c =
     c.loop-at-test.true c.loop-at.invariant.within c.index-node.ensures
     (ap (λ run. any_meets run (region_of c.args.c.now)) seen ∙ sym c.meets_run.ensures ∙ c.if-meets_run.true))
     ∙ same_meets (all_held_edges (map ends_of c.self.inside.edges.items) c.self.inside.nodes.items) (map ends_of c.self.inside.edges.items)
-        (region_of c.args.c.now)
+    (region_of c.args.c.now)
     c.self.invariant.whole
     ∙ ap (λ edges. any_meets edges (region_of c.args.c.now)) c.self.view_is
 

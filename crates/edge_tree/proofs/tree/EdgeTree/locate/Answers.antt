@@ -50,10 +50,10 @@ pub returns : goal.returns
 returns c =
     let first : c.loop-at.at ≡ 0 = omega arith in
     let placed : IsLocation (all_held_edges (map ends_of c.self.inside.edges.items) c.self.inside.nodes.items) c.args.p.now.c c.loop-at.place.on
-        c.loop-at.place.odd =
+    c.loop-at.place.odd =
     subst (λ (k : ℕ).
     IsLocation (all_held_edges (map ends_of c.self.inside.edges.items) (drop k c.self.inside.nodes.items)) c.args.p.now.c c.loop-at.place.on
-        c.loop-at.place.odd)
+    c.loop-at.place.odd)
     first c.loop-at.invariant.placed in
     subst (λ (es : List EdgeEnds). IsLocation es c.args.p.now.c c.loop-at.place.on c.loop-at.place.odd) c.self.view_is (record {
       on_is =

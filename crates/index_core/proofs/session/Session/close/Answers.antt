@@ -126,7 +126,7 @@ returns-clause-canon g c told =
     let parts = ap (λ (u : SetData). u.parts) (eased g c) in
     brings_then _ _ (g.F.Pages.files c.commit.new.folder) _ _ c.commit.new.self.set.parts _ (c.commit.ensures.canon told)
     (brings_still _ _ _ c.commit.new.self.set.parts
-        _ (λ p there. c.sweep.ensures.segments told p (subst (λ (ps : List LiveSegment). Contains ps p) (sym parts) there))
+    _ (λ p there. c.sweep.ensures.segments told p (subst (λ (ps : List LiveSegment). Contains ps p) (sym parts) there))
     (ap (λ (u : SetData). u.parts) c.sweep.ensures.alone.is ∙ parts))
 
 pub returns-clause-cause : goal.returns-clause-cause

@@ -27,9 +27,9 @@ pub returns-clause-applies : goal.returns-clause-applies
 unfolding step_on
 returns-clause-applies g c = applies_as _ _ _ _ _ _ _ _
     (λ i seen.
-        ap (λ n. query_outcome i (viewed_docs (view_name c.args.view.now) i) (λ docs. hits_text (hits (in_plane_polygon n c.args.rings.now) docs))) seen.dims
+    ap (λ n. query_outcome i (viewed_docs (view_name c.args.view.now) i) (λ docs. hits_text (hits (in_plane_polygon n c.args.rings.now) docs))) seen.dims
     ∙ ap (λ (s : CountedPolygon). query_outcome i (viewed_docs (view_name c.args.view.now) i) (λ docs. hits_text (hits (has g.row.D s.edges) docs)))
-        (sym c.in_ok-shape.ensures))
+    (sym c.in_ok-shape.ensures))
     c.find.ensures.applies
 
 pub returns-in_err-shape-clause-reads : goal.returns-in_err-shape-clause-reads
@@ -38,7 +38,7 @@ returns-in_err-shape-clause-reads g c n touched = omega arith
 pub returns-clause-reads : goal.returns-clause-reads
 returns-clause-reads g c =
     subst (λ (s : CountedPolygon).
-        ReadsTouched g.row.D (has g.row.D s.edges) (crosses g.row.D s.edges) (viewed_parts (view_name c.args.view.now) c.args.self.now.set)
+    ReadsTouched g.row.D (has g.row.D s.edges) (crosses g.row.D s.edges) (viewed_parts (view_name c.args.view.now) c.args.self.now.set)
     (g.F.Pages.reads c.args.folder.now) (g.F.Pages.reads c.find.new.folder))
     c.in_ok-shape.ensures c.find.ensures.reads
 

@@ -8,7 +8,7 @@ returns-then-not-branch-clause-gives g c =
     let none : c.in_ok-hold.field-0 ≡ false = search rules in
     reading_last _ c.args.self.now _ c.pieces.self c.hold.new.self _ _ c.pieces.line.items c.pieces.is_begun c.pieces.invariant.reading
     (λ t knows.
-        subst (λ (b : Bool). HoldsBytes c.hold.new.self (waiting c.pieces.self ++ g.S.Source.left c.pieces.source) (g.S.Source.left c.hold.new.source) b)
+    subst (λ (b : Bool). HoldsBytes c.hold.new.self (waiting c.pieces.self ++ g.S.Source.left c.pieces.source) (g.S.Source.left c.hold.new.source) b)
     none (c.in_ok-hold.ensures.holds t knows))
 
 pub returns-then-branch-clause-gives : goal.returns-then-branch-clause-gives
@@ -18,7 +18,7 @@ returns-then-branch-clause-gives g c =
     reading_ends _ c.args.self.now _ c.pieces.self c.hold.new.self _ _ c.pieces.line.items c.pieces.is_begun c.pieces.invariant.reading c.extend_line.new.self
     c.extend_line.new.line.items
     (λ t knows.
-        subst (λ (b : Bool). HoldsBytes c.hold.new.self (waiting c.pieces.self ++ g.S.Source.left c.pieces.source) (g.S.Source.left c.hold.new.source) b)
+    subst (λ (b : Bool). HoldsBytes c.hold.new.self (waiting c.pieces.self ++ g.S.Source.left c.pieces.source) (g.S.Source.left c.hold.new.source) b)
     some (c.in_ok-hold.ensures.holds t knows))
     (subst (λ (b : Bool). TakesPart c.hold.new.self c.extend_line.new.self c.pieces.invariant.reading.seen c.extend_line.new.line.items b) whole
     (c.in_ok-extend_line.ensures.takes c.pieces.invariant.reading.seen c.pieces.invariant.reading.bytes_are))

@@ -35,7 +35,7 @@ invariant_of-self c =
       bits = λ j. c.clear_bit.ensures j ∙ ap (λ (bits : List ℕ). is_set bits j && not (nat_eq j (c.args.doc - b.base))) c.as_mut_slice.ensures.value;
     } in
     subst (λ (bits : List ℕ). AreCountedBits b.base b.span (b.count - 1) bits)
-        (sym (with_items_is b.bits new (c.clear_bit.auto.bits ∙ c.as_mut_slice.ensures.len)))
+    (sym (with_items_is b.bits new (c.clear_bit.auto.bits ∙ c.as_mut_slice.ensures.len)))
     (cleared_stored b.base b.span b.count c.args.doc b.bits.items new c.self.invariant
     (ap (λ (s : LiveSet). is_live s c.args.doc) c.self.view_is ∙ sym c.if-not-is_live.ensures) cleared)
 

@@ -10,9 +10,9 @@ returns-then-dist2-near-clause-best c = λ entries best e. stay_best entries c.a
 pub returns-clause-best : goal.returns-clause-best
 returns-clause-best c = λ entries best e.
     on_ok (IsInserted c.args.near (record c.args.self.now { in_order = c.remove.new.self }) c.insert_near.new.self)
-        (AreKept (c.args.near ∷ entries) c.insert_near.new.self)
+    (AreKept (c.args.near ∷ entries) c.insert_near.new.self)
     c.insert_near.result
     (λ put.
-        improved_best entries c.args.self.now (record c.args.self.now { in_order = c.remove.new.self }) c.insert_near.new.self c.args.near c.args.dist2 best e
+    improved_best entries c.args.self.now (record c.args.self.now { in_order = c.remove.new.self }) c.insert_near.new.self c.args.near c.args.dist2 best e
     c.if-dist2-near.false refl refl c.remove.ensures.updates (rw (← c.remove.ensures.test) c.remove.ensures.len) put)
     c.insert_near.ensures.put

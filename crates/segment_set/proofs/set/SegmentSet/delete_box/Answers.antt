@@ -40,7 +40,7 @@ returns-clause-seen g c = λ told i seen.
     let bounds : Region = record { lo = c.args.lo.now.c; hi = c.args.hi.now.c } in
     let found : c.as_slice.result.now ≡ hits (in_box bounds) i.docs =
     c.as_slice.ensures.value ∙ c.in_ok-hits.ensures.found told i seen i.docs refl
-        ∙ ap (λ (b : CountedBox). hits (in_box b.bounds) i.docs) c.new-shape.ensures in
+    ∙ ap (λ (b : CountedBox). hits (in_box b.bounds) i.docs) c.new-shape.ensures in
     subst (λ (ds : List Document). Sees g.row.D (g.F.Pages.files c.visit.new.folder) c.delete_all.new.self (record i { docs = ds }))
     (ap (λ (ns : List ℕ). docs_but ns i.docs) found ∙ docs_hit (in_box bounds) i.docs seen.docs.ascend)
     (c.delete_all.ensures.seen (g.F.Pages.files c.visit.new.folder) i (c.in_ok-hits.ensures.seen told i seen))

@@ -114,5 +114,5 @@ returns-clause-shown g c = subst (λ (ps : List LiveSegment). OnDamage c.nearest
 pub returns-clause-evident : goal.returns-clause-evident
 returns-clause-evident g c =
     looked_evident g.row.D _ _ _ _ _ (view_name c.args.view.now) c.view_of.result.0.now _ _ c.nearest.result c.self.view_is (parts_are g c)
-        c.nearest.ensures.calm
+    c.nearest.ensures.calm
     c.nearest.ensures.shown c.nearest.ensures.damage

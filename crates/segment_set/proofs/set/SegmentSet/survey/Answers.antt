@@ -21,7 +21,7 @@ returns-clause-tested g c =
 pub returns-clause-touched : goal.returns-clause-touched
 returns-clause-touched g c =
     subst (λ (ps : List LiveSegment).
-        AreTouched g.row.D (g.S.Shape.has c.args.shape.now) (g.S.Shape.crosses c.args.shape.now) (heads_of ps) c.survey.result.touched)
+    AreTouched g.row.D (g.S.Shape.has c.args.shape.now) (g.S.Shape.crosses c.args.shape.now) (heads_of ps) c.survey.result.touched)
     (parts_are g c) c.survey.ensures.touched
 
 pub returns-clause-leaves : goal.returns-clause-leaves

@@ -16,4 +16,4 @@ parts_are g c =
 pub returns : goal.returns
 returns g c =
     subst (λ (ps : List LiveSegment). AreNearLeaves g.row.D c.args.at.now.c c.args.bound (heads_of ps) c.survey_near.result) (parts_are g c)
-        c.survey_near.ensures
+    c.survey_near.ensures

@@ -96,7 +96,7 @@ pub returns-clause-reads : goal.returns-clause-reads
 returns-clause-reads g c n are =
     c.visit.ensures.reads n
     (subst (λ (ps : List LiveSegment). AreTouched g.row.D (g.S.Shape.has c.args.shape.now) (g.S.Shape.crosses c.args.shape.now) (heads_of ps) n)
-        (sym (parts_are g c))
+    (sym (parts_are g c))
     are)
 
 pub returns-clause-whole : goal.returns-clause-whole

@@ -42,7 +42,7 @@ invariant_of-self-2 g c =
 pub returns-clause-placed : goal.returns-clause-placed
 returns-clause-placed g c =
     placed_put c.self.inside.heads.items c.insert_pair.new.heads.items c.self.inside.lives.items c.insert_pair.new.lives.items c.args.self.now
-        c.place_of-place.result
+    c.place_of-place.result
     c.args.head c.args.live
     c.self.invariant.same c.self.view_is c.in_ok-insert_pair.ensures.heads c.in_ok-insert_pair.ensures.lives
 
