@@ -1,6 +1,6 @@
 //! All live entries of a segment.
 
-ghost use Rattle.std.specs.Prelude.{◌≡◌, ◌≤◌, ◌+◌, ◌⊎◌, ◌++◌, ◌∷◌, ◌<◌, ℕ, List, [], Some, length, slice_get, filter};
+ghost use Rattle.std.specs.Prelude.{◌≡◌, ◌≤◌, ◌+◌, ◌++◌, ◌∷◌, ◌<◌, ℕ, List, [], Some, length, slice_get, filter};
 ghost use Rattle.std.specs.Prelude.{true, All, IsTrue, IfOk, OnOk, vec_capacity, vec_len};
 ghost use Rattle.outer_io.specs.Files.{bytes_of};
 ghost use Rattle.outer_io.specs.declared.file_name.FileName.TheVariants.{Segment};
@@ -11,9 +11,9 @@ ghost use Rattle.inner_pack.specs.Places.{Spot, front};
 ghost use Rattle.inner_pack.specs.Nodes.{IsAt};
 ghost use Rattle.inner_pack.specs.Trees.{IndexTree, leaf_count};
 ghost use Rattle.inner_pack.specs.Bodies.{HasTree, pages_of};
-ghost use Rattle.page_cache.specs.Cache.{IsKept, KeepsFile, Agrees};
-ghost use Rattle.page_cache.specs.Causes.{HasPageCause};
+ghost use Rattle.page_cache.specs.Cache.{IsKept, Agrees};
 ghost use Rattle.page_cache.specs.Evidence.{OnDamage, NotDamaged};
+ghost use Rattle.page_cache.specs.Reading.{ReadsCached};
 ghost use Rattle.segment_file.specs.Heads.{page_of};
 ghost use Rattle.segment_file.specs.Segments.{HoldsTree, IsHeadOf, IsSegment};
 ghost use Rattle.segment_file.specs.Gathers.{Gathers, ReadsEach, last_page};
@@ -40,15 +40,13 @@ pub fn read_entries<const D: usize, F: Pages>(
     head: &SegmentHead<D>,
     live: &LiveBits,
 ) -> Result<Vec<Entry<D>>, PageFault>
-    ensures files { IsTrue F.told → F.files folder.new ≡ F.files folder.old }
+    ensures reading { ReadsCached F.told (λ i. i ≡ head.now.id) (F.files folder.old) (F.files folder.new)
+        cache.old cache.new (F.faults folder.old) (F.faults folder.new) result }
     ensures reads { (root : Region) (t : IndexTree) → HasTree D head.now.index root t
         → F.reads folder.new ≤ F.reads folder.old + head.now.index.leaves }
     // each leaf page once at most, whatever the cache held
     ensures pages { (root : Region) (t : IndexTree) → HasTree D head.now.index root t
         → F.reads folder.new ≤ F.reads folder.old + pages_of t }
-    ensures cause { HasPageCause (F.faults folder.old) (F.faults folder.new) result }
-    ensures others { (i : ℕ) → KeepsFile cache.new i → KeepsFile cache.old i ⊎ (i ≡ head.now.id) }
-    ensures agrees { IsTrue F.told → Agrees (F.files folder.old) cache.old → Agrees (F.files folder.old) cache.new }
     // the leaves are those of this head, also where the file has another one
     ensures gathers { IsTrue F.told → Agrees (F.files folder.old) cache.old
         → (root : Region) (t : IndexTree) → HasTree D head.now.index root t
@@ -92,16 +90,14 @@ fn gather<const D: usize, F: Pages>(
     node: &NodeAt<'_, D>,
     entries: &mut Vec<Entry<D>>,
 ) -> Result<(), PageFault>
-    ensures files { IsTrue F.told → F.files folder.new ≡ F.files folder.old }
+    ensures reading { ReadsCached F.told (λ i. i ≡ head.now.id) (F.files folder.old) (F.files folder.new)
+        cache.old cache.new (F.faults folder.old) (F.faults folder.new) result }
     ensures reads { (first : ℕ) (s : Spot) (path : Region) (t : IndexTree) → IsAt node.now first s path t
         → F.reads folder.new ≤ F.reads folder.old + leaf_count t }
     ensures pages { (first : ℕ) (s : Spot) (path : Region) (t : IndexTree) → IsAt node.now first s path t
         → ReadsEach (F.reads folder.old) (F.reads folder.new) cache.old head.now s t }
     ensures last { (first : ℕ) (s : Spot) (path : Region) (t : IndexTree) → IsAt node.now first s path t
         → OnOk result (IsKept cache.new head.now.id (page_of head.now (last_page s t))) }
-    ensures cause { HasPageCause (F.faults folder.old) (F.faults folder.new) result }
-    ensures others { (i : ℕ) → KeepsFile cache.new i → KeepsFile cache.old i ⊎ (i ≡ head.now.id) }
-    ensures agrees { IsTrue F.told → Agrees (F.files folder.old) cache.old → Agrees (F.files folder.old) cache.new }
     ensures gathers { IsTrue F.told → Agrees (F.files folder.old) cache.old
         → (first : ℕ) (s : Spot) (path : Region) (t : IndexTree)
         → IsAt node.now first s path t
@@ -141,16 +137,14 @@ fn gather_leaf<const D: usize, F: Pages>(
     entries: &mut Vec<Entry<D>>,
 ) -> Result<(), PageFault>
     requires { node.now.leaves ≡ 1 }
-    ensures files { IsTrue F.told → F.files folder.new ≡ F.files folder.old }
+    ensures reading { ReadsCached F.told (λ i. i ≡ head.now.id) (F.files folder.old) (F.files folder.new)
+        cache.old cache.new (F.faults folder.old) (F.faults folder.new) result }
     ensures reads { (first : ℕ) (s : Spot) (path : Region) (t : IndexTree) → IsAt node.now first s path t
         → F.reads folder.new ≤ F.reads folder.old + leaf_count t }
     ensures pages { (first : ℕ) (s : Spot) (path : Region) (t : IndexTree) → IsAt node.now first s path t
         → ReadsEach (F.reads folder.old) (F.reads folder.new) cache.old head.now s t }
     ensures last { (first : ℕ) (s : Spot) (path : Region) (t : IndexTree) → IsAt node.now first s path t
         → OnOk result (IsKept cache.new head.now.id (page_of head.now (last_page s t))) }
-    ensures cause { HasPageCause (F.faults folder.old) (F.faults folder.new) result }
-    ensures others { (i : ℕ) → KeepsFile cache.new i → KeepsFile cache.old i ⊎ (i ≡ head.now.id) }
-    ensures agrees { IsTrue F.told → Agrees (F.files folder.old) cache.old → Agrees (F.files folder.old) cache.new }
     ensures gathers { IsTrue F.told → Agrees (F.files folder.old) cache.old
         → (first : ℕ) (s : Spot) (path : Region) (t : IndexTree)
         → IsAt node.now first s path t

@@ -64,17 +64,19 @@ returns-in_ok-gather-in-Some-clause-whole g t c = λ told agrees first s path u 
     let k = c.in-Some.ensures.some first s path u at in
     let bytes = bytes_of (g.F.Pages.files c.args.folder.now (Segment c.args.head.now.id)) in
     let halves = subst (λ (v : IndexTree). HoldsTree g.row.D bytes c.args.head.now first s v items) k.is holds in
-    let after : Agrees (g.F.Pages.files c.gather.new.folder) c.gather.new.cache = rw (c.gather.ensures.files told) (c.gather.ensures.agrees told agrees) in
+    let after : Agrees (g.F.Pages.files c.gather.new.folder) c.gather.new.cache =
+    rw (c.gather.ensures.reading.files told) (c.gather.ensures.reading.agrees told agrees) in
     c.gather-in-Some.ensures.whole told after (first + leaf_count k.l) (right_begin s k.l k.r) (right_of path k.dimension k.value) k.r k.right_is
     halves.back_items
-    (rw (c.gather.ensures.files told) halves.back_holds)
+    (rw (c.gather.ensures.reading.files told) halves.back_holds)
 
 pub returns-in_ok-gather-in-Some-clause-gathers : goal.returns-in_ok-gather-in-Some-clause-gathers
 returns-in_ok-gather-in-Some-clause-gathers g t c = λ told agrees first s path u at.
     let k = c.in-Some.ensures.some first s path u at in
     let bytes = bytes_of (g.F.Pages.files c.args.folder.now (Segment c.args.head.now.id)) in
     let left = c.in_ok-gather-in-Some.ensures.gathers told agrees first s (left_of path k.dimension k.value) k.l k.left_is in
-    let after : Agrees (g.F.Pages.files c.gather.new.folder) c.gather.new.cache = rw (c.gather.ensures.files told) (c.gather.ensures.agrees told agrees) in
+    let after : Agrees (g.F.Pages.files c.gather.new.folder) c.gather.new.cache =
+    rw (c.gather.ensures.reading.files told) (c.gather.ensures.reading.agrees told agrees) in
     let right =
     c.gather-in-Some.ensures.gathers told after (first + leaf_count k.l) (right_begin s k.l k.r) (right_of path k.dimension k.value) k.r k.right_is in
     OnOk-weaker c.gather-in-Some.result _ _
@@ -82,7 +84,7 @@ returns-in_ok-gather-in-Some-clause-gathers g t c = λ told agrees first s path 
     Gathers g.row.D bytes c.args.head.now first s v c.args.live.now (items_of c.args.entries.now.items) (items_of c.gather-in-Some.new.entries.items))
     (sym k.is)
     (gathers_join g.row.D bytes c.args.head.now first s k.l k.r k.dimension k.value c.args.live.now (items_of c.args.entries.now.items)
-    (items_of c.gather.new.entries.items) (items_of c.gather-in-Some.new.entries.items) left (rw (c.gather.ensures.files told) at r)))
+    (items_of c.gather.new.entries.items) (items_of c.gather-in-Some.new.entries.items) left (rw (c.gather.ensures.reading.files told) at r)))
     right
 
 pub returns-in_ok-gather-in-Some-clause-live : goal.returns-in_ok-gather-in-Some-clause-live

@@ -27,7 +27,7 @@ returns-in_default-clause-shown g c = λ first s path t at. c.bad_leaf.ensures.s
 pub returns-in_default-clause-whole : goal.returns-in_default-clause-whole
 returns-in_default-clause-whole g c = λ told agrees first s path t at items holds.
     let place = c.in_ok-place.ensures.place first s path t at in
-    let after = c.in_ok-place.ensures.agrees told agrees in
+    let after = c.in_ok-place.ensures.reading.agrees told agrees in
     let leaf = place.is in
     absurd (c.in_default.ensures.none (g.F.Pages.files c.args.folder.now) first s path c.in_ok-place.place.length place.own after
     (subst (λ (u : IndexTree). IsAt c.args.node.now first s path u) leaf at) (subst (λ (u : IndexTree). IsPlaceOf c.in_ok-place.place s u) leaf place) items
@@ -37,7 +37,7 @@ returns-in_default-clause-whole g c = λ told agrees first s path t at items hol
 pub returns-clause-gathers : goal.returns-clause-gathers
 returns-clause-gathers g c = λ told agrees first s path t at.
     let place = c.in_ok-place.ensures.place first s path t at in
-    let after = c.in_ok-place.ensures.agrees told agrees in
+    let after = c.in_ok-place.ensures.reading.agrees told agrees in
     let leaf = place.is in
     let bytes = bytes_of (g.F.Pages.files c.args.folder.now (Segment c.args.head.now.id)) in
     let holds = c.in-Some.ensures.some (g.F.Pages.files c.args.folder.now) first s path c.in_ok-place.place.length place.own after
