@@ -17,7 +17,7 @@ use Rattle.commit_list.specs.CommitFiles.{IsCommitFile}
 use Rattle.script_run.specs.Origins.{IsFrom}
 use Rattle.script_run.specs.declared.origin.Origin.{Origin}
 use Rattle.script_run.specs.declared.origin.Origin.TheVariants as origin
-use Rattle.script_run.proofs.Opened.{none_stored, some_stored}
+use Rattle.script_run.proofs.Opened.{some_stored}
 use Rattle.run_status.specs.Sent.{IsSentPart, IsSent}
 use Rattle.script_run.specs.LineAnswers.{SendsReply, IsAnswered, Line, Replies, answer_to_line, stored_by_line}
 use Rattle.script_run.specs.Progress.{ScriptPlace, Progress, start}
@@ -32,6 +32,7 @@ use Rattle.script_run.specs.Languages.{answer, meaning}
 use Rattle.script_run.specs.declared.language.Language.{Language}
 use Rattle.script_run.proofs.SoFar.{place_on}
 use Rattle.run_status.proofs.Ending.{rose_from}
+use Rattle.stored_index.proofs.Whole.{no_index}
 
 -- ---- the beginning
 
@@ -54,7 +55,7 @@ module _ (lang : Language) (told : Type 0) (old files after : Files) (written : 
       → (files Commit ≡ None → EndsRead (meaning lang) told (start None lines written) after new result)
       → EndsRead (meaning lang) told (start state lines written) after new result
   from_none state same none h lines new result ends =
-      subst (λ s. EndsRead (meaning lang) told (start s lines written) after new result) (sym (none_stored old state none h))
+      subst (λ s. EndsRead (meaning lang) told (start s lines written) after new result) (sym (no_index old state none h))
       (ends (ap (λ (f : Files). f Commit) same ∙ none))
 
   -- this one was
@@ -67,12 +68,6 @@ module _ (lang : Language) (told : Type 0) (old files after : Files) (written : 
       let some = some_stored old commit state says h in
       subst (λ s. EndsRead (meaning lang) told (start s lines written) after new result) (sym some.1)
       (ends some.0 (Some some.0) (subst (λ (f : Files). IsFrom f (origin.Stored commit) some.0 (Some some.0)) (sym same) (says, some.2, refl)))
-
--- reading the commit of a folder that stores a state finds no damage
-pub not_damaged : {P : Type 0} (files : Files) (state : State) → IsStored files state → (files Commit ≡ None → P)
-    → ((c : CommitData) → IsCommitFile (bytes_of (files Commit)) c → P) → P
-not_damaged files None h absent whole = absent h
-not_damaged files (Some i) h absent whole = whole h.commit h.holds.commit
 
 -- ---- a line that was sent
 

@@ -21,7 +21,7 @@ use Rattle.script_lang.specs.Requests.{Request, Viewed}
 use Rattle.script_lang.specs.Requests as asks
 use Rattle.script_lang.specs.declared.faults.Refusal.{Refusal}
 use Rattle.point_codec.specs.declared.entries.Near.{Near}
-use Rattle.index_model.specs.State.{Index, Snapshot, snapshot_of, viewed_docs}
+use Rattle.index_model.specs.State.{Index, Snapshot, snapshot_of, viewed_docs, given_of}
 use Rattle.ring_parity.specs.Rings.{all_edges}
 use Rattle.polygon_query.specs.Shape as polygons
 use Rattle.index_model.specs.Step.{in_plane_polygon, step_on}
@@ -40,7 +40,7 @@ use Rattle.explain_queries.specs.Explained.{reach}
 use Rattle.explain_queries.proofs.Explaining.{reach_is}
 use Rattle.explain_queries.proofs.There.{are_nearest, there, there_found}
 use Rattle.index_core.proofs.Undone.{begins_none}
-use Rattle.script_run.specs.Costs.{TouchesOn, TouchesHeard, TouchesView, given_of, is_query}
+use Rattle.script_run.specs.Costs.{TouchesOn, TouchesHeard, TouchesView, is_query}
 use Rattle.script_run.specs.Leads.{HasRoom, Passes, LineMoment, StaysFew}
 use Rattle.script_run.proofs.Asking.{Asks, IsRefusal, asked, begin_refused, full_of, full_or_given, light_gives, read_state, refusal_state, unread_state}
 use Rattle.script_run.specs.Languages.{LineRequest, answer, line_request}

@@ -14,7 +14,7 @@ use Rattle.commit_list.specs.CommitFiles.{IsCommitFile}
 use Rattle.commit_list.proofs.CommitPages.{one_file}
 use Rattle.segment_file.specs.Heads.{Head}
 use Rattle.script_lang.specs.Requests.{Request}
-use Rattle.index_model.specs.State.{Index, Snapshot, State, new_index}
+use Rattle.index_model.specs.State.{Index, Snapshot, State, new_index, given_of}
 use Rattle.stored_index.specs.Stored.{HasHead, HaveHeads, HaveLive}
 use Rattle.stored_index.specs.Opening.{segments_pages}
 use Rattle.stored_index.proofs.Parts.{heads_once}
@@ -27,7 +27,7 @@ use Rattle.index_core.specs.Sessions.{Guards, IsLast, IsUnchanged, SessionData}
 use Rattle.index_core.specs.Whole.{HasNewCanonical}
 use Rattle.index_core.proofs.Listed.{attached_listed}
 use Rattle.explain_queries.specs.Explained.{IsScope, Scope}
-use Rattle.script_run.specs.Costs.{AllAsk, AreLight, TouchesLines, begins_no_merge, given_of, is_query}
+use Rattle.script_run.specs.Costs.{AllAsk, AreLight, TouchesLines, begins_no_merge, is_query}
 use Rattle.script_run.specs.Leads.{AllListed, Leads, LeadsAll, LeadsFrom, Opens, LineMoment}
 use Rattle.run_status.specs.Ends.{IsAnswer}
 use Rattle.script_run.specs.Origins.{IsFrom}

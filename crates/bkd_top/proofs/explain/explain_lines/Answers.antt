@@ -8,13 +8,13 @@ use Rattle.script_lang.specs.Lines.{lines_of}
 use Rattle.stored_index.specs.Opening.{segments_pages}
 use Rattle.explain_queries.specs.Explained.{IsScope, Scope}
 use Rattle.bkd_top.specs.Commands.{EndsTold}
-use Rattle.script_run.proofs.Lined.{not_damaged}
 use Rattle.script_run.proofs.Scoped.{commit_few, none_scope, opening_is}
 use Rattle.bkd_top.proofs.Telling.{unread_ends}
 use Rattle.index_opening.proofs.Evident.{on_commit_evident}
 use Rattle.script_run.proofs.Shown.{fault_at, says_after, stop_less}
 use Rattle.bkd_top.proofs.explain.explain_lines.Goals as goal
 use Rattle.run_status.proofs.Ending.{cause_from, none_shows, fault_shows, fault_cause}
+use Rattle.stored_index.proofs.Whole.{not_damaged}
 
 pub returns-in-Ok-None-clause-ends : goal.returns-in-Ok-None-clause-ends
 returns-in-Ok-None-clause-ends g c = λ told s scope.

@@ -12,9 +12,10 @@ use Rattle.run_status.specs.Told.{EndsLines}
 use Rattle.run_status.proofs.Ending.{cause_from, fault_cause, fault_shows, none_shows}
 use Rattle.run_status.proofs.Telling.{unread_ends}
 use Rattle.count_queries.specs.Counted.{IsScope, Scope, TellsCount}
-use Rattle.count_queries.proofs.Scoped.{commit_few, none_scope, not_damaged, opening_is, says_after}
+use Rattle.count_queries.proofs.Scoped.{commit_few, none_scope, opening_is, says_after}
 use Rattle.count_queries.proofs.Stopping.{fault_at, stop_evident}
 use Rattle.count_queries.proofs.run.count_lines.Goals as goal
+use Rattle.stored_index.proofs.Whole.{not_damaged}
 
 pub returns-in-Ok-None-clause-ends : goal.returns-in-Ok-None-clause-ends
 returns-in-Ok-None-clause-ends g c = λ told s scope.
