@@ -10,8 +10,9 @@ use Rattle.segment_view.specs.LiveSegments.{heads_of}
 use Rattle.index_model.specs.State.{Index}
 use Rattle.segment_set.specs.Sets.{SetData}
 use Rattle.segment_set.specs.Seen.{entries_seen}
-use Rattle.explain_queries.specs.Explained.{Scope, TellsNear, Told, near_text, reach}
-use Rattle.explain_queries.specs.Explains.{InScope, IsExplaining, IsTold}
+use Rattle.explain_queries.specs.Explained.{Scope, TellsNear, near_text, reach}
+use Rattle.explain_queries.specs.Explains.{InScope, IsExplaining}
+use Rattle.run_status.specs.Told.{Told, IsTold}
 use Rattle.explain_queries.proofs.Explaining.{Telling, reach_is}
 use Rattle.explain_queries.proofs.There.{are_nearest, there, there_found}
 
