@@ -168,7 +168,3 @@ commit_few files s pages before now scope opening unread most = by s.state scope
         let few = most stored.commit stored.holds.commit in
         let is = opening_is files stored.commit s pages stored.holds.commit scope opening in
         omega (arith, few, is)
-
--- the commit that was read is that of the files after reading it
-pub says_after : (old new : Files) (c : CommitData) → new ≡ old → IsCommitFile (bytes_of (old Commit)) c → IsCommitFile (bytes_of (new Commit)) c
-says_after old new c same says = subst (λ (f : Files). IsCommitFile (bytes_of (f Commit)) c) (sym same) says

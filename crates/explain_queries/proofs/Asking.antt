@@ -1,5 +1,5 @@
 -- What is told of a command that was read, and of a line where no index is there.
-use Rattle.std.proofs.Common.{◌≡◌, ◌++◌, ℕ, Bool, cond, List, Some, None, refl, sym, ap, subst, ◌∙◌, ℤ}
+use Rattle.std.proofs.Common.{◌≡◌, ◌++◌, ℕ, Bool, cond, List, None, refl, sym, ap, subst, ◌∙◌, ℤ}
 use Rattle.outer_io.specs.Files.{Files}
 use Rattle.point_codec.specs.Points.{Region, in_box}
 use Rattle.cell_relate.specs.Boxes as boxes
@@ -24,12 +24,9 @@ use Rattle.segment_set.specs.Sets.{SetData}
 use Rattle.explain_queries.specs.Explained.{Scope, Tells, TellsLine, bare, TellsNear, TellsOn, TellsReading, TellsShape}
 use Rattle.explain_queries.specs.Explains.{InScope, IsExplaining}
 use Rattle.run_status.specs.Told.{Told, refusal, IsTold}
-use Rattle.explain_queries.proofs.Explaining.{Telling, tells_from, tells_to}
+use Rattle.explain_queries.proofs.Explaining.{Telling, tells_from, tells_to, some_inj}
 use Rattle.explain_queries.proofs.ShapesTold.{tells_shape}
 use Rattle.explain_queries.proofs.Nearby.{tells_near}
-
-some_inj : {X : Type 0} (x y : X) → Some x ≡ Some y → x ≡ y
-some_inj x y e = cc
 
 -- ---- over the index that is looked at
 

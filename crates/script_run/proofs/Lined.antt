@@ -31,7 +31,7 @@ use Rattle.script_run.proofs.Going.{one_more, ends_from, halts_from, halts_here,
 use Rattle.script_run.specs.Languages.{answer, meaning}
 use Rattle.script_run.specs.declared.language.Language.{Language}
 use Rattle.script_run.proofs.SoFar.{place_on}
-use Rattle.run_status.proofs.Ending.{rose_from}
+use Rattle.run_status.proofs.Ending.{rose_from, page_memory, page_none}
 use Rattle.stored_index.proofs.Whole.{no_index}
 
 -- ---- the beginning
@@ -75,9 +75,6 @@ module _ (lang : Language) (told : Type 0) (old files after : Files) (written : 
 pub known_is : {T : Type 0} (P : T → Type 0) (known : T) (result : Result T Stop) → IfOk result (λ x. x ≡ known) → P known → IfOk result P
 known_is P known (Ok x) is h = subst P (sym is) h
 known_is P known (Err e) is h = tt
-
-pub sent_as : {T : Type 0} (text other old new : List ℕ) (result : Result T Stop) → text ≡ other → IsSent text old new result → IsSent other old new result
-sent_as text other old new result same sent = subst (λ (w : List ℕ). IsSent w old new result) same sent
 
 module _ {told : Type 0} (lang : Language) (D : ℕ) (l : Line) (files : Files) (s : SessionData) (before reply written new : List ℕ) (is_refused : Bool) where
   -- the answer was sent, or a part of it
@@ -186,13 +183,6 @@ pub page_same : {S T : Type 0} (f0 f1 : ℕ) (fault : PageFault) → HasPageCaus
 page_same f0 f1 fault h =
     record { later = h.later; fine = tt; failed = λ e. let same : fault ≡ page.Failed = cc in h.failed (ap (λ (f : PageFault). Err f) same) }
 
--- nor before
-pub page_none : {T : Type 0} (f : ℕ) (x : T) → HasPageCause f f (Ok x)
-page_none f x = record { later = omega arith; fine = refl; failed = λ e. absurd cc }
-
-pub page_memory : {T : Type 0} (f : ℕ) → HasPageCause {T = T} f f (Err page.Memory)
-page_memory f = record { later = omega arith; fine = tt; failed = λ e. absurd cc }
-
 pub page_still : {T : Type 0} (f : ℕ) (result : Result T PageFault) → OnErr result (IsErrOf result page.Memory) → HasPageCause f f result
 page_still f (Ok y) only = page_none f y
 page_still f (Err page.Memory) only = page_memory f
@@ -200,18 +190,6 @@ page_still {T = T} f (Err page.Failed) only = let e : IsErrOf {T = T} (Err page.
 page_still {T = T} f (Err (page.Damaged damage)) only = let e : IsErrOf {T = T} (Err (page.Damaged damage)) page.Memory = only in absurd cc
 
 -- of a run
-
--- what was sent after the folder was done with
-pub send_cause : {S T : Type 0} (f0 f1 k0 k1 : ℕ) (x : S) → HasPageCause f0 f1 (Ok x) → (result : Result T Stop) → OnErr result (IsErrOf result stop.SinkFault)
-    → k0 ≤ k1
-    → (IsErrOf result stop.SinkFault → Rose k0 k1) → HasStopCause f0 f1 k0 k1 result
-send_cause f0 f1 k0 k1 x h (Ok y) only later sink = record { folder_later = h.later; sink_later = later; folder = λ e. absurd cc; sink = sink }
-send_cause f0 f1 k0 k1 x h (Err stop.SinkFault) only later sink = record { folder_later = h.later; sink_later = later; folder = λ e. absurd cc; sink = sink }
-send_cause {T = T} f0 f1 k0 k1 x h (Err stop.FolderFault) only later sink = let e : IsErrOf {T = T} (Err stop.FolderFault) stop.SinkFault = only in absurd cc
-send_cause {T = T} f0 f1 k0 k1 x h (Err stop.Memory) only later sink = let e : IsErrOf {T = T} (Err stop.Memory) stop.SinkFault = only in absurd cc
-send_cause {T = T} f0 f1 k0 k1 x h (Err (stop.Damaged damage)) only later sink =
-    let e : IsErrOf {T = T} (Err (stop.Damaged damage)) stop.SinkFault = only in
-    absurd cc
 
 pub ok_cause : {S T : Type 0} (f0 f1 k : ℕ) (x : S) (y : T) → HasPageCause f0 f1 (Ok x) → HasStopCause f0 f1 k k (Ok y)
 ok_cause f0 f1 k x y h = record { folder_later = h.later; sink_later = omega arith; folder = λ e. absurd cc; sink = λ e. absurd cc }

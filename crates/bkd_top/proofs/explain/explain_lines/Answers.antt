@@ -10,8 +10,8 @@ use Rattle.explain_queries.specs.Explained.{IsScope, Scope, TellsLine}
 use Rattle.run_status.specs.Told.{EndsLines}
 use Rattle.script_run.proofs.Scoped.{commit_few, none_scope, opening_is}
 use Rattle.run_status.proofs.Telling.{unread_ends}
-use Rattle.index_opening.proofs.Evident.{on_commit_evident}
-use Rattle.script_run.proofs.Shown.{fault_at, says_after, stop_less}
+use Rattle.index_opening.proofs.Evident.{on_commit_evident, says_after}
+use Rattle.script_run.proofs.Shown.{fault_at, stop_less}
 use Rattle.bkd_top.proofs.explain.explain_lines.Goals as goal
 use Rattle.run_status.proofs.Ending.{cause_from, none_shows, fault_shows, fault_cause}
 use Rattle.stored_index.proofs.Whole.{not_damaged}

@@ -2,11 +2,10 @@
 use Rattle.std.proofs.Common.{Bool, IsTrue, refl}
 use Rattle.page_cache.specs.declared.faults.PageFault.TheVariants as page
 use Rattle.index_core.proofs.Answering.{no_cause}
-use Rattle.script_run.proofs.Lined.{page_memory, send_cause, sent_as}
 use Rattle.run_status.proofs.Telling.{sent_line}
 use Rattle.explain_queries.specs.Explained.{TellsLine, bare}
 use Rattle.bkd_top.proofs.explain.tell_first.Goals as goal
-use Rattle.run_status.proofs.Ending.{sink_shows, fault_cause}
+use Rattle.run_status.proofs.Ending.{sink_shows, fault_cause, page_memory, send_cause, sent_as}
 
 pub returns-in-Ok-clause-ends : goal.returns-in-Ok-clause-ends
 returns-in-Ok-clause-ends g c =

@@ -1,11 +1,10 @@
 -- What is told of a line is sent.
 use Rattle.std.proofs.Common.{IsTrue, refl}
 use Rattle.segment_set.proofs.Sizes.{set_fits}
-use Rattle.script_run.proofs.Lined.{send_cause, sent_as}
 use Rattle.run_status.proofs.Telling.{left_line, sent_line}
 use Rattle.explain_queries.specs.Explained.{TellsLine}
 use Rattle.bkd_top.proofs.explain.tell_line.Goals as goal
-use Rattle.run_status.proofs.Ending.{sink_shows, fault_shows, fault_cause}
+use Rattle.run_status.proofs.Ending.{sink_shows, fault_shows, fault_cause, send_cause, sent_as}
 
 pub explain_line-requires : goal.explain_line-requires
 explain_line-requires g c = (set_fits g.row.D c.requires.few, (c.requires.some, c.requires.few))
