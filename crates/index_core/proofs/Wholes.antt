@@ -1,13 +1,10 @@
 -- A command that is done as a whole, by what its calls answered.
-use Rattle.std.proofs.Common.{◌≡◌, ℕ, Bool, List, Some, None, Result, Err, OnOk, ◌⊎◌}
-use Rattle.outer_io.specs.declared.file_name.FileName.TheVariants.{Commit}
-use Rattle.outer_io.specs.Files.{Files, bytes_of}
+use Rattle.std.proofs.Common.{◌≡◌, ℕ, Bool, List, None, Result, Err, OnOk, ◌⊎◌}
+use Rattle.outer_io.specs.Files.{Files}
 use Rattle.page_cache.specs.declared.faults.PageFault.{PageFault}
 use Rattle.page_cache.specs.declared.faults.PageFault.TheVariants as page
 use Rattle.page_cache.specs.Causes.{HasPageCause}
 use Rattle.page_cache.specs.Evidence.{NotDamaged}
-use Rattle.commit_list.specs.Commits.{CommitData}
-use Rattle.commit_list.specs.CommitFiles.{IsCommitFile}
 use Rattle.index_model.specs.State.{Index, State}
 use Rattle.index_model.specs.Script.{Answer}
 use Rattle.stored_index.specs.Stored.{IsStored}
@@ -37,9 +34,3 @@ pub record IsCommitted {T : Type 0} (D : ℕ) (told : Type 0) (b c : SessionMome
   pub brings : told → BringsCanonical D b.files c.files b.session.set.parts c.session.set.parts
   pub cause : HasPageCause b.faults c.faults result
   pub whole : told → (i : Index) → Sees D b.files b.session.set i → NotDamaged result
-
--- reading the commit of a folder that stores a state finds no damage
-pub state_undamaged : {P : Type 0} (files : Files) (state : State) → IsStored files state → (files Commit ≡ None → P)
-    → ((c : CommitData) → IsCommitFile (bytes_of (files Commit)) c → P) → P
-state_undamaged files None h absent whole = absent h
-state_undamaged files (Some i) h absent whole = whole h.commit h.holds.commit

@@ -3,13 +3,13 @@ use Rattle.std.proofs.Common.{ℕ, ◌≤◌, Some, subst}
 use Rattle.std.proofs.lemmas.Result.{err_from_is_err_and}
 use Rattle.script_lang.specs.Reading.{greatest_leaf}
 use Rattle.index_core.proofs.Sizes.{session_fits}
-use Rattle.script_run.proofs.Lined.{page_memory, page_none}
 use Rattle.script_run.proofs.Opened.{made_stands, attached_stands}
 use Rattle.script_run.proofs.Starting.{opens_new, opens_none, opens_stored}
 use Rattle.index_opening.specs.Evidence.{IsTwice}
 use Rattle.index_opening.proofs.Evident.{on_evident_at}
 use Rattle.script_run.proofs.Shown.{attached_trusts, bare_trusts}
 use Rattle.script_run.proofs.origin.open.Goals as goal
+use Rattle.run_status.proofs.Ending.{page_memory, page_none}
 
 pub create-requires : goal.create-requires
 create-requires g c =

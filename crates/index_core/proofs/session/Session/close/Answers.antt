@@ -17,17 +17,19 @@ use Rattle.index_core.specs.Steps.{SaysCommit}
 use Rattle.index_core.proofs.FaultCauses.{cause_then, fault_cause}
 use Rattle.index_core.proofs.Bringing.{brings_still, brings_then}
 use Rattle.index_core.proofs.Brought.{commit_swept}
-use Rattle.index_core.proofs.Closing.{at_ease, flight_then, guards_eased, keeps_either, levels_then}
-use Rattle.index_core.proofs.Closing.{names_eased, on_ok_then, only_listed, tracked_then, unchanged_closed}
+use Rattle.index_core.proofs.Closing.{flight_then, guards_eased, keeps_either, levels_then}
+use Rattle.index_core.proofs.Closing.{names_eased, only_listed, tracked_then, unchanged_closed}
 use Rattle.index_core.proofs.Committing.{keeps_fault, on_ok_any, on_ok_none, says_still, stores_any, stores_fault}
 use Rattle.index_core.proofs.Sizes.{session_fits}
 use Rattle.index_core.proofs.Undone.{undone_written}
 use Rattle.index_core.proofs.session.Session.close.Given as given
 use Rattle.index_core.proofs.session.Session.close.Goals as goal
+use Rattle.index_core.proofs.Adding.{on_ok_map}
+use Rattle.segment_set.proofs.Snapped.{set_rested}
 
 -- the set after its snapshots and its begun merge went
-eased : (g : given.Over) (c : goal.After-sweep g) → c.rest.new.self ≡ at_ease c.commit.new.self.set
-eased g c = c.rest.ensures.kept ∙ ap (λ (u : SessionData). at_ease u.set) c.self.view_is
+eased : (g : given.Over) (c : goal.After-sweep g) → c.rest.new.self ≡ set_rested c.commit.new.self.set
+eased g c = c.rest.ensures.kept ∙ ap (λ (u : SessionData). set_rested u.set) c.self.view_is
 
 -- the session then
 abbrev held : (g : given.Over) (c : goal.After-sweep g) → SessionData
@@ -65,7 +67,7 @@ sweep-requires g c = (
 )
 
 pub returns-clause-closed : goal.returns-clause-closed
-returns-clause-closed g c = on_ok_then c.sweep.result (λ needed. record {
+returns-clause-closed g c = on_ok_map c.sweep.result (λ needed. record {
   seen = λ told i seen. c.sweep.ensures.seen told (at_rest i)
       (c.rest.ensures.seen _ i (subst (λ (u : SessionData). Sees g.row.D (g.F.Pages.files c.commit.new.folder) u.set i) (sym c.self.view_is)
       (c.commit.ensures.seen told i seen)));

@@ -13,11 +13,12 @@ use Rattle.index_model.specs.State.{Index}
 use Rattle.segment_set.specs.Sets.{IsWell, SetData, buffer_at, parts_at, viewed_buffer, viewed_parts}
 use Rattle.segment_set.specs.Seen.{Sees, entries_seen}
 use Rattle.segment_set.specs.Faithful.{IsFaithful}
-use Rattle.segment_set.proofs.Sizes.{entry_fits, point_fits}
+use Rattle.segment_set.proofs.Sizes.{point_fits}
 use Rattle.segment_set.proofs.Viewed.{looked_buffer, looked_nearest, looked_parts, looked_read, looked_sees, looked_well, viewed_read}
 use Rattle.segment_set.proofs.Viewing.{looked_evident, looked_faithful}
 use Rattle.segment_set.proofs.set.SegmentSet.nearest.Given as given
 use Rattle.segment_set.proofs.set.SegmentSet.nearest.Goals as goal
+use Rattle.point_codec.proofs.Sizes.{entry_fits}
 
 -- the set as it was, by its fields
 abbrev was : (g : given.Over) (c : goal.After-nearest g) → SetData

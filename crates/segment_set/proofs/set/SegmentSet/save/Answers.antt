@@ -22,13 +22,14 @@ use Rattle.segment_set.specs.Saved.{HasNextGeneration, IsSaved, StaysButSaved}
 use Rattle.segment_set.specs.Faithful.{IsFaithful}
 use Rattle.index_opening.specs.Evidence.{IsEvidentIn}
 use Rattle.segment_set.proofs.Carried.{keeps_then, stays_then}
-use Rattle.segment_set.proofs.Saving.{all_fresh, all_next, all_written, canon_saved, cause_after, if_ok_both, if_ok_map}
+use Rattle.segment_set.proofs.Saving.{all_fresh, all_next, all_written, canon_saved, cause_after, if_ok_both}
 use Rattle.segment_set.proofs.Saving.{no_damage, ok_always, sees_saved, stays_saved, well_saved}
 use Rattle.segment_set.proofs.SavedCommit.{saved_is_stored}
 use Rattle.segment_set.proofs.Refused.{at_error, never_ok, never_value, same_cause, same_damage}
 use Rattle.segment_set.proofs.Settled.{left_settled}
 use Rattle.segment_set.specs.Settles.{Flushes, SetMoment, moment}
 use Rattle.segment_set.proofs.set.SegmentSet.save.Goals as goal
+use Rattle.segment_set.proofs.Chosen.{if_ok}
 
 pub returns-in_err-flush-clause-whole : goal.returns-in_err-flush-clause-whole
 returns-in_err-flush-clause-whole g c = λ told i seen.
@@ -61,7 +62,7 @@ returns-clause-fresh g c =
     let s = c.flush.new.self in
     let t = c.list_segments.new.self in
     let files = g.F.Pages.files c.list_segments.new.folder in
-    if_ok_map c.list_segments.result (λ (k : CommitData). AllZip (IsSaved (IsTrue g.F.Pages.told) s.names t.names files) k.listed s.parts)
+    if_ok c.list_segments.result (λ (k : CommitData). AllZip (IsSaved (IsTrue g.F.Pages.told) s.names t.names files) k.listed s.parts)
     (λ (k : CommitData). All (λ (l : Listed). is_named c.args.self.now.names.names (Live l.segment l.generation) ≡ false) k.listed)
     (λ k all. all_fresh (IsTrue g.F.Pages.told) c.args.self.now.names s.names t.names files k.listed s.parts c.in_ok-flush.ensures.kept.more all)
     c.list_segments.ensures.listed
@@ -71,7 +72,7 @@ returns-clause-live g c = λ told.
     let s = c.flush.new.self in
     let t = c.list_segments.new.self in
     let files = g.F.Pages.files c.list_segments.new.folder in
-    if_ok_map c.list_segments.result (λ (k : CommitData). AllZip (IsSaved (IsTrue g.F.Pages.told) s.names t.names files) k.listed s.parts)
+    if_ok c.list_segments.result (λ (k : CommitData). AllZip (IsSaved (IsTrue g.F.Pages.told) s.names t.names files) k.listed s.parts)
     (λ (k : CommitData).
     AllZip (λ (l : Listed) (p : LiveSegment). IsLiveFile l.segment l.generation (bytes_of (files (Live l.segment l.generation))) p.live) k.listed t.parts)
     (λ k all. all_written (IsTrue g.F.Pages.told) s.names t.names files k.listed s.parts t.parts told c.list_segments.ensures.alone.parts all)
@@ -235,7 +236,7 @@ returns-clause-flushed g c =
     let s = c.flush.new.self in
     let t = c.list_segments.new.self in
     let files = g.F.Pages.files c.list_segments.new.folder in
-    if_ok_map c.list_segments.result (λ (k : CommitData). AllZip (IsSaved (IsTrue g.F.Pages.told) s.names t.names files) k.listed s.parts)
+    if_ok c.list_segments.result (λ (k : CommitData). AllZip (IsSaved (IsTrue g.F.Pages.told) s.names t.names files) k.listed s.parts)
     (λ (k : CommitData). (u : SetMoment) × Flushes g.row.D (IsTrue g.F.Pages.told) (moment (g.F.Pages.files c.args.folder.now) c.args.self.now) u
     × StaysButSaved u.set t × All (HasNextGeneration u.set.names) k.listed)
     (λ k all. (
