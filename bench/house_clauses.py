@@ -1,4 +1,6 @@
-"""The places of promises that README.md and docs/PROVED.md name: each file, call and clause has to be there."""
+"""The places of promises that README.md and docs/PROVED.md name: each file, call and clause has to be there. A clause
+that is a record is followed by a dot and the field that says the promise, which has to stand in the crate's specs."""
+import glob
 import os
 import re
 
@@ -20,6 +22,15 @@ def contracts_of(root, path):
                 calls[name].update(re.findall(r"\bensures (\w+) \{", line))
                 calls[name].update(re.findall(r"\b(ensures) \{", line))
     return calls
+
+
+def fields_of(root, path):
+    """The fields of all records in the specs of a file's crate."""
+    fields = set()
+    for specs in glob.glob(os.path.join(root, *path.split("/")[:2], "specs", "**", "*.antt"), recursive=True):
+        with open(specs, encoding="utf-8") as text:
+            fields.update(re.findall(r"(?m)^ +pub (\w+) :", text.read()))
+    return fields
 
 
 def places_of(path, text):
@@ -54,6 +65,9 @@ def faults_of_places(root):
                 continue
             counted += len(clauses)
             for clause in clauses:
+                clause, *fields = clause.split(".")
                 if not any(clause in names for names in there):
                     yield "%s names `%s` of `%s`, and no such clause is there" % (page, clause, calls[0])
+                for field in set(fields) - (fields_of(root, file) if fields else set()):
+                    yield "%s names `%s` of `%s`, and no such field is there" % (page, field, calls[0])
     print("%-24s %4d clauses that pages name are there" % ("crates", counted))

@@ -55,18 +55,18 @@ module _ (D : ℕ) (told : Type 0) (ids : List ℕ) (i : Index) (a b : StepMomen
       → Applies D told (λ j. step_on j asks.MergeEnd) false a b (Err fault)
       → EndsMerge D told ids i (moment_of a) (moment_of b) r
   end_stopped {T} fault r is ends = subst (EndsMerge D told ids i (moment_of a) (moment_of b)) (sym is) (record {
-    keeps = λ t g. inl (ends.kept t g.trusts.guards);
+    keeps = λ t g. inl (ends.keeps.kept t g.trusts.guards);
     done = λ t g. tt;
-    undone = λ t g. fault_kept a.files b.files (ends.kept t g.trusts.guards) fault;
-    lasting = λ t g. inl (ends.kept t g.trusts.guards);
-    whole = λ t g. ends.whole t (merging i) g.seen (λ e. g.trusts.guards);
-    cause = fault_to a.faults b.faults fault ends.cause;
-    evident = ends.evident;
+    undone = λ t g. fault_kept a.files b.files (ends.keeps.kept t g.trusts.guards) fault;
+    lasting = λ t g. inl (ends.keeps.kept t g.trusts.guards);
+    whole = λ t g. ends.faults.whole t (merging i) g.seen (λ e. g.trusts.guards);
+    cause = fault_to a.faults b.faults fault ends.faults.cause;
+    evident = ends.faults.evident;
   })
 
   module _ (x : Applied) (ends : Applies D told (λ j. step_on j asks.MergeEnd) false a b (Ok x)) where
     trusts_on : told → Trusts D a.files a.session → Trusts D b.files b.session
-    trusts_on t h = record { guards = ends.guards t h.guards; faithful = ends.faithful t h.faithful; traced = ends.traced t h }
+    trusts_on t h = record { guards = ends.stays.guards t h.guards; faithful = ends.stays.faithful t h.faithful; traced = ends.stays.traced t h }
 
     -- the set is seen as before the merge
     seen_on : told → IsBegun D a.files a.session ids i → (x ≡ applied.Done) × Sees D b.files b.session.set (record i { begun = false })
@@ -114,18 +114,19 @@ module _ (D : ℕ) (told : Type 0) (ids : List ℕ) (i : Index) (a b : StepMomen
             apart = apart_on t g;
             brings = brings_then D a.files b.files c.files a.session.set.parts b.session.set.parts c.session.set.parts
                 (ends.canon t (merging i) g.seen g.trusts.guards) (commit.canon t);
-            levels = levels_after a.files b.files c.files (ends.kept t g.trusts.guards) (commit.done.few t trusts.guards (has_ended t g).ended);
+            levels = levels_after a.files b.files c.files (ends.keeps.kept t g.trusts.guards) (commit.done.few t trusts.guards (has_ended t g).ended);
           }
 
       pub ended_committed : EndsMerge D told ids i (moment_of a) c r
       ended_committed = record {
         keeps = λ t g.
-            keeps_on r (ends.kept t g.trusts.guards) (commits.durable.stored t (record i { begun = false }) (seen_on t g).1 (trusts_on t g.trusts).guards);
+            keeps_on r (ends.keeps.kept t g.trusts.guards)
+            (commits.durable.stored t (record i { begun = false }) (seen_on t g).1 (trusts_on t g.trusts).guards);
         done = merged_on r commits;
-        undone = λ t g. undone_after a.files b.files c.files r (ends.kept t g.trusts.guards) (commits.durable.undone t (trusts_on t g.trusts).guards);
-        lasting = λ t g. commit_after a.files b.files c.files (ends.kept t g.trusts.guards) (commits.durable.lasting t (trusts_on t g.trusts));
+        undone = λ t g. undone_after a.files b.files c.files r (ends.keeps.kept t g.trusts.guards) (commits.durable.undone t (trusts_on t g.trusts).guards);
+        lasting = λ t g. commit_after a.files b.files c.files (ends.keeps.kept t g.trusts.guards) (commits.durable.lasting t (trusts_on t g.trusts));
         whole = λ t g. commits.faults.whole t (record i { begun = false }) (seen_on t g).1;
-        cause = cause_then a.faults b.faults c.faults r ends.cause.fine commits.faults.cause;
+        cause = cause_then a.faults b.faults c.faults r ends.faults.cause.fine commits.faults.cause;
         evident = on_evident_less (told × Trusts D b.files b.session) (told × Trusts D a.files a.session) c.files r (λ h. (h.0, trusts_on h.0 h.1))
             commits.faults.evident;
       }

@@ -11,8 +11,9 @@ use Rattle.index_model.specs.State.{Index, State}
 use Rattle.index_model.specs.Script.{Answer}
 use Rattle.stored_index.specs.Stored.{IsStored}
 use Rattle.segment_set.specs.Seen.{Sees}
-use Rattle.index_core.specs.Calls.{IsCommitted, IsDurable, ShowsFault, StaysTrue}
+use Rattle.index_core.specs.Calls.{IsCommitted, IsDurable, ShowsFault}
 use Rattle.index_core.specs.Effects.{BringsCanonical}
+use Rattle.index_core.specs.Sessions.{StaysTrue}
 use Rattle.index_core.specs.Whole.{DoesWhole, SessionMoment}
 
 -- after a fault that is no damage

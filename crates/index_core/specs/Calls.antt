@@ -27,12 +27,6 @@ use Rattle.index_core.specs.Light.{CommitsFewOfLevels, IsBarred, KeepsLevels, St
 use Rattle.index_core.specs.Sessions.{AreTraced, Guards, IsCommitAnew, IsUnchanged, SessionData, Trusts}
 use Rattle.index_core.specs.Steps.{KeepsOver, KeepsUndone, Stores}
 
--- what the session knows of the files is so of those of now: it guards them, and can be trusted as before
-pub record StaysTrue (D : ℕ) (told : Type 0) (old new : Files) (s t : SessionData) : Type 0 where
-  pub guards : told → Guards D old s → Guards D new t
-  pub faithful : told → IsFaithful D old s.set → IsFaithful D new t.set
-  pub traced : told → Trusts D old s → AreTraced D new t.set.parts
-
 -- The last commit is kept, or the one in flight: once it is done the Commit file says it, and what is seen is stored.
 -- After a damage all that is kept is as it was. Whatever the files hold, each listed file of a new commit is whole.
 pub record IsDurable {T : Type 0} (D : ℕ) (told : Type 0) (old new : Files) (s t : SessionData)

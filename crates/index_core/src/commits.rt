@@ -17,8 +17,8 @@ ghost use Rattle.segment_set.specs.Seen.{Sees};
 ghost use Rattle.segment_set.specs.Faithful.{IsFaithful};
 ghost use Rattle.segment_set.specs.Sets.{IsNamed, IsSettled};
 ghost use Rattle.segment_set.specs.Kept.{Follows, IsCommitOf, StaysButFiles};
-ghost use Rattle.index_core.specs.Sessions.{AreTraced, Guards, GuardsSet, IsSound, IsUnchanged};
-ghost use Rattle.index_core.specs.Calls.{HasNoDamage, IsCommitted, IsDurable, ShowsFault, StaysTrue, SweepsAway};
+ghost use Rattle.index_core.specs.Sessions.{AreTraced, Guards, GuardsSet, IsSound, IsUnchanged, StaysTrue};
+ghost use Rattle.index_core.specs.Calls.{HasNoDamage, IsCommitted, IsDurable, ShowsFault, SweepsAway};
 ghost use Rattle.index_core.specs.Closed.{IsSessionClosed, IsIdle};
 ghost use Rattle.index_core.specs.Costs.{ReadsAtMost};
 ghost use Rattle.index_core.specs.Damages.{ShowsDamage, ShowsMerge};
@@ -180,7 +180,8 @@ impl<const D: usize> Session<D> {
         requires there { IsSome self.old.commit }
         requires written { self.old.refused ≡ false }
         ensures alone { StaysButFiles self.old.set self.new.set }
-        ensures removes { SweepsAway (IsTrue F.told) (F.files folder.old) (F.files folder.new) self.old self.new result }
+        ensures removes { SweepsAway (IsTrue F.told) (F.files folder.old)
+            (F.files folder.new) self.old self.new result }
         ensures faithful { IsTrue F.told → IsFaithful D (F.files folder.old) self.old.set
             → IsFaithful D (F.files folder.new) self.new.set }
         ensures written { (self.new.commit ≡ self.old.commit) × (self.new.refused ≡ false) }
