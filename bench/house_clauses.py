@@ -1,5 +1,5 @@
 """The places of promises that README.md and docs/PROVED.md name: each file, call and clause has to be there. A clause
-that is a record is followed by a dot and the field that says the promise, which has to stand in the crate's specs."""
+that is a record is followed by a dot and the field that says the promise, which has to stand in some crate's specs."""
 import glob
 import os
 import re
@@ -24,10 +24,10 @@ def contracts_of(root, path):
     return calls
 
 
-def fields_of(root, path):
-    """The fields of all records in the specs of a file's crate."""
+def fields_of(root):
+    """The fields of all records in specs."""
     fields = set()
-    for specs in glob.glob(os.path.join(root, *path.split("/")[:2], "specs", "**", "*.antt"), recursive=True):
+    for specs in glob.glob(os.path.join(root, "crates/*/specs/**/*.antt"), recursive=True):
         with open(specs, encoding="utf-8") as text:
             fields.update(re.findall(r"(?m)^ +pub (\w+) :", text.read()))
     return fields
@@ -49,7 +49,7 @@ def places_of(path, text):
 
 
 def faults_of_places(root):
-    counted, known = 0, {}
+    counted, known, there_are = 0, {}, fields_of(root)
     for page in ("README.md", "docs/PROVED.md"):
         with open(os.path.join(root, page), encoding="utf-8") as text:
             places = list(places_of(page, text.read()))
@@ -68,6 +68,6 @@ def faults_of_places(root):
                 clause, *fields = clause.split(".")
                 if not any(clause in names for names in there):
                     yield "%s names `%s` of `%s`, and no such clause is there" % (page, clause, calls[0])
-                for field in set(fields) - (fields_of(root, file) if fields else set()):
+                for field in set(fields) - there_are:
                     yield "%s names `%s` of `%s`, and no such field is there" % (page, field, calls[0])
     print("%-24s %4d clauses that pages name are there" % ("crates", counted))

@@ -9,10 +9,9 @@ use Rattle.page_cache.specs.declared.faults.PageFault.{PageFault}
 use Rattle.commit_list.specs.Commits.{CommitData}
 use Rattle.commit_list.specs.CommitFiles.{IsCommitFile}
 use Rattle.script_lang.specs.Requests.{Request}
-use Rattle.index_model.specs.State.{Index, State}
+use Rattle.index_model.specs.State.{Index}
 use Rattle.index_model.specs.declared.session.Applied.{Applied}
-use Rattle.stored_index.specs.Stored.{IsStored, IsUndefined}
-use Rattle.index_opening.specs.Damages.{IsAttachDamage, IsAttachDamageOf}
+use Rattle.stored_index.specs.Stored.{IsStored}
 use Rattle.index_opening.specs.Evidence.{IsEvident}
 use Rattle.file_names.specs.Names.{is_named}
 use Rattle.segment_view.specs.LiveSegments.{LiveSegment}
@@ -70,18 +69,6 @@ pub record ShowsFault {T : Type 0} (D : ℕ) (told : Type 0) (old new : Files) (
 pub record HasNoDamage {T : Type 0} (before now : ℕ) (result : Result T PageFault) : Type 0 where
   pub cause : HasPageCause before now result
   pub whole : NotDamaged result
-
--- Of a commit that is attached: there is no damage where a state is stored, and nothing is where there is one. It is
--- of a file that the commit lists, true of the files, and evident.
-pub record ShowsAttach {T : Type 0} (told : Type 0) (files : Files) (commit : CommitData) (before now : ℕ)
-    (result : Result T PageFault) : Type 0 where
-  pub cause : HasPageCause before now result
-  pub whole : told → IsCommitFile (bytes_of (files Commit)) commit → (state : State) → IsStored files state
-      → NotDamaged result
-  pub undefined : told → IsCommitFile (bytes_of (files Commit)) commit → OnDamage result (λ _. IsUndefined files)
-  pub shown : OnDamage result (IsAttachDamage commit)
-  pub damage : told → OnDamage result (IsAttachDamageOf files commit)
-  pub evident : OnDamage result (IsEvident (told × IsCommitFile (bytes_of (files Commit)) commit) files)
 
 -- ---- sweeps
 

@@ -4,6 +4,8 @@ ghost use Rattle.std.specs.Prelude.{◌≡◌, ◌≤◌, ◌+◌, List, [], Non
 ghost use Rattle.outer_io.specs.Files.{Files};
 ghost use Rattle.outer_io.specs.declared.file_name.FileName.TheVariants.{Commit as CommitName};
 ghost use Rattle.leaf_codec.specs.Leaves.{leaf_limit};
+ghost use Rattle.page_cache.specs.Causes.{HasPageCause};
+ghost use Rattle.page_cache.specs.Evidence.{OnDamage};
 ghost use Rattle.script_lang.specs.Seen.{IsWithinLimits, request_of};
 ghost use Rattle.index_model.specs.State.{new_index};
 ghost use Rattle.index_model.specs.Step.{step_on};
@@ -12,6 +14,7 @@ ghost use Rattle.segment_file.specs.Heads.{Head};
 ghost use Rattle.stored_index.specs.Stored.{HaveHeads, HaveLive};
 ghost use Rattle.stored_index.specs.Opening.{segments_pages};
 ghost use Rattle.segment_set.specs.Seen.{Sees};
+ghost use Rattle.segment_set.specs.Effects.{ShowsAttachDamage};
 ghost use Rattle.segment_set.specs.Faithful.{IsFaithful};
 
 use bkd_build::Gate;
@@ -48,7 +51,7 @@ impl<const D: usize> Model for Session<D> {
 
 impl<const D: usize> Session<D> {
     ghost use Rattle.index_core.specs.Sessions.{Guards};
-    ghost use Rattle.index_core.specs.Calls.{Attaches, ShowsAttach, Spares};
+    ghost use Rattle.index_core.specs.Calls.{Attaches, Spares};
     ghost use Rattle.index_core.specs.Steps.{Applies, is_committing};
     ghost use Rattle.index_core.specs.Damages.{ShowsDamage};
     ghost use Rattle.index_core.specs.Effects.{Leaves, OnDone};
@@ -89,8 +92,9 @@ impl<const D: usize> Session<D> {
             → HaveHeads (F.files folder.old) commit heads
             → HaveLive (F.files folder.old) commit sets
             → F.reads folder.new ≤ F.reads folder.old + segments_pages (F.files folder.old) commit.listed heads }
-        ensures faults { ShowsAttach (IsTrue F.told) (F.files folder.old) commit (F.faults folder.old)
-            (F.faults folder.new) result }
+        ensures cause { HasPageCause (F.faults folder.old) (F.faults folder.new) result }
+        // where there is a damage nothing is stored
+        ensures damaged { ShowsAttachDamage (IsTrue F.told) (F.files folder.old) commit (λ P. OnDamage result P) }
     {
         let _dims = commit.dims();
         Ok(Session {

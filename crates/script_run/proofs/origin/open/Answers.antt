@@ -48,7 +48,7 @@ returns-in-Stored-clause-stands g c = λ told i stored h.
 pub returns-in-Stored-clause-whole : goal.returns-in-Stored-clause-whole
 returns-in-Stored-clause-whole g c = λ told i stored h.
     let from = rw c.in-Stored.is at h in
-    c.attach.ensures.faults.whole told from.0 (Some i) from.1
+    c.attach.ensures.damaged.whole told from.0 (Some i) from.1
 
 pub returns-in_ok-create-in-New-clause-opens : goal.returns-in_ok-create-in-New-clause-opens
 returns-in_ok-create-in-New-clause-opens g c = λ told i stored h.
@@ -92,4 +92,4 @@ returns-in-Stored-clause-trusts g c = λ told there.
 
 pub returns-in-Stored-clause-evident : goal.returns-in-Stored-clause-evident
 returns-in-Stored-clause-evident g c =
-    on_evident_at IsTwice _ _ _ _ c.attach.result (λ p. (p.0, rw c.in-Stored.is at p.1)) (λ p. c.attach.ensures.files p.0) c.attach.ensures.faults.evident
+    on_evident_at IsTwice _ _ _ _ c.attach.result (λ p. (p.0, rw c.in-Stored.is at p.1)) (λ p. c.attach.ensures.files p.0) c.attach.ensures.damaged.evident

@@ -35,24 +35,18 @@ returns-in_err-attach-clause-attaches g c =
       listed = rw p.1 tt;
     }
 
-pub returns-in_err-attach-clause-faults : goal.returns-in_err-attach-clause-faults
-returns-in_err-attach-clause-faults g c =
+pub returns-in_err-attach-clause-cause : goal.returns-in_err-attach-clause-cause
+returns-in_err-attach-clause-cause g c =
     let p = err_from_is_err_and c.from_residual.result c.from_residual.ensures.1 in
-    record {
-      cause = fault_cause _ _ c.in_err-attach.field-0.0 _ (p.1 ∙ ap (λ (e : PageFault). Err e) p.2) c.in_err-attach.ensures.cause;
-      whole = λ told says state stored. rw (p.1, p.2) (c.in_err-attach.ensures.whole told says state stored);
-      undefined = λ told says. rw (p.1, p.2) (c.in_err-attach.ensures.undefined told says);
-      shown = rw (p.1, p.2) (c.in_err-attach.ensures.shown);
-      damage = λ told. rw (p.1, p.2) (c.in_err-attach.ensures.damage told);
-      evident = rw (p.1, p.2) (c.in_err-attach.ensures.evident);
-    }
+    fault_cause _ _ c.in_err-attach.field-0.0 _ (p.1 ∙ ap (λ (e : PageFault). Err e) p.2) c.in_err-attach.ensures.cause
 
-pub returns-clause-faults : goal.returns-clause-faults
-returns-clause-faults g c = record {
-  cause = done_cause _ _ _ _ c.in_ok-attach.ensures.cause;
-  whole = λ told says state stored. tt;
-  undefined = λ told says. tt;
-  shown = tt;
-  damage = λ told. tt;
-  evident = tt;
-}
+pub returns-in_err-attach-clause-damaged : goal.returns-in_err-attach-clause-damaged
+returns-in_err-attach-clause-damaged g c =
+    let p = err_from_is_err_and c.from_residual.result c.from_residual.ensures.1 in
+    rw (p.1, p.2) c.in_err-attach.ensures.damaged
+
+pub returns-clause-cause : goal.returns-clause-cause
+returns-clause-cause g c = done_cause _ _ _ _ c.in_ok-attach.ensures.cause
+
+pub returns-clause-damaged : goal.returns-clause-damaged
+returns-clause-damaged g c = record { whole = λ told says state stored. tt; undefined = λ told says. tt; shown = tt; damage = λ told. tt; evident = tt }

@@ -41,7 +41,7 @@ save-requires-after_bounds g c κs = λ _. set_fits g.row.D c.self.invariant.few
 
 pub write-requires : goal.write-requires
 write-requires g c =
-    (session_fits g.row.D c.self.invariant.few, (c.in_ok-commit.ensures.commit, (c.in_ok-commit.ensures.saved, c.in_ok-commit.ensures.emptied)))
+    (session_fits g.row.D c.self.invariant.few, (c.in_ok-commit.ensures.saves.commit, (c.in_ok-commit.ensures.saves.saved, c.in_ok-commit.ensures.emptied)))
 
 pub sweep-requires : goal.sweep-requires
 sweep-requires g c = (session_fits g.row.D c.self.invariant.few, (ap is_some c.in_ok-write.ensures.written.0, c.in_ok-write.ensures.written.1))
@@ -90,46 +90,48 @@ returns-in_err-commit g c =
     record {
       seen = λ told i seen. c.save.ensures.seen told i (subst (λ (u : SessionData). Sees g.row.D old u.set i) (sym c.self.view_is) seen);
       stays = record {
-        guards = λ told guards. guards_after _ _ _ _ _ _ told refl refl c.save.ensures.kept c.save.ensures.follows c.save.ensures.stays.leaf
+        guards = λ told guards. guards_after _ _ _ _ _ _ told refl refl c.save.ensures.rewrites.kept c.save.ensures.rewrites.follows c.save.ensures.stays.leaf
             (subst (Guards g.row.D old) (sym c.self.view_is) guards);
-        faithful = λ told faithful. c.save.ensures.faithful told (subst (λ (u : SessionData). IsFaithful g.row.D old u.set) (sym c.self.view_is) faithful);
-        traced = λ told trusts. traced_by _ _ _ _ _ c.save.new.self told c.save.ensures.kept c.save.ensures.follows (c.save.ensures.canon told)
+        faithful = λ told faithful.
+            c.save.ensures.rewrites.faithful told (subst (λ (u : SessionData). IsFaithful g.row.D old u.set) (sym c.self.view_is) faithful);
+        traced = λ told trusts.
+            traced_by _ _ _ _ _ c.save.new.self told c.save.ensures.rewrites.kept c.save.ensures.rewrites.follows (c.save.ensures.rewrites.canon told)
             (subst (Trusts g.row.D old) (sym c.self.view_is) trusts);
       };
       durable = record {
         kept = λ told guards. keeps_fault old saved (record inside { set = c.save.new.self }) _ _ error
-            (inl (kept_after_calls _ _ _ _ _ _ told c.save.ensures.kept (subst (Guards g.row.D old) (sym c.self.view_is) guards).set));
+            (inl (kept_after_calls _ _ _ _ _ _ told c.save.ensures.rewrites.kept (subst (Guards g.row.D old) (sym c.self.view_is) guards).set));
         stored = λ told i seen guards. stores_fault old saved i c.save.new.self _ _ error
-            (inl (kept_after_calls _ _ _ _ _ _ told c.save.ensures.kept (subst (Guards g.row.D old) (sym c.self.view_is) guards).set));
+            (inl (kept_after_calls _ _ _ _ _ _ told c.save.ensures.rewrites.kept (subst (Guards g.row.D old) (sym c.self.view_is) guards).set));
         undone = λ told guards. undone_kept old saved _ _ error
-            (kept_after_calls _ _ _ _ _ _ told c.save.ensures.kept (subst (Guards g.row.D old) (sym c.self.view_is) guards).set);
+            (kept_after_calls _ _ _ _ _ _ told c.save.ensures.rewrites.kept (subst (Guards g.row.D old) (sym c.self.view_is) guards).set);
         lasting = λ told trusts.
             let before = subst (Trusts g.row.D old) (sym c.self.view_is) trusts in
-            inl (kept_after_calls _ _ _ _ _ _ told c.save.ensures.kept before.guards.set);
+            inl (kept_after_calls _ _ _ _ _ _ told c.save.ensures.rewrites.kept before.guards.set);
       };
-      flight = λ told guards. inl (kept_after_calls _ _ _ _ _ _ told c.save.ensures.kept (subst (Guards g.row.D old) (sym c.self.view_is) guards).set);
+      flight = λ told guards. inl (kept_after_calls _ _ _ _ _ _ told c.save.ensures.rewrites.kept (subst (Guards g.row.D old) (sym c.self.view_is) guards).set);
       done = on_ok_none _ _ _ p.1;
       idle = λ unchanged. absurd (both_ways c.is_changed.result (c.is_changed.ensures.unchanged.1 unchanged) c.if-not-is_changed.false);
       rested = λ settled. c.save.ensures.rested (subst (λ (u : SessionData). IsSettled u.set) (sym c.self.view_is) settled);
       canon = λ told. subst (λ (u : SessionData). BringsCanonical g.row.D old saved u.set.parts c.save.new.self.parts) c.self.view_is
-          (brings_written _ _ _ _ _ _ _ _ told c.save.ensures.kept c.save.ensures.follows (c.save.ensures.canon told));
-      follows = subst (λ (u : SessionData). Follows u.set.names u.set.parts c.save.new.self.parts) c.self.view_is c.save.ensures.follows;
+          (brings_written _ _ _ _ _ _ _ _ told c.save.ensures.rewrites.kept c.save.ensures.rewrites.follows (c.save.ensures.rewrites.canon told));
+      follows = subst (λ (u : SessionData). Follows u.set.names u.set.parts c.save.new.self.parts) c.self.view_is c.save.ensures.rewrites.follows;
       faults = record {
         cause = fault_cause _ _ c.in_err-commit.field-0.0 _ error c.in_err-commit.ensures.cause;
         whole = λ told i seen.
-            rw (p.1, p.2) (c.in_err-commit.ensures.whole told i (subst (λ (u : SessionData). Sees g.row.D old u.set i) (sym c.self.view_is) seen));
+            rw (p.1, p.2) (c.in_err-commit.ensures.damaged.whole told i (subst (λ (u : SessionData). Sees g.row.D old u.set i) (sym c.self.view_is) seen));
         evident = damage_to _ _ c.in_err-commit.field-0.0 error
             (subst (λ (u : SessionData). FaultShows (IsEvident (IsTrue g.F.Pages.told × Trusts g.row.D old u) saved) c.in_err-commit.field-0.0)
             c.self.view_is
-            (traced_shows {X = Unit {0}} _ _ _ _ inside _ (Err c.in_err-commit.field-0.0) c.save.ensures.kept
+            (traced_shows {X = Unit {0}} _ _ _ _ inside _ (Err c.in_err-commit.field-0.0) c.save.ensures.rewrites.kept
             (subst (λ (u : SessionData). All (IsNamed u.set.names) u.set.parts) (sym c.self.view_is) c.is_changed.ensures.named)
-            c.in_err-commit.ensures.evident));
+            c.in_err-commit.ensures.damaged.evident));
       };
       damage = subst (λ (u : SessionData). ShowsMerge g.row.D (IsTrue g.F.Pages.told) old saved u.set c.from_residual.result) c.self.view_is
           (merge_to {T = Unit {0}} _ _ _ _ _ _ c.in_err-commit.field-0.0 error (record {
-            shown = c.in_err-commit.ensures.shown;
-            damage = c.in_err-commit.ensures.damage;
-            doubled = c.in_err-commit.ensures.doubled;
+            shown = c.in_err-commit.ensures.damaged.shown;
+            damage = c.in_err-commit.ensures.damaged.damage;
+            doubled = c.in_err-commit.ensures.damaged.doubled;
           }));
     }
 
@@ -144,18 +146,18 @@ returns-in_err-write g c =
     let saved = g.F.Pages.files c.save.new.folder in
     let written = g.F.Pages.files c.write.new.folder in
     let kept : IsTrue g.F.Pages.told → Guards g.row.D old c.args.self.now → SameKept old saved =
-    λ told guards. kept_after_calls _ _ _ _ _ _ told c.save.ensures.kept (subst (Guards g.row.D old) (sym c.self.view_is) guards).set in
+    λ told guards. kept_after_calls _ _ _ _ _ _ told c.save.ensures.rewrites.kept (subst (Guards g.row.D old) (sym c.self.view_is) guards).set in
     record {
       seen = λ told i seen.
           c.write.ensures.seen told i (c.save.ensures.seen told i (subst (λ (u : SessionData). Sees g.row.D old u.set i) (sym c.self.view_is) seen));
       stays = record {
         guards = λ told guards. c.write.ensures.guards told
-            (set_after _ _ _ _ _ _ told c.save.ensures.kept c.save.ensures.stays.leaf (subst (Guards g.row.D old) (sym c.self.view_is) guards).set)
-            (c.in_ok-commit.ensures.live told);
+            (set_after _ _ _ _ _ _ told c.save.ensures.rewrites.kept c.save.ensures.stays.leaf (subst (Guards g.row.D old) (sym c.self.view_is) guards).set)
+            (c.in_ok-commit.ensures.saves.live told);
         faithful = λ told faithful. c.write.ensures.faithful told
-            (c.save.ensures.faithful told (subst (λ (u : SessionData). IsFaithful g.row.D old u.set) (sym c.self.view_is) faithful));
-        traced = λ told trusts. c.write.ensures.traced told (c.in_ok-commit.ensures.live told)
-            (traced_by _ _ _ _ _ c.save.new.self told c.save.ensures.kept c.save.ensures.follows (c.save.ensures.canon told)
+            (c.save.ensures.rewrites.faithful told (subst (λ (u : SessionData). IsFaithful g.row.D old u.set) (sym c.self.view_is) faithful));
+        traced = λ told trusts. c.write.ensures.traced told (c.in_ok-commit.ensures.saves.live told)
+            (traced_by _ _ _ _ _ c.save.new.self told c.save.ensures.rewrites.kept c.save.ensures.rewrites.follows (c.save.ensures.rewrites.canon told)
             (subst (Trusts g.row.D old) (sym c.self.view_is) trusts));
       };
       durable = record {
@@ -163,17 +165,17 @@ returns-in_err-write g c =
             keeps_fault old written c.write.new.self _ _ error (kept_on old saved written (kept told guards) (c.in_err-write.ensures.kept told));
         stored = λ told i seen guards. stores_fault old written i c.write.new.self.set _ _ error
             (kept_on old saved written (kept told guards) (c.in_err-write.ensures.stored told i
-            (c.in_ok-commit.ensures.stored told i (subst (λ (u : SessionData). Sees g.row.D old u.set i) (sym c.self.view_is) seen))));
+            (c.in_ok-commit.ensures.saves.stored told i (subst (λ (u : SessionData). Sees g.row.D old u.set i) (sym c.self.view_is) seen))));
         undone = λ told guards. undone_flight (Unit {0}) old written c.write.new.self.set.saved fault _ error c.in_err-write.ensures.faults.whole
             (kept_on old saved written (kept told guards) (c.in_err-write.ensures.kept told));
         lasting = λ told trusts.
             let before = subst (Trusts g.row.D old) (sym c.self.view_is) trusts in
-            commit_after old saved written (kept_after_calls _ _ _ _ _ _ told c.save.ensures.kept before.guards.set)
+            commit_after old saved written (kept_after_calls _ _ _ _ _ _ told c.save.ensures.rewrites.kept before.guards.set)
             (keeps_flight g.row.D saved written c.save.new.self c.in_ok-commit.commit c.write.new.self.set.saved
-            (ap (λ (u : SetData). u.saved) c.write.ensures.set ∙ c.in_ok-commit.ensures.saved) c.in_ok-commit.ensures.commit
-            (c.in_ok-commit.ensures.live told) (c.write.ensures.others told)
-            (set_after _ _ _ _ _ _ told c.save.ensures.kept c.save.ensures.stays.leaf before.guards.set)
-            (traced_by _ _ _ _ _ c.save.new.self told c.save.ensures.kept c.save.ensures.follows (c.save.ensures.canon told) before)
+            (ap (λ (u : SetData). u.saved) c.write.ensures.set ∙ c.in_ok-commit.ensures.saves.saved) c.in_ok-commit.ensures.saves.commit
+            (c.in_ok-commit.ensures.saves.live told) (c.write.ensures.others told)
+            (set_after _ _ _ _ _ _ told c.save.ensures.rewrites.kept c.save.ensures.stays.leaf before.guards.set)
+            (traced_by _ _ _ _ _ c.save.new.self told c.save.ensures.rewrites.kept c.save.ensures.rewrites.follows (c.save.ensures.rewrites.canon told) before)
             (c.in_err-write.ensures.kept told));
       };
       flight = λ told guards. kept_on old saved written (kept told guards) (c.in_err-write.ensures.kept told);
@@ -182,10 +184,10 @@ returns-in_err-write g c =
       rested = λ settled. c.write.ensures.unread ∙ c.save.ensures.rested (subst (λ (u : SessionData). IsSettled u.set) (sym c.self.view_is) settled);
       canon = λ told. subst (λ (u : SessionData). BringsCanonical g.row.D old written u.set.parts c.write.new.self.set.parts) c.self.view_is
           (brings_then _ _ _ _ _ c.save.new.self.parts _
-          (brings_written _ _ _ _ _ _ _ _ told c.save.ensures.kept c.save.ensures.follows (c.save.ensures.canon told))
+          (brings_written _ _ _ _ _ _ _ _ told c.save.ensures.rewrites.kept c.save.ensures.rewrites.follows (c.save.ensures.rewrites.canon told))
           (brings_two _ _ _ _ _ (c.write.ensures.others told) (ap (λ (u : SetData). u.parts) c.write.ensures.set)));
       follows = subst (λ (u : SessionData). Follows u.set.names u.set.parts c.write.new.self.set.parts) c.self.view_is
-          (subst (λ (u : SetData). Follows c.self.inside.set.names c.self.inside.set.parts u.parts) (sym c.write.ensures.set) c.save.ensures.follows);
+          (subst (λ (u : SetData). Follows c.self.inside.set.names c.self.inside.set.parts u.parts) (sym c.write.ensures.set) c.save.ensures.rewrites.follows);
       faults = record {
         cause =
             fault_cause _ _ fault _ error (cause_then {T = Unit {0}} _ _ _ (Err fault) c.in_ok-commit.ensures.cause.fine c.in_err-write.ensures.faults.cause);
@@ -205,30 +207,30 @@ returns g c =
     let swept = g.F.Pages.files c.sweep.new.folder in
     let same = c.sweep.ensures.written.0 ∙ c.in_ok-write.ensures.written.0 in
     let flown = ap (λ (u : SetData). u.saved) c.sweep.ensures.alone.is
-    ∙ (ap (λ (u : SetData). u.saved) c.write.ensures.set ∙ c.in_ok-commit.ensures.saved ∙ sym c.in_ok-write.ensures.written.0)
+    ∙ (ap (λ (u : SetData). u.saved) c.write.ensures.set ∙ c.in_ok-commit.ensures.saves.saved ∙ sym c.in_ok-write.ensures.written.0)
     ∙ sym c.sweep.ensures.written.0 in
     let empty = ap (λ (u : SetData). u.buffer) c.sweep.ensures.alone.is ∙ ap (λ (u : SetData). u.buffer) c.write.ensures.set
     ∙ c.in_ok-commit.ensures.emptied in
     let guarded : IsTrue g.F.Pages.told → Guards g.row.D old c.args.self.now → Guards g.row.D written c.write.new.self =
     λ told guards. c.write.ensures.guards told
-    (set_after _ _ _ _ _ _ told c.save.ensures.kept c.save.ensures.stays.leaf (subst (Guards g.row.D old) (sym c.self.view_is) guards).set)
-    (c.in_ok-commit.ensures.live told) in
+    (set_after _ _ _ _ _ _ told c.save.ensures.rewrites.kept c.save.ensures.stays.leaf (subst (Guards g.row.D old) (sym c.self.view_is) guards).set)
+    (c.in_ok-commit.ensures.saves.live told) in
     let says : IsTrue g.F.Pages.told → Guards g.row.D old c.args.self.now → SaysCommit swept c.sweep.new.self.commit =
     λ told guards. says_still written swept c.write.new.self.commit c.sweep.new.self.commit (c.sweep.ensures.kept told (guarded told guards))
     c.sweep.ensures.written.0 (c.in_ok-write.ensures.kept told) in
     let few : c.args.self.now.set.begun ≡ None → CommitsFewOfLevels c.sweep.new.self.commit =
     λ none. commits_few _ c.save.new.self c.in_ok-commit.commit _ same
-    (c.save.ensures.begun ∙ ap (λ (u : SessionData). u.set.begun) c.self.view_is ∙ none) c.in_ok-commit.ensures.commit c.in_ok-commit.ensures.levels in
+    (c.save.ensures.begun ∙ ap (λ (u : SessionData). u.set.begun) c.self.view_is ∙ none) c.in_ok-commit.ensures.saves.commit c.in_ok-commit.ensures.levels in
     record {
       seen = λ told i seen. c.sweep.ensures.seen told i (c.write.ensures.seen told i
           (c.save.ensures.seen told i (subst (λ (u : SessionData). Sees g.row.D old u.set i) (sym c.self.view_is) seen)));
       stays = record {
         guards = λ told guards. c.sweep.ensures.guards told (guarded told guards);
         faithful = λ told faithful. c.sweep.ensures.faithful told (c.write.ensures.faithful told
-            (c.save.ensures.faithful told (subst (λ (u : SessionData). IsFaithful g.row.D old u.set) (sym c.self.view_is) faithful)));
+            (c.save.ensures.rewrites.faithful told (subst (λ (u : SessionData). IsFaithful g.row.D old u.set) (sym c.self.view_is) faithful)));
         traced = λ told trusts. c.sweep.ensures.traced told (guarded told trusts.guards)
-            (c.write.ensures.traced told (c.in_ok-commit.ensures.live told)
-            (traced_by _ _ _ _ _ c.save.new.self told c.save.ensures.kept c.save.ensures.follows (c.save.ensures.canon told)
+            (c.write.ensures.traced told (c.in_ok-commit.ensures.saves.live told)
+            (traced_by _ _ _ _ _ c.save.new.self told c.save.ensures.rewrites.kept c.save.ensures.rewrites.follows (c.save.ensures.rewrites.canon told)
             (subst (Trusts g.row.D old) (sym c.self.view_is) trusts)));
       };
       durable = record {
@@ -236,17 +238,17 @@ returns g c =
         stored = λ told i seen guards. stores_any old swept i c.sweep.new.self.set c.sweep.result
             (stored_still written swept (Some (at_rest i)) (c.sweep.ensures.kept told (guarded told guards))
             (c.in_ok-write.ensures.stored told i
-            (c.in_ok-commit.ensures.stored told i (subst (λ (u : SessionData). Sees g.row.D old u.set i) (sym c.self.view_is) seen))).0)
+            (c.in_ok-commit.ensures.saves.stored told i (subst (λ (u : SessionData). Sees g.row.D old u.set i) (sym c.self.view_is) seen))).0)
             empty;
         undone = λ told guards. undone_written old swept c.sweep.new.self.commit c.sweep.result c.sweep.ensures.faults.whole (says told guards);
         lasting = λ told trusts.
             let before = subst (Trusts g.row.D old) (sym c.self.view_is) trusts in
             commit_swept old written swept
-            (commit_after old saved written (kept_after_calls _ _ _ _ _ _ told c.save.ensures.kept before.guards.set)
+            (commit_after old saved written (kept_after_calls _ _ _ _ _ _ told c.save.ensures.rewrites.kept before.guards.set)
             (keeps_flight g.row.D saved written c.save.new.self c.in_ok-commit.commit c.write.new.self.commit c.in_ok-write.ensures.written.0
-            c.in_ok-commit.ensures.commit (c.in_ok-commit.ensures.live told) (c.write.ensures.others told)
-            (set_after _ _ _ _ _ _ told c.save.ensures.kept c.save.ensures.stays.leaf before.guards.set)
-            (traced_by _ _ _ _ _ c.save.new.self told c.save.ensures.kept c.save.ensures.follows (c.save.ensures.canon told) before)
+            c.in_ok-commit.ensures.saves.commit (c.in_ok-commit.ensures.saves.live told) (c.write.ensures.others told)
+            (set_after _ _ _ _ _ _ told c.save.ensures.rewrites.kept c.save.ensures.stays.leaf before.guards.set)
+            (traced_by _ _ _ _ _ c.save.new.self told c.save.ensures.rewrites.kept c.save.ensures.rewrites.follows (c.save.ensures.rewrites.canon told) before)
             (inr (c.in_ok-write.ensures.kept told))))
             (c.sweep.ensures.kept told (guarded told trusts.guards));
       };
@@ -257,18 +259,18 @@ returns g c =
           commit = c.in_ok-commit.commit;
           is = same;
           done = c.sweep.ensures.written.1;
-          same = as_committed _ _ _ _ _ c.in_ok-commit.ensures.commit c.in_ok-commit.ensures.emptied c.write.ensures.set c.sweep.ensures.alone;
+          same = as_committed _ _ _ _ _ c.in_ok-commit.ensures.saves.commit c.in_ok-commit.ensures.emptied c.write.ensures.set c.sweep.ensures.alone;
         };
         anew = λ changed. subst (λ (u : SessionData). IsCommitAnew u.set.names c.sweep.new.self) c.self.view_is (record {
           commit = c.in_ok-commit.commit;
           is = same;
-          fresh = c.in_ok-commit.ensures.fresh;
+          fresh = c.in_ok-commit.ensures.saves.fresh;
         });
         levels = λ changed none. few none;
         few = λ told guards none. few_listed old swept c.sweep.new.self.commit (says told guards) (few none);
         tracked = λ told m. subst (λ (u : SessionData). IsTracked old swept u.set.names c.sweep.new.self.set.names m) c.self.view_is
             (tracked_commit _ old saved written swept c.self.inside.set.names c.save.new.self.names c.write.new.self.set.names
-            c.sweep.new.self.set.names m told c.save.ensures.kept (ap (λ (u : SetData). u.names) c.write.ensures.set)
+            c.sweep.new.self.set.names m told c.save.ensures.rewrites.kept (ap (λ (u : SetData). u.names) c.write.ensures.set)
             (c.write.ensures.others told) (c.in_ok-write.ensures.gone told) (c.sweep.ensures.removes.tracked told m));
       });
       idle = λ unchanged. absurd (both_ways c.is_changed.result (c.is_changed.ensures.unchanged.1 unchanged) c.if-not-is_changed.false);
@@ -277,12 +279,12 @@ returns g c =
       canon = λ told. subst (λ (u : SessionData). BringsCanonical g.row.D old swept u.set.parts c.sweep.new.self.set.parts) c.self.view_is
           (brings_then _ _ _ _ _ c.write.new.self.set.parts _
           (brings_then _ _ _ _ _ c.save.new.self.parts _
-          (brings_written _ _ _ _ _ _ _ _ told c.save.ensures.kept c.save.ensures.follows (c.save.ensures.canon told))
+          (brings_written _ _ _ _ _ _ _ _ told c.save.ensures.rewrites.kept c.save.ensures.rewrites.follows (c.save.ensures.rewrites.canon told))
           (brings_two _ _ _ _ _ (c.write.ensures.others told) (ap (λ (u : SetData). u.parts) c.write.ensures.set)))
           (brings_still _ _ _ _ _ (c.sweep.ensures.removes.segments told) (ap (λ (u : SetData). u.parts) c.sweep.ensures.alone.is)));
       follows = subst (λ (u : SessionData). Follows u.set.names u.set.parts c.sweep.new.self.set.parts) c.self.view_is
           (subst (Follows c.self.inside.set.names c.self.inside.set.parts)
-          (sym (ap (λ (u : SetData). u.parts) c.sweep.ensures.alone.is ∙ ap (λ (u : SetData). u.parts) c.write.ensures.set)) c.save.ensures.follows);
+          (sym (ap (λ (u : SetData). u.parts) c.sweep.ensures.alone.is ∙ ap (λ (u : SetData). u.parts) c.write.ensures.set)) c.save.ensures.rewrites.follows);
       faults = record {
         cause = cause_then _ _ _ c.sweep.result (c.in_ok-write.ensures.faults.cause.fine ∙ c.in_ok-commit.ensures.cause.fine) c.sweep.ensures.faults.cause;
         whole = λ told i seen. c.sweep.ensures.faults.whole;

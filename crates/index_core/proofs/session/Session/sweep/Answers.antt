@@ -26,11 +26,11 @@ old g c = record { set = c.self.inside.set; commit = c.self.inside.commit; refus
 swept : (g : given.Over) (c : goal.Joined-sweep g) → IsTrue g.F.Pages.told
     → IsSwept (g.F.Pages.files c.args.folder.now) (g.F.Pages.files c.sweep.new.folder) c.self.inside.set c.sweep.new.self c.in-Some.commit
 swept g c told = record {
-  commit = c.sweep.ensures.commit told;
-  files = c.sweep.ensures.needed told;
-  named = c.sweep.ensures.named;
-  parts = ap (λ (u : SetData). u.parts) c.sweep.ensures.alone.is;
-  leaf = ap (λ (u : SetData). u.leaf) c.sweep.ensures.alone.is;
+  commit = c.sweep.ensures.swept.commit told;
+  files = c.sweep.ensures.swept.needed told;
+  named = c.sweep.ensures.swept.named;
+  parts = ap (λ (u : SetData). u.parts) c.sweep.ensures.swept.alone.is;
+  leaf = ap (λ (u : SetData). u.leaf) c.sweep.ensures.swept.alone.is;
 }
 
 done : (g : given.Over) (c : goal.Joined-sweep g) → c.self.inside.refused ≡ false
@@ -41,7 +41,7 @@ returns-clause-seen g c told i seen =
     c.sweep.ensures.seen told i (subst (λ (u : SessionData). Sees g.row.D (g.F.Pages.files c.args.folder.now) u.set i) (sym c.self.view_is) seen)
 
 pub returns-clause-alone : goal.returns-clause-alone
-returns-clause-alone g c = subst (λ (u : SessionData). StaysButFiles u.set c.sweep.new.self) c.self.view_is c.sweep.ensures.alone
+returns-clause-alone g c = subst (λ (u : SessionData). StaysButFiles u.set c.sweep.new.self) c.self.view_is c.sweep.ensures.swept.alone
 
 pub returns-clause-written : goal.returns-clause-written
 returns-clause-written g c = (ap (λ (u : SessionData). u.commit) c.self.view_is, done g c)
@@ -78,12 +78,13 @@ Needed g c = (m : FileName) → is_named c.sweep.new.self.names.names m ≡ true
 pub returns-clause-removes : goal.returns-clause-removes
 returns-clause-removes g c = record {
   segments = λ told p there.
-      c.sweep.ensures.needed told (Segment p.head.id) (inr (inl (p, subst (λ (u : SessionData). Contains u.set.parts p) (sym c.self.view_is) there, refl)));
+      c.sweep.ensures.swept.needed told (Segment p.head.id)
+      (inr (inl (p, subst (λ (u : SessionData). Contains u.set.parts p) (sym c.self.view_is) there, refl)));
   tracked = λ told m.
       let before = g.F.Pages.files c.args.folder.now in
       let after = g.F.Pages.files c.sweep.new.folder in
       subst (λ (u : SessionData). IsTracked before after u.set.names c.sweep.new.self.names m) c.self.view_is
-      (tracked_swept before after c.self.inside.set.names c.sweep.new.self.names m (c.sweep.ensures.others told m) (c.sweep.ensures.left told m));
+      (tracked_swept before after c.self.inside.set.names c.sweep.new.self.names m (c.sweep.ensures.swept.others told m) (c.sweep.ensures.swept.gone told m));
   needed = elim c.match-sweep.branch [
     | in-Ok w ↦ subst (λ r. OnOk r (Needed g c)) (sym w.result-is) (λ m there. (
       c.in-Some.commit,
@@ -93,6 +94,6 @@ returns-clause-removes g c = record {
     | in-Err w ↦ subst (λ r. OnOk r (Needed g c)) (sym w.result-is) tt
   ];
   idle = λ told listed.
-      idle_sweep _ _ (old g c) c.in-Some.commit c.in-Some.is (c.sweep.ensures.needed told) (c.sweep.ensures.others told)
+      idle_sweep _ _ (old g c) c.in-Some.commit c.in-Some.is (c.sweep.ensures.swept.needed told) (c.sweep.ensures.swept.others told)
       (subst NamesOnlyListed (sym c.self.view_is) listed);
 }
