@@ -75,7 +75,7 @@ pub returns-clause-leaves : goal.returns-clause-leaves
 returns-clause-leaves g c =
     let done = c.in_ok-flush.ensures in
     subst (λ (s : SessionData). IsFlushed g.row.D (IsTrue g.F.Pages.told) (g.F.Pages.files c.flush.new.folder) s.set c.flush.new.self) c.self.view_is
-    (record { emptied = done.emptied; levels = done.levels; begun = done.begun; canon = done.canon })
+    (record { emptied = done.emptied; levels = done.levels; begun = done.moves.begun; canon = done.moves.canon })
 
 pub returns-in_err-flush-clause-damage : goal.returns-in_err-flush-clause-damage
 returns-in_err-flush-clause-damage g c =

@@ -81,12 +81,12 @@ returns-clause-leaves g c =
     c.self.view_is
     (record {
       buffer = done.buffer;
-      begun = done.begun;
+      begun = done.moves.begun;
       one = done.one;
       all_live = done.all_live;
       still = λ tidy. (done.still tidy).0;
       merged = done.merged;
-      canon = done.canon;
+      canon = done.moves.canon;
     })
 
 pub returns-in_err-merge_all-clause-damage : goal.returns-in_err-merge_all-clause-damage

@@ -68,7 +68,7 @@ returns-clause-leaves g c =
     (subst (λ (s : SessionData). OnDone (end_answer c.merge_end.result) (HasEnded g.row.D (IsTrue g.F.Pages.told) files s.set c.merge_end.new.self))
     c.self.view_is
     (end_leaves g.row.D (IsTrue g.F.Pages.told) files c.self.inside.set c.merge_end.new.self c.merge_end.result c.leaf-leaf.ensures.well
-    done.ended done.parts done.replaced done.kept.more done.buffer done.canon))
+    done.ends.ended done.ends.parts done.ends.replaced done.rewrites.kept.more done.buffer done.rewrites.canon))
 
 pub leaf-leaf-requires : goal.leaf-leaf-requires
 leaf-leaf-requires g c = set_fits g.row.D c.self.invariant.few

@@ -89,7 +89,7 @@ returns-clause-removes g c = record {
     | in-Ok w ↦ subst (λ r. OnOk r (Needed g c)) (sym w.result-is) (λ m there. (
       c.in-Some.commit,
       ap (λ (u : SessionData). u.commit) (sym c.self.view_is) ∙ c.in-Some.is,
-      subst (λ (u : SessionData). IsNeeded u.set c.in-Some.commit m) c.self.view_is (w.in-Ok.ensures.swept m there),
+      subst (λ (u : SessionData). IsNeeded u.set c.in-Some.commit m) c.self.view_is (w.in-Ok.ensures.only m there),
     ))
     | in-Err w ↦ subst (λ r. OnOk r (Needed g c)) (sym w.result-is) tt
   ];
