@@ -27,7 +27,7 @@ returns-in_default-clause-shown g c = λ first s path t at. c.bad_leaf.ensures.s
 pub returns-in_default-clause-whole : goal.returns-in_default-clause-whole
 returns-in_default-clause-whole g c = λ told agrees first s path t at items holds.
     let place = c.in_ok-place.ensures.place first s path t at in
-    let after = c.in_ok-place.ensures.agrees told agrees in
+    let after = c.in_ok-place.ensures.reading.agrees told agrees in
     let leaf = place.is in
     absurd (c.in_default.ensures.none (g.F.Pages.files c.args.folder.now) first s path c.in_ok-place.place.length place.own after
     (subst (λ (u : IndexTree). IsAt c.args.node.now first s path u) leaf at) (subst (λ (u : IndexTree). IsPlaceOf c.in_ok-place.place s u) leaf place) items
@@ -37,7 +37,7 @@ returns-in_default-clause-whole g c = λ told agrees first s path t at items hol
 pub returns-clause-gathers : goal.returns-clause-gathers
 returns-clause-gathers g c = λ told agrees first s path t at.
     let place = c.in_ok-place.ensures.place first s path t at in
-    let after = c.in_ok-place.ensures.agrees told agrees in
+    let after = c.in_ok-place.ensures.reading.agrees told agrees in
     let leaf = place.is in
     let bytes = bytes_of (g.F.Pages.files c.args.folder.now (Segment c.args.head.now.id)) in
     let holds = c.in-Some.ensures.some (g.F.Pages.files c.args.folder.now) first s path c.in_ok-place.place.length place.own after
@@ -45,15 +45,15 @@ returns-clause-gathers g c = λ told agrees first s path t at.
     record {
       items = c.in-Some.view;
       holds = subst (λ (u : IndexTree). HoldsTree g.row.D bytes c.args.head.now first s u c.in-Some.view) (sym leaf) holds;
-      grew = c.in_ok-push_live.ensures.all;
+      so = c.in_ok-add_leaf.ensures;
     }
 
 pub returns-in_default-clause-pages : goal.returns-in_default-clause-pages
 returns-in_default-clause-pages g c = λ first s path t at.
     leaf_reads _ _ c.args.cache.now c.args.head.now s t c.load_leaf.ensures.reads (λ kept. (c.load_leaf.ensures.hit first s path t at kept).1)
 
-pub returns-in_err-push_live-clause-pages : goal.returns-in_err-push_live-clause-pages
-returns-in_err-push_live-clause-pages g c = λ first s path t at.
+pub returns-in_err-add_leaf-clause-pages : goal.returns-in_err-add_leaf-clause-pages
+returns-in_err-add_leaf-clause-pages g c = λ first s path t at.
     leaf_reads _ _ c.args.cache.now c.args.head.now s t c.load_leaf.ensures.reads (λ kept. (c.load_leaf.ensures.hit first s path t at kept).1)
 
 pub returns-clause-pages : goal.returns-clause-pages
@@ -64,3 +64,6 @@ pub returns-clause-last : goal.returns-clause-last
 returns-clause-last g c = λ first s path t at.
     let place = c.in_ok-place.ensures.place first s path t at in
     leaf_last g.row.D c.args.node.now c.load_leaf.new.cache c.args.head.now c.in_ok-place.place first s path t at place c.in_ok-place.ensures.kept
+
+pub returns-clause-added : goal.returns-clause-added
+returns-clause-added g c = (c.in-Some.view, c.in_ok-add_leaf.ensures)
