@@ -1,6 +1,6 @@
 //! The walk.
 
-ghost use Rattle.std.specs.Prelude.{◌≡◌, ◌≤◌, ◌+◌, ◌*◌, ◌++◌, ◌⊎◌, ℕ, List, ℤ, Bool, true, IsTrue, OnOk};
+ghost use Rattle.std.specs.Prelude.{◌≡◌, ◌≤◌, ◌+◌, ◌*◌, ◌++◌, ℕ, List, ℤ, Bool, true, IsTrue, OnOk};
 ghost use Rattle.outer_io.specs.Files.{bytes_of};
 ghost use Rattle.outer_io.specs.declared.file_name.FileName.TheVariants.{Segment};
 ghost use Rattle.point_codec.specs.Points.{Item, Region};
@@ -9,9 +9,9 @@ ghost use Rattle.inner_pack.specs.Places.{Spot, front};
 ghost use Rattle.inner_pack.specs.Trees.{IndexTree, leaf_count, cell_of};
 ghost use Rattle.inner_pack.specs.Bodies.{HasTree};
 ghost use Rattle.inner_pack.specs.Nodes.{IsAt};
-ghost use Rattle.page_cache.specs.Cache.{KeepsFile, Agrees};
-ghost use Rattle.page_cache.specs.Causes.{HasPageCause};
+ghost use Rattle.page_cache.specs.Cache.{Agrees};
 ghost use Rattle.page_cache.specs.Evidence.{OnDamage, NotDamaged};
+ghost use Rattle.page_cache.specs.Reading.{ReadsCached};
 ghost use Rattle.segment_file.specs.Heads.{count_of};
 ghost use Rattle.segment_file.specs.Segments.{HoldsTree, IsSegment};
 ghost use Rattle.segment_file.specs.Damages.{IsLeafDamage, IsLeafDamageOf};
@@ -65,11 +65,9 @@ pub fn intersect<const D: usize, S: Shape<D>, F: Pages>(
     // What stays.
     ensures has { S.has shape.new ≡ S.has shape.old }
     ensures crosses { S.crosses shape.new ≡ S.crosses shape.old }
-    ensures files { IsTrue F.told → F.files folder.new ≡ F.files folder.old }
-    ensures others { (i : ℕ) → KeepsFile cache.new i → KeepsFile cache.old i ⊎ (i ≡ head.now.id) }
-    ensures agrees { IsTrue F.told → Agrees (F.files folder.old) cache.old → Agrees (F.files folder.old) cache.new }
+    ensures reading { ReadsCached F.told (λ i. i ≡ head.now.id) (F.files folder.old) (F.files folder.new)
+        cache.old cache.new (F.faults folder.old) (F.faults folder.new) result }
     // What an error says.
-    ensures cause { HasPageCause (F.faults folder.old) (F.faults folder.new) result }
     ensures shown { (root : Region) (t : IndexTree) → HasTree D head.now.index root t
         → OnDamage result (IsLeafDamage D head.now 0 front t) }
     ensures damage { IsTrue F.told → Agrees (F.files folder.old) cache.old
@@ -115,10 +113,8 @@ fn visit<const D: usize, S: Shape<D>, F: Pages>(
         → F.reads folder.new ≤ F.reads folder.old + touched_leaves (S.has shape.old) (S.crosses shape.old) t }
     ensures has { S.has shape.new ≡ S.has shape.old }
     ensures crosses { S.crosses shape.new ≡ S.crosses shape.old }
-    ensures files { IsTrue F.told → F.files folder.new ≡ F.files folder.old }
-    ensures others { (i : ℕ) → KeepsFile cache.new i → KeepsFile cache.old i ⊎ (i ≡ head.now.id) }
-    ensures agrees { IsTrue F.told → Agrees (F.files folder.old) cache.old → Agrees (F.files folder.old) cache.new }
-    ensures cause { HasPageCause (F.faults folder.old) (F.faults folder.new) result }
+    ensures reading { ReadsCached F.told (λ i. i ≡ head.now.id) (F.files folder.old) (F.files folder.new)
+        cache.old cache.new (F.faults folder.old) (F.faults folder.new) result }
     ensures shown { (first : ℕ) (s : Spot) (path : Region) (t : IndexTree) → IsAt node.now first s path t
         → OnDamage result (IsLeafDamage D head.now first s t) }
     ensures damage { IsTrue F.told → Agrees (F.files folder.old) cache.old
@@ -159,10 +155,8 @@ fn collect_all<const D: usize, F: Pages>(
         (Appends hits.old.items hits.new.items
         (AreHits D (bytes_of (F.files folder.old (Segment head.now.id))) head.now has live.now first s t)) }
     ensures reads { F.reads folder.new ≤ F.reads folder.old + node.now.leaves }
-    ensures files { IsTrue F.told → F.files folder.new ≡ F.files folder.old }
-    ensures others { (i : ℕ) → KeepsFile cache.new i → KeepsFile cache.old i ⊎ (i ≡ head.now.id) }
-    ensures agrees { IsTrue F.told → Agrees (F.files folder.old) cache.old → Agrees (F.files folder.old) cache.new }
-    ensures cause { HasPageCause (F.faults folder.old) (F.faults folder.new) result }
+    ensures reading { ReadsCached F.told (λ i. i ≡ head.now.id) (F.files folder.old) (F.files folder.new)
+        cache.old cache.new (F.faults folder.old) (F.faults folder.new) result }
     ensures shown { (first : ℕ) (s : Spot) (path : Region) (t : IndexTree) → IsAt node.now first s path t
         → OnDamage result (IsLeafDamage D head.now first s t) }
     ensures damage { IsTrue F.told → Agrees (F.files folder.old) cache.old

@@ -1,6 +1,6 @@
 //! Entries offered to the candidates: those of a leaf, and those of the buffer.
 
-ghost use Rattle.std.specs.Prelude.{◌≡◌, ◌≤◌, ◌+◌, ◌⊎◌, ℕ, List, length, IsTrue, OnOk};
+ghost use Rattle.std.specs.Prelude.{◌≡◌, ◌≤◌, ◌+◌, ℕ, List, length, IsTrue, OnOk};
 ghost use Rattle.outer_io.specs.Files.{bytes_of};
 ghost use Rattle.outer_io.specs.declared.file_name.FileName.TheVariants.{Segment};
 ghost use Rattle.point_codec.specs.Points.{Item, Region};
@@ -9,9 +9,9 @@ ghost use Rattle.point_codec.specs.declared.entries.Near.{Near};
 ghost use Rattle.inner_pack.specs.Places.{Spot};
 ghost use Rattle.inner_pack.specs.Trees.{IndexTree, Leaf};
 ghost use Rattle.inner_pack.specs.Nodes.{IsAt};
-ghost use Rattle.page_cache.specs.Cache.{KeepsFile, Agrees};
-ghost use Rattle.page_cache.specs.Causes.{HasPageCause};
+ghost use Rattle.page_cache.specs.Cache.{Agrees};
 ghost use Rattle.page_cache.specs.Evidence.{OnDamage, NotDamaged};
+ghost use Rattle.page_cache.specs.Reading.{ReadsCached};
 ghost use Rattle.segment_file.specs.Segments.{HoldsLeaf};
 ghost use Rattle.segment_file.specs.Damages.{IsLeafDamage, IsLeafDamageOf};
 ghost use Rattle.documents.specs.NearestEntries.{nears_of};
@@ -41,11 +41,9 @@ pub fn open_leaf<const D: usize, F: Pages>(
     found: &mut Candidates,
 ) -> Result<(), PageFault>
     requires leaf { node.now.leaves ≡ 1 }
-    ensures files { IsTrue F.told → F.files folder.new ≡ F.files folder.old }
+    ensures reading { ReadsCached F.told (λ i. i ≡ head.now.id) (F.files folder.old) (F.files folder.new)
+        cache.old cache.new (F.faults folder.old) (F.faults folder.new) result }
     ensures reads { F.reads folder.new ≤ F.reads folder.old + 1 }
-    ensures cause { HasPageCause (F.faults folder.old) (F.faults folder.new) result }
-    ensures others { (i : ℕ) → KeepsFile cache.new i → KeepsFile cache.old i ⊎ (i ≡ head.now.id) }
-    ensures agrees { IsTrue F.told → Agrees (F.files folder.old) cache.old → Agrees (F.files folder.old) cache.new }
     ensures room { found.new.many.room ≡ found.old.many.room }
     ensures found { IsTrue F.told → Agrees (F.files folder.old) cache.old
         → (first : ℕ) (s : Spot) (path : Region) (len : ℕ) (own : Region) (items : List Item) (seen : List Near)

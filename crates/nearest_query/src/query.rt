@@ -1,6 +1,6 @@
 //! The nearest documents of segments and a buffer.
 
-ghost use Rattle.std.specs.Prelude.{◌≡◌, ◌≤◌, ◌<◌, ◌+◌, ◌++◌, ◌⊎◌, ℕ, List, [], length, All, IsTrue, OnOk, IfOk};
+ghost use Rattle.std.specs.Prelude.{◌≡◌, ◌≤◌, ◌<◌, ◌+◌, ◌++◌, ℕ, List, [], length, All, IsTrue, OnOk, IfOk};
 ghost use Rattle.std.specs.Prelude.{sum_by};
 ghost use Rattle.std.specs.List.{range_with_len};
 ghost use Rattle.point_codec.specs.Points.{Item, Region};
@@ -8,9 +8,9 @@ ghost use Rattle.point_codec.specs.Seen.{items_of};
 ghost use Rattle.point_codec.specs.declared.entries.Near.{Near};
 ghost use Rattle.inner_pack.specs.Trees.{IndexTree};
 ghost use Rattle.inner_pack.specs.Bodies.{HasTree};
-ghost use Rattle.page_cache.specs.Cache.{KeepsFile, Agrees};
-ghost use Rattle.page_cache.specs.Causes.{HasPageCause};
+ghost use Rattle.page_cache.specs.Cache.{Agrees};
 ghost use Rattle.page_cache.specs.Evidence.{OnDamage, NotDamaged};
+ghost use Rattle.page_cache.specs.Reading.{ReadsCached};
 ghost use Rattle.segment_file.specs.Damages.{IsLeafDamageOf};
 ghost use Rattle.documents.specs.NearestEntries.{IsNearest, nears_of};
 ghost use Rattle.nearest_query.specs.Segments.{AreSegments, AreNearLeaves, HasId, HaveTrees, IsSegmentDamage, live_in};
@@ -66,10 +66,8 @@ pub fn nearest<const D: usize, F: Pages>(
         → OnDamage result (IsLeafDamageOf (F.files folder.old)) }
     ensures whole { IsTrue F.told → Agrees (F.files folder.old) cache.old → (contents : ℕ → List Item)
         → AreSegments D (F.files folder.old) contents heads.now → NotDamaged result }
-    ensures files { IsTrue F.told → F.files folder.new ≡ F.files folder.old }
-    ensures agrees { IsTrue F.told → Agrees (F.files folder.old) cache.old → Agrees (F.files folder.old) cache.new }
-    ensures others { (id : ℕ) → KeepsFile cache.new id → KeepsFile cache.old id ⊎ HasId heads.now id }
-    ensures cause { HasPageCause (F.faults folder.old) (F.faults folder.new) result }
+    ensures reading { ReadsCached F.told (HasId heads.now) (F.files folder.old) (F.files folder.new)
+        cache.old cache.new (F.faults folder.old) (F.faults folder.new) result }
 {
     let mut found = Candidates::new(alloc, usize::from(k));
     offer_all(buffer, at, &mut found)?;

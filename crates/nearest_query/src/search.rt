@@ -1,15 +1,15 @@
 //! The search, best first.
 
-ghost use Rattle.std.specs.Prelude.{◌≡◌, ◌≤◌, ◌<◌, ◌+◌, ◌⊎◌, ℕ, List, [], ◌∷◌, length, All, IsTrue, true, OnOk, sum_by};
+ghost use Rattle.std.specs.Prelude.{◌≡◌, ◌≤◌, ◌<◌, ◌+◌, ℕ, List, [], ◌∷◌, length, All, IsTrue, true, OnOk, sum_by};
 ghost use Rattle.std.specs.Prelude.{Option};
 ghost use Rattle.point_codec.specs.Points.{Region};
 ghost use Rattle.point_codec.specs.declared.entries.Near.{Near};
 ghost use Rattle.inner_pack.specs.Places.{Spot};
 ghost use Rattle.inner_pack.specs.Trees.{IndexTree, leaf_count};
 ghost use Rattle.inner_pack.specs.Nodes.{IsAt};
-ghost use Rattle.page_cache.specs.Cache.{KeepsFile, Agrees};
-ghost use Rattle.page_cache.specs.Causes.{HasPageCause};
+ghost use Rattle.page_cache.specs.Cache.{Agrees};
 ghost use Rattle.page_cache.specs.Evidence.{OnDamage, NotDamaged};
+ghost use Rattle.page_cache.specs.Reading.{ReadsCached};
 ghost use Rattle.segment_file.specs.Damages.{IsLeafDamageOf};
 ghost use Rattle.documents.specs.NearestEntries.{IsNearest};
 ghost use Rattle.nearest_query.specs.Best.{found_of};
@@ -65,10 +65,8 @@ fn open<'a, const D: usize, F: Pages>(
 ) -> Result<(), PageFault>
     requires lives { length lives.now ≡ length heads.now }
     requires inside { IsInside (length heads.now) frontier.old.nodes next }
-    ensures files { IsTrue F.told → F.files folder.new ≡ F.files folder.old }
-    ensures cause { HasPageCause (F.faults folder.old) (F.faults folder.new) result }
-    ensures others { (i : ℕ) → KeepsFile cache.new i → KeepsFile cache.old i ⊎ HasId heads.now i }
-    ensures agrees { IsTrue F.told → Agrees (F.files folder.old) cache.old → Agrees (F.files folder.old) cache.new }
+    ensures reading { ReadsCached F.told (HasId heads.now) (F.files folder.old) (F.files folder.new)
+        cache.old cache.new (F.faults folder.old) (F.faults folder.new) result }
     ensures room { found.new.many.room ≡ found.old.many.room }
     ensures work { OnOk result (sum_by work frontier.new.turns < work next + sum_by work frontier.old.turns) }
     ensures inside { All (IsInside (length heads.now) frontier.old.nodes) frontier.old.turns
@@ -121,10 +119,8 @@ pub fn search<'a, const D: usize, F: Pages>(
 ) -> Result<(), PageFault>
     requires lives { length lives.now ≡ length heads.now }
     requires inside { All (IsInside (length heads.now) frontier.old.nodes) frontier.old.turns }
-    ensures files { IsTrue F.told → F.files folder.new ≡ F.files folder.old }
-    ensures cause { HasPageCause (F.faults folder.old) (F.faults folder.new) result }
-    ensures others { (i : ℕ) → KeepsFile cache.new i → KeepsFile cache.old i ⊎ HasId heads.now i }
-    ensures agrees { IsTrue F.told → Agrees (F.files folder.old) cache.old → Agrees (F.files folder.old) cache.new }
+    ensures reading { ReadsCached F.told (HasId heads.now) (F.files folder.old) (F.files folder.new)
+        cache.old cache.new (F.faults folder.old) (F.faults folder.new) result }
     ensures answer { IsTrue F.told → Agrees (F.files folder.old) cache.old → (w : World) (all : List Near)
         → IsOver w at.now.c heads.now lives.now (F.files folder.old)
         → IsSought D w all frontier.old.turns frontier.old.nodes found.old

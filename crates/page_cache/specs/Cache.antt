@@ -32,8 +32,10 @@ room_of c = c.pages.cap
 unfoldable pub order_of : PageCache → List PageKey
 order_of c = map (λ e. e.0) c.pages.entries
 
--- this page was used: it stands first; where it wasn't kept and the room is full, the one least lately used went
+-- this page was used: it is kept, and stands first; where it wasn't kept and the room was full, the one least lately
+-- used went
 pub record IsUsed (id number : ℕ) (old new : PageCache) : Type 0 where
+  pub there : IsKept new id number
   pub kept : IsKept old id number → order_of new ≡ page_key id number ∷ keys_but (page_key id number) (order_of old)
   pub read : (IsKept old id number → ⊥) → order_of new ≡ page_key id number ∷ take (room_of old - 1) (order_of old)
 

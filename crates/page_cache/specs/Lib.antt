@@ -6,3 +6,4 @@ pub mod Keys
 pub mod Cache
 pub mod FirstPages
 pub mod Notes
+pub mod Reading

@@ -32,11 +32,12 @@ impl PageCache {
     ghost use Rattle.page_file.specs.Page.{IsPage};
     ghost use Rattle.page_cache.specs.FilePages.{kind_of, number_of, IsFilePage};
     ghost use Rattle.page_cache.specs.Evidence.{OnDamage, NotDamaged, IsPageOf, IsPageDamage, IsPageDamageOf};
-    ghost use Rattle.page_cache.specs.Causes.{HasPageCause, IsSteady};
+    ghost use Rattle.page_cache.specs.Causes.{IsSteady};
     ghost use Rattle.page_cache.specs.Keys.{page_key, keys_but};
     ghost use Rattle.page_cache.specs.Notes.{Fits};
     ghost use Rattle.page_cache.specs.Cache.{Keeps, IsKept, KeepsFile, Agrees, room_of, order_of, of_others, IsUsed};
     ghost use Rattle.page_cache.specs.Cache.{KeepsOf, IsKeptOf};
+    ghost use Rattle.page_cache.specs.Reading.{ReadsCached};
 
     /// A cache with room for so many pages, 1 to 65,536, that keeps none.
     #[tactic(auto, unfolding(crate::specs::Cache::Keeps, crate::specs::Cache::IsKept, crate::specs::Cache::KeepsFile, crate::specs::Cache::Agrees, crate::specs::Cache::room_of, crate::specs::Cache::order_of))]
@@ -65,21 +66,18 @@ impl PageCache {
         id: u64,
         number: u32,
     ) -> Result<(), PageFault>
-        ensures files { IsTrue F.told → F.files folder.new ≡ F.files folder.old }
+        ensures reading { ReadsCached F.told (λ i. i ≡ id) (F.files folder.old) (F.files folder.new)
+            self.old self.new (F.faults folder.old) (F.faults folder.new) result }
         ensures reads { F.reads folder.new ≤ F.reads folder.old + 1 }
-        ensures cause { HasPageCause (F.faults folder.old) (F.faults folder.new) result }
         ensures steady { IsSteady (F.faults folder.old) (F.faults folder.new) result }
         ensures hit { IsKept self.old id number → IsOk result × (F.reads folder.new ≡ F.reads folder.old) }
         ensures once { (IsKept self.old id number → ⊥)
             → OnOk result (RisesByOne (F.reads folder.old) (F.reads folder.new)) }
-        ensures kept { OnOk result (IsKept self.new id number) }
-        ensures order { OnOk result (IsUsed id number self.old self.new) }
+        ensures used { OnOk result (IsUsed id number self.old self.new) }
         ensures refused { OnErr result (order_of self.new ≡ order_of self.old) }
         ensures room { room_of self.new ≡ room_of self.old }
-        ensures others { (i : ℕ) → KeepsFile self.new i → KeepsFile self.old i ⊎ (i ≡ id) }
         ensures stays { (i n : ℕ) (bytes : List ℕ) → Keeps self.new i n bytes
             → Keeps self.old i n bytes ⊎ ((i ≡ id) × (n ≡ number) × (IsKept self.old id number → ⊥)) }
-        ensures agrees { IsTrue F.told → Agrees (F.files folder.old) self.old → Agrees (F.files folder.old) self.new }
         ensures shown { OnDamage result (IsPageDamage (Segment id) number) }
         ensures damage { IsTrue F.told → OnDamage result (IsPageDamageOf (F.files folder.old) number) }
         ensures whole { IsTrue F.told → IsFilePage (Segment id) (bytes_of (F.files folder.old (Segment id))) number

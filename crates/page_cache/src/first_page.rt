@@ -29,9 +29,9 @@ impl FirstPage {
     ghost use Rattle.page_cache.specs.FilePages.{IsFilePage, ArePages, payloads_of};
     ghost use Rattle.page_cache.specs.Evidence.{OnDamage, NotDamaged, SizeNeeds, SizeWithin, IsSizeDamage};
     ghost use Rattle.page_cache.specs.Evidence.{IsFileDamage, IsFileDamageOf};
-    ghost use Rattle.page_cache.specs.Causes.{HasPageCause, IsSteady};
     ghost use Rattle.page_cache.specs.FirstPages.{first_name, first_payload, first_size, IsFirstPage};
     ghost use Rattle.page_cache.specs.declared.faults.PageFault.TheVariants as page;
+    ghost use Rattle.page_cache.specs.Reading.{OnlyReads};
 
     /// Reads the size and the first page of a file, and None where it isn't there. Size where the file has fewer
     /// bytes than a page, and then Page, are the damages.
@@ -41,10 +41,9 @@ impl FirstPage {
         folder: &mut F,
         name: &FileName,
     ) -> Result<Option<FirstPage>, PageFault>
-        ensures files { IsTrue F.told → F.files folder.new ≡ F.files folder.old }
+        ensures reading { OnlyReads F.told (F.files folder.old) (F.files folder.new)
+            (F.faults folder.old) (F.faults folder.new) result }
         ensures reads { F.reads folder.new ≤ F.reads folder.old + 1 }
-        ensures cause { HasPageCause (F.faults folder.old) (F.faults folder.new) result }
-        ensures steady { IsSteady (F.faults folder.old) (F.faults folder.new) result }
         ensures name { IfOk result (λ found. IfSome found (λ p. first_name p ≡ name.now)) }
         ensures first { IsTrue F.told → IfOk result (λ found. IfSome found (IsFirstPage (F.files folder.old))) }
         ensures none { IsTrue F.told → IfOk result (λ found. IfNone found (F.files folder.old name.now ≡ None)) }
@@ -83,10 +82,9 @@ impl FirstPage {
         folder: &mut F,
         name: &FileName,
     ) -> Result<FirstPage, PageFault>
-        ensures files { IsTrue F.told → F.files folder.new ≡ F.files folder.old }
+        ensures reading { OnlyReads F.told (F.files folder.old) (F.files folder.new)
+            (F.faults folder.old) (F.faults folder.new) result }
         ensures reads { F.reads folder.new ≤ F.reads folder.old + 1 }
-        ensures cause { HasPageCause (F.faults folder.old) (F.faults folder.new) result }
-        ensures steady { IsSteady (F.faults folder.old) (F.faults folder.new) result }
         ensures name { IfOk result (λ p. first_name p ≡ name.now) }
         ensures first { IsTrue F.told → IfOk result (IsFirstPage (F.files folder.old)) }
         ensures shown { OnDamage result (IsFileDamage name.now) }
@@ -148,10 +146,9 @@ impl FirstPage {
         pages: u32,
     ) -> Result<Vec<u8>, PageFault>
         requires { 1 ≤ pages }
-        ensures files { IsTrue F.told → F.files folder.new ≡ F.files folder.old }
+        ensures reading { OnlyReads F.told (F.files folder.old) (F.files folder.new)
+            (F.faults folder.old) (F.faults folder.new) result }
         ensures reads { F.reads folder.new + 1 ≤ F.reads folder.old + pages }
-        ensures cause { HasPageCause (F.faults folder.old) (F.faults folder.new) result }
-        ensures steady { IsSteady (F.faults folder.old) (F.faults folder.new) result }
         ensures len { IfOk result (λ v. vec_len v ≡ 4064 * pages) }
         ensures payloads { IsTrue F.told → IsFirstPage (F.files folder.old) self.now
             → IfOk result

@@ -9,9 +9,9 @@ ghost use Rattle.page_file.specs.Page.{IsPage, payload_of};
 ghost use Rattle.page_cache.specs.FilePages.{kind_of, number_of, IsFilePage, ArePages, payloads_of};
 ghost use Rattle.page_cache.specs.Evidence.{OnDamage, NotDamaged, IsPageOf, seen_end, SizeWithin, IsPageDamage};
 ghost use Rattle.page_cache.specs.Evidence.{IsPageDamageOf, IsFileDamage, IsFileDamageOf};
-ghost use Rattle.page_cache.specs.Causes.{HasPageCause, IsSteady};
 ghost use Rattle.page_cache.specs.declared.faults.PageFault.TheVariants as fault;
 ghost use Rattle.page_cache.specs.declared.faults.Damage.TheVariants as damage;
+ghost use Rattle.page_cache.specs.Reading.{OnlyReads};
 
 use crate::faults::{Damage, Memory, PageFault};
 use outer_io::{Failed, FileName, Pages};
@@ -89,11 +89,10 @@ pub(crate) fn read_over<F: Pages>(
     number: u32,
     mut page: Box<PageBytes>,
 ) -> Result<Box<PageBytes>, PageFault>
-    ensures files { IsTrue F.told → F.files folder.new ≡ F.files folder.old }
+    ensures reading { OnlyReads F.told (F.files folder.old) (F.files folder.new)
+        (F.faults folder.old) (F.faults folder.new) result }
     ensures reads { F.reads folder.new ≤ F.reads folder.old + 1 }
     ensures once { OnOk result (RisesByOne (F.reads folder.old) (F.reads folder.new)) }
-    ensures cause { HasPageCause (F.faults folder.old) (F.faults folder.new) result }
-    ensures steady { IsSteady (F.faults folder.old) (F.faults folder.new) result }
     ensures valid { IfOk result (λ p. IsPage (kind_of name.now) (number_of name.now) number p.value.b) }
     ensures bytes { IsTrue F.told → IfOk result (λ p. IsPageOf (F.files folder.old) name.now number p.value.b) }
     ensures shown { OnDamage result (IsPageDamage name.now number) }
@@ -120,11 +119,10 @@ pub(crate) fn read_page<F: Pages>(
     name: &FileName,
     number: u32,
 ) -> Result<Box<PageBytes>, PageFault>
-    ensures files { IsTrue F.told → F.files folder.new ≡ F.files folder.old }
+    ensures reading { OnlyReads F.told (F.files folder.old) (F.files folder.new)
+        (F.faults folder.old) (F.faults folder.new) result }
     ensures reads { F.reads folder.new ≤ F.reads folder.old + 1 }
     ensures once { OnOk result (RisesByOne (F.reads folder.old) (F.reads folder.new)) }
-    ensures cause { HasPageCause (F.faults folder.old) (F.faults folder.new) result }
-    ensures steady { IsSteady (F.faults folder.old) (F.faults folder.new) result }
     ensures valid { IfOk result (λ p. IsPage (kind_of name.now) (number_of name.now) number p.value.b) }
     ensures bytes { IsTrue F.told → IfOk result (λ p. IsPageOf (F.files folder.old) name.now number p.value.b) }
     ensures shown { OnDamage result (IsPageDamage name.now number) }
@@ -153,10 +151,9 @@ pub(crate) fn append_payloads<F: Pages>(
     count: u32,
     out: &mut Vec<u8>,
 ) -> Result<(), PageFault>
-    ensures files { IsTrue F.told → F.files folder.new ≡ F.files folder.old }
+    ensures reading { OnlyReads F.told (F.files folder.old) (F.files folder.new)
+        (F.faults folder.old) (F.faults folder.new) result }
     ensures reads { F.reads folder.new ≤ F.reads folder.old + count }
-    ensures cause { HasPageCause (F.faults folder.old) (F.faults folder.new) result }
-    ensures steady { IsSteady (F.faults folder.old) (F.faults folder.new) result }
     ensures payloads { IsTrue F.told
         → OnOk result
         (out.new.items ≡ out.old.items ++ payloads_of (bytes_of (F.files folder.old name.now)) 1 count) }
@@ -185,10 +182,9 @@ pub fn read_payloads<F: Pages>(
     name: &FileName,
     count: u32,
 ) -> Result<Vec<u8>, PageFault>
-    ensures files { IsTrue F.told → F.files folder.new ≡ F.files folder.old }
+    ensures reading { OnlyReads F.told (F.files folder.old) (F.files folder.new)
+        (F.faults folder.old) (F.faults folder.new) result }
     ensures reads { F.reads folder.new ≤ F.reads folder.old + count }
-    ensures cause { HasPageCause (F.faults folder.old) (F.faults folder.new) result }
-    ensures steady { IsSteady (F.faults folder.old) (F.faults folder.new) result }
     ensures payloads { IsTrue F.told
         → IfOk result (λ v. v.items ≡ payloads_of (bytes_of (F.files folder.old name.now)) 1 count) }
     ensures len { IfOk result (λ v. vec_len v ≡ 4064 * count) }

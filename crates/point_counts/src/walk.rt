@@ -1,6 +1,6 @@
 //! The walk over a segment.
 
-ghost use Rattle.std.specs.Prelude.{◌≡◌, ◌≤◌, ◌+◌, ◌-◌, ◌*◌, ◌⊎◌, min, ℕ, List, All, true, false, IsTrue, OnOk};
+ghost use Rattle.std.specs.Prelude.{◌≡◌, ◌≤◌, ◌+◌, ◌-◌, ◌*◌, min, ℕ, List, All, true, false, IsTrue, OnOk};
 ghost use Rattle.std.specs.Bool.{OnTrue, OnFalse};
 ghost use Rattle.outer_io.specs.Files.{bytes_of};
 ghost use Rattle.outer_io.specs.declared.file_name.FileName.TheVariants.{Segment};
@@ -11,9 +11,9 @@ ghost use Rattle.cell_relate.specs.Relations.{is_outside};
 ghost use Rattle.inner_pack.specs.Places.{Spot};
 ghost use Rattle.inner_pack.specs.Trees.{IndexTree, cell_of};
 ghost use Rattle.inner_pack.specs.Nodes.{IsAt};
-ghost use Rattle.page_cache.specs.Cache.{KeepsFile, Agrees};
-ghost use Rattle.page_cache.specs.Causes.{HasPageCause};
+ghost use Rattle.page_cache.specs.Cache.{Agrees};
 ghost use Rattle.page_cache.specs.Evidence.{OnDamage, NotDamaged};
+ghost use Rattle.page_cache.specs.Reading.{ReadsCached};
 ghost use Rattle.segment_file.specs.Segments.{HoldsTree};
 ghost use Rattle.segment_file.specs.Damages.{IsLeafDamage, IsLeafDamageOf};
 ghost use Rattle.bkd_reader.specs.Below.{IsRoot};
@@ -50,10 +50,8 @@ pub(crate) fn count_below<const D: usize, S: Sorting<D>, F: Pages>(
         (AddsCounts (live_at (S.bounds sorting.now) (S.place sorting.now) live.now items) table.old table.new) }
     ensures reads { (first : ℕ) (s : Spot) (path : Region) (t : IndexTree) → IsRoot node.now first s path t
         → F.reads folder.new ≤ F.reads folder.old + opened_below clean (S.bounds sorting.now) (S.parts sorting.now) t }
-    ensures files { IsTrue F.told → F.files folder.new ≡ F.files folder.old }
-    ensures others { (i : ℕ) → KeepsFile cache.new i → KeepsFile cache.old i ⊎ (i ≡ head.now.id) }
-    ensures agrees { IsTrue F.told → Agrees (F.files folder.old) cache.old → Agrees (F.files folder.old) cache.new }
-    ensures cause { HasPageCause (F.faults folder.old) (F.faults folder.new) result }
+    ensures reading { ReadsCached F.told (λ i. i ≡ head.now.id) (F.files folder.old) (F.files folder.new)
+        cache.old cache.new (F.faults folder.old) (F.faults folder.new) result }
     ensures shown { (first : ℕ) (s : Spot) (path : Region) (t : IndexTree) → IsAt node.now first s path t
         → OnDamage result (IsLeafDamage D head.now first s t) }
     ensures damage { IsTrue F.told → Agrees (F.files folder.old) cache.old

@@ -1,6 +1,6 @@
 //! One leaf, read in place in a page that the cache keeps.
 
-ghost use Rattle.std.specs.Prelude.{◌≡◌, ◌≤◌, ◌<◌, ◌+◌, ◌⊎◌, ℕ, List, length, take, drop, IsTrue, IsOk, IfOk, OnOk};
+ghost use Rattle.std.specs.Prelude.{◌≡◌, ◌≤◌, ◌<◌, ◌+◌, ℕ, List, length, take, drop, IsTrue, IsOk, IfOk, OnOk};
 ghost use Rattle.std.specs.Prelude.{OnErr, IfSome, IfNone};
 ghost use Rattle.outer_io.specs.Files.{Files, bytes_of};
 ghost use Rattle.outer_io.specs.declared.file_name.FileName.TheVariants.{Segment};
@@ -11,9 +11,9 @@ ghost use Rattle.inner_pack.specs.Places.{Spot};
 ghost use Rattle.inner_pack.specs.Trees.{IndexTree, Leaf};
 ghost use Rattle.inner_pack.specs.Nodes.{IsAt, IsPlaceOf};
 ghost use Rattle.page_cache.specs.Cache.{IsKept, KeepsFile, Agrees, order_of};
-ghost use Rattle.page_cache.specs.Causes.{HasPageCause};
 ghost use Rattle.page_cache.specs.Evidence.{OnDamage, NotDamaged};
 ghost use Rattle.page_cache.specs.FilePages.{IsFilePage};
+ghost use Rattle.page_cache.specs.Reading.{ReadsCached};
 ghost use Rattle.segment_file.specs.Heads.{page_of, count_of};
 ghost use Rattle.segment_file.specs.Segments.{HoldsLeaf};
 ghost use Rattle.segment_file.specs.Damages.{IsLeafDamage, IsLeafDamageOf};
@@ -37,9 +37,9 @@ pub fn load_leaf<const D: usize, F: Pages>(
     node: &NodeAt<'_, D>,
 ) -> Result<LeafPlace, PageFault>
     requires leaf { node.now.leaves ≡ 1 }
-    ensures files { IsTrue F.told → F.files folder.new ≡ F.files folder.old }
+    ensures reading { ReadsCached F.told (λ i. i ≡ head.now.id) (F.files folder.old) (F.files folder.new)
+        cache.old cache.new (F.faults folder.old) (F.faults folder.new) result }
     ensures reads { F.reads folder.new ≤ F.reads folder.old + 1 }
-    ensures cause { HasPageCause (F.faults folder.old) (F.faults folder.new) result }
     ensures place { IfOk result
         (λ p. (first : ℕ) (s : Spot) (path : Region) (t : IndexTree) → IsAt node.now first s path t
         → IsPlaceOf p s t) }
@@ -49,8 +49,6 @@ pub fn load_leaf<const D: usize, F: Pages>(
     ensures hit { (first : ℕ) (s : Spot) (path : Region) (t : IndexTree) → IsAt node.now first s path t
         → IsKept cache.old head.now.id (page_of head.now s.page) → IsOk result
         × (F.reads folder.new ≡ F.reads folder.old) }
-    ensures others { (i : ℕ) → KeepsFile cache.new i → KeepsFile cache.old i ⊎ (i ≡ head.now.id) }
-    ensures agrees { IsTrue F.told → Agrees (F.files folder.old) cache.old → Agrees (F.files folder.old) cache.new }
     ensures shown { (first : ℕ) (s : Spot) (path : Region) (t : IndexTree) → IsAt node.now first s path t
         → OnDamage result (IsLeafDamage D head.now first s t) }
     ensures damage { IsTrue F.told → OnDamage result (IsLeafDamageOf (F.files folder.old)) }

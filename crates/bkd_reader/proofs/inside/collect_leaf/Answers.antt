@@ -22,12 +22,13 @@ returns-in_default-clause-whole g c = λ told agrees first s path t items is hol
     absurd (never_bad (bytes_of (g.F.Pages.files c.args.folder.now (Segment c.args.head.now.id))) c.args.head.now c.args.node.now c.in_ok-place.place first s
     path t items is (c.in_ok-place.ensures.place first s path t is) holds
     (λ len own at place here.
-    c.in_default.ensures.none (g.F.Pages.files c.args.folder.now) first s path len own (c.in_ok-place.ensures.agrees told agrees) at place items here))
+    c.in_default.ensures.none (g.F.Pages.files c.args.folder.now) first s path len own (c.in_ok-place.ensures.reading.agrees told agrees) at place items here))
 
 pub returns-clause-hits : goal.returns-clause-hits
 returns-clause-hits g c = λ told agrees first s path t is has all.
     taken_hits (bytes_of (g.F.Pages.files c.args.folder.now (Segment c.args.head.now.id))) c.args.head.now has c.args.live.now c.args.node.now
     c.in_ok-place.place first s path t c.in-Some.leaf c.args.hits.now.items c.push_live.new.hits.items
     is (c.in_ok-place.ensures.place first s path t is) all
-    (λ len own at place. c.in-Some.ensures.some (g.F.Pages.files c.args.folder.now) first s path len own (c.in_ok-place.ensures.agrees told agrees) at place)
+    (λ len own at place.
+    c.in-Some.ensures.some (g.F.Pages.files c.args.folder.now) first s path len own (c.in_ok-place.ensures.reading.agrees told agrees) at place)
     c.in_ok-push_live.ensures.hits

@@ -30,8 +30,8 @@ pub returns-in_ok-collect_all-in-Some-clause-hits : goal.returns-in_ok-collect_a
 returns-in_ok-collect_all-in-Some-clause-hits g t c = λ told agrees first s path t' root has all.
     let k = c.in-Some.ensures.some first s path t' root.is in
     let alls = children_all has true c.in-Some.left c.in-Some.right first s path t' k root.cells all in
-    let same = c.collect_all.ensures.files told in
-    let agree = subst (λ f. Agrees f c.collect_all.new.cache) (sym same) (c.collect_all.ensures.agrees told agrees) in
+    let same = c.collect_all.ensures.reading.files told in
+    let agree = subst (λ f. Agrees f c.collect_all.new.cache) (sym same) (c.collect_all.ensures.reading.agrees told agrees) in
     let front =
     c.in_ok-collect_all-in-Some.ensures.hits told agrees first s _ k.l (left_root c.in-Some.left c.in-Some.right first s path t' k root.cells) has alls.0 in
     let back = c.collect_all-in-Some.ensures.hits told agree (first + leaf_count k.l) (right_begin s k.l k.r) _ k.r
@@ -58,8 +58,8 @@ returns-in_ok-collect_all-in-Some-clause-shown g t c = λ first s path t' is.
 pub returns-in_ok-collect_all-in-Some-clause-whole : goal.returns-in_ok-collect_all-in-Some-clause-whole
 returns-in_ok-collect_all-in-Some-clause-whole g t c = λ told agrees first s path t' items is holds.
     let k = c.in-Some.ensures.some first s path t' is in
-    let same = c.collect_all.ensures.files told in
-    let agree = subst (λ f. Agrees f c.collect_all.new.cache) (sym same) (c.collect_all.ensures.agrees told agrees) in
+    let same = c.collect_all.ensures.reading.files told in
+    let agree = subst (λ f. Agrees f c.collect_all.new.cache) (sym same) (c.collect_all.ensures.reading.agrees told agrees) in
     let j = held (bytes_of (g.F.Pages.files c.args.folder.now (Segment c.args.head.now.id))) c.args.head.now c.in-Some.left c.in-Some.right first s path t' k
     items holds in
     c.collect_all-in-Some.ensures.whole told agree (first + leaf_count k.l) (right_begin s k.l k.r) _ k.r j.back_items k.right_is

@@ -109,8 +109,8 @@ returns-in_ok-visit-in-Some-clause-begins g t c =
 pub returns-in_ok-visit-in-Some-clause-hits : goal.returns-in_ok-visit-in-Some-clause-hits
 returns-in_ok-visit-in-Some-clause-hits g t c = λ told agrees first s path t' root.
     let k = c.in-Some.ensures.some first s path t' root.is in
-    let same = c.visit.ensures.files told in
-    let agree = subst (λ f. Agrees f c.visit.new.cache) (sym same) (c.visit.ensures.agrees told agrees) in
+    let same = c.visit.ensures.reading.files told in
+    let agree = subst (λ f. Agrees f c.visit.new.cache) (sym same) (c.visit.ensures.reading.agrees told agrees) in
     let front = subst
     (λ h. Appends c.args.hits.now.items c.visit.new.hits.items
     (AreHits g.row.D (bytes_of (g.F.Pages.files c.args.folder.now (Segment c.args.head.now.id))) c.args.head.now h c.args.live.now first s k.l))
@@ -191,8 +191,8 @@ returns-in_ok-visit-in-Some-clause-shown g t c = λ first s path t' is.
 pub returns-in_ok-visit-in-Some-clause-whole : goal.returns-in_ok-visit-in-Some-clause-whole
 returns-in_ok-visit-in-Some-clause-whole g t c = λ told agrees first s path t' items is holds.
     let k = c.in-Some.ensures.some first s path t' is in
-    let same = c.visit.ensures.files told in
-    let agree = subst (λ f. Agrees f c.visit.new.cache) (sym same) (c.visit.ensures.agrees told agrees) in
+    let same = c.visit.ensures.reading.files told in
+    let agree = subst (λ f. Agrees f c.visit.new.cache) (sym same) (c.visit.ensures.reading.agrees told agrees) in
     let j = held (bytes_of (g.F.Pages.files c.args.folder.now (Segment c.args.head.now.id))) c.args.head.now c.in-Some.left c.in-Some.right first s path t' k
     items holds in
     c.visit-in-Some.ensures.whole told agree (first + leaf_count k.l) (right_begin s k.l k.r) _ k.r j.back_items k.right_is

@@ -30,7 +30,7 @@ returns-in_err-commit-clause-absent g c = λ told none.
 pub returns-in_err-commit-clause-whole : goal.returns-in_err-commit-clause-whole
 returns-in_err-commit-clause-whole g c = λ told d h.
     let p = err_from_is_err_and c.from_residual-in_err-commit.result c.from_residual-in_err-commit.ensures.1 in
-    let same = sym (c.find.ensures.files told) in
+    let same = sym (c.find.ensures.reading.files told) in
     rw (p.1, p.2)
     (c.in_err-commit.ensures.whole told (subst (λ (f : Files). IsFirstPage f c.in-Some.first) same (rw c.in-Some.is at (c.in_ok-first.ensures.first told))) d
     (subst (λ (f : Files). IsCommitFile (bytes_of (f Commit)) d) same h))
@@ -42,11 +42,11 @@ returns-in_err-first-clause-most g c = λ told d h. omega (arith, file_long (byt
 
 pub returns-in_err-commit-clause-most : goal.returns-in_err-commit-clause-most
 returns-in_err-commit-clause-most g c = λ told d h.
-    let same = sym (c.find.ensures.files told) in
+    let same = sym (c.find.ensures.reading.files told) in
     let most = c.in_err-commit.ensures.most told
     (subst (λ (f : Files). IsFirstPage f c.in-Some.first) same (rw c.in-Some.is at (c.in_ok-first.ensures.first told))) d
     (subst (λ (f : Files). IsCommitFile (bytes_of (f Commit)) d) same h) in
-    omega (arith, rw (c.find.ensures.files told) at most, c.find.ensures.reads)
+    omega (arith, rw (c.find.ensures.reading.files told) at most, c.find.ensures.reads)
 
 pub returns-in_err-commit-clause-unread : goal.returns-in_err-commit-clause-unread
 returns-in_err-commit-clause-unread g c = λ told none.

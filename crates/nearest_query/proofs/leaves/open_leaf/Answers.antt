@@ -10,7 +10,7 @@ use Rattle.nearest_query.proofs.leaves.open_leaf.Goals as goal
 pub returns-clause-found : goal.returns-clause-found
 returns-clause-found g c = λ told agrees first s path len own items seen is holds best.
     let place = c.in_ok-place.ensures.place first s path (Leaf len own) is in
-    let here = c.in-Some.ensures.some (g.F.Pages.files c.args.folder.now) first s path len own (c.in_ok-place.ensures.agrees told agrees) is place in
+    let here = c.in-Some.ensures.some (g.F.Pages.files c.args.folder.now) first s path len own (c.in_ok-place.ensures.reading.agrees told agrees) is place in
     let same = one_holding _ _ _ _ _ _ _ c.in-Some.view items here holds in
     subst (λ xs. AreAdded seen (nears_of c.args.at.now.c (live_items c.args.live.now xs)) c.offer_leaf.new.found) same
     (c.in_ok-offer_leaf.ensures.found seen best)
@@ -23,7 +23,7 @@ returns-in_err-place-clause-whole g c = λ told agrees first s path len own item
 
 pub returns-in_default-clause-whole : goal.returns-in_default-clause-whole
 returns-in_default-clause-whole g c = λ told agrees first s path len own items is holds.
-    absurd (c.in_default.ensures.none (g.F.Pages.files c.args.folder.now) first s path len own (c.in_ok-place.ensures.agrees told agrees) is
+    absurd (c.in_default.ensures.none (g.F.Pages.files c.args.folder.now) first s path len own (c.in_ok-place.ensures.reading.agrees told agrees) is
     (c.in_ok-place.ensures.place first s path (Leaf len own) is) items holds)
 
 pub returns-in_err-place-clause-shown : goal.returns-in_err-place-clause-shown

@@ -94,14 +94,24 @@ returns-in_err-search-clause-shown g c = λ trees have.
     let p = err_from_is_err_and c.from_residual-in_err-search.result c.from_residual-in_err-search.ensures.1 in
     rw (p.1, p.2) h
 
-pub returns-in_err-search-clause-cause : goal.returns-in_err-search-clause-cause
-returns-in_err-search-clause-cause g c =
-    let h = c.in_err-search.ensures.cause in
+pub returns-in_err-search-clause-reading : goal.returns-in_err-search-clause-reading
+returns-in_err-search-clause-reading g c =
+    let h = c.in_err-search.ensures.reading in
     let p = err_from_is_err_and c.from_residual-in_err-search.result c.from_residual-in_err-search.ensures.1 in
-    rw (p.1, p.2) (record { later = h.later; fine = tt; failed = λ e. h.failed cc })
+    record {
+      files = h.files;
+      others = h.others;
+      agrees = h.agrees;
+      cause = rw (p.1, p.2) (record { later = h.cause.later; fine = tt; failed = λ e. h.cause.failed cc });
+    }
 
-pub returns-in_err-found-clause-cause : goal.returns-in_err-found-clause-cause
-returns-in_err-found-clause-cause g c =
-    let h = c.in_ok-search.ensures.cause in
+pub returns-in_err-found-clause-reading : goal.returns-in_err-found-clause-reading
+returns-in_err-found-clause-reading g c =
+    let h = c.in_ok-search.ensures.reading in
     let p = err_from_is_err_and c.from_residual-in_err-found.result c.from_residual-in_err-found.ensures.1 in
-    rw (p.1, p.2) (record { later = h.later; fine = tt; failed = λ e. absurd cc })
+    record {
+      files = h.files;
+      others = h.others;
+      agrees = h.agrees;
+      cause = rw (p.1, p.2) (record { later = h.cause.later; fine = tt; failed = λ e. absurd cc });
+    }

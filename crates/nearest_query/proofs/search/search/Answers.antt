@@ -56,11 +56,11 @@ loop-next-smaller g c =
 pub loop-next-preserved : goal.loop-next-preserved
 loop-next-preserved g c = record {
   room = c.in_ok-open.ensures.room ∙ c.loop-next.invariant.room;
-  files = λ told. c.in_ok-open.ensures.files told ∙ c.loop-next.invariant.files told;
-  faults = c.in_ok-open.ensures.cause.fine ∙ c.loop-next.invariant.faults;
-  others = λ i h. ⊎_elim (λ k. c.loop-next.invariant.others i k) (λ k. inr k) (c.in_ok-open.ensures.others i h);
+  files = λ told. c.in_ok-open.ensures.reading.files told ∙ c.loop-next.invariant.files told;
+  faults = c.in_ok-open.ensures.reading.cause.fine ∙ c.loop-next.invariant.faults;
+  others = λ i h. ⊎_elim (λ k. c.loop-next.invariant.others i k) (λ k. inr k) (c.in_ok-open.ensures.reading.others i h);
   agrees = λ told a. subst (λ f. Agrees f c.open.new.cache) (c.loop-next.invariant.files told)
-      (c.in_ok-open.ensures.agrees told
+      (c.in_ok-open.ensures.reading.agrees told
       (subst (λ f. Agrees f c.loop-next.cache) (sym (c.loop-next.invariant.files told)) (c.loop-next.invariant.agrees told a)));
   inside = c.in_ok-open.ensures.inside
       (subst (λ ns. All (IsInside (length c.args.heads.now) ns) c.pop.new.self.turns) (sym c.in-Some.ensures.nodes)

@@ -27,7 +27,7 @@ returns-in_default-clause-whole g c = λ told agrees first s path t items is hol
     c.args.node.now c.in_ok-place.place first s path t items is (c.in_ok-place.ensures.place first s path t is)
     holds
     (λ len own at place here. c.in_default.ensures.none (g.F.Pages.files c.args.folder.now) first s path len own
-    (c.in_ok-place.ensures.agrees told agrees) at place items here))
+    (c.in_ok-place.ensures.reading.agrees told agrees) at place items here))
 
 pub returns-clause-counts : goal.returns-clause-counts
 returns-clause-counts g c = λ told agrees first s path t items is holds.
@@ -37,6 +37,6 @@ returns-clause-counts g c = λ told agrees first s path t items is holds.
     let same = same_items bytes c.args.head.now c.args.node.now c.in_ok-place.place first s path t items c.in-Some.leaf
     is (c.in_ok-place.ensures.place first s path t is) holds
     (λ len own at here. c.in-Some.ensures.some (g.F.Pages.files c.args.folder.now) first s path len own
-    (c.in_ok-place.ensures.agrees told agrees) at here) in
+    (c.in_ok-place.ensures.reading.agrees told agrees) at here) in
     subst (λ xs. AddsCounts (live_at box place c.args.live.now xs) c.args.table.now c.count_live.new.table) same
     c.count_live.ensures

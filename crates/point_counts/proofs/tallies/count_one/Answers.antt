@@ -65,7 +65,7 @@ pub returns-clause-calm : goal.returns-clause-calm
 returns-clause-calm g c =
     calm_alone g.F.Pages.told (g.F.Pages.files c.args.folder.now) (g.F.Pages.files c.count_below.new.folder)
     c.args.cache.now c.count_below.new.cache c.args.head.now.id
-    c.count_below.ensures.files c.count_below.ensures.agrees c.count_below.ensures.others
+    c.count_below.ensures.reading.files c.count_below.ensures.reading.agrees c.count_below.ensures.reading.others
 
 pub returns-clause-shown : goal.returns-clause-shown
 returns-clause-shown g c =

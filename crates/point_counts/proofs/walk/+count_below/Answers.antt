@@ -64,8 +64,8 @@ returns-in_ok-count_below-in-Some-clause-counts g t c = λ told agrees first s p
     let k = c.in-Some.ensures.some first s path u root.is in
     let box = g.S.Sorting.bounds c.args.sorting.now in
     let place = g.S.Sorting.place c.args.sorting.now in
-    let same = c.count_below.ensures.files told in
-    let agree = subst (λ f. Agrees f c.count_below.new.cache) (sym same) (c.count_below.ensures.agrees told agrees) in
+    let same = c.count_below.ensures.reading.files told in
+    let agree = subst (λ f. Agrees f c.count_below.new.cache) (sym same) (c.count_below.ensures.reading.agrees told agrees) in
     let j = held (bytes_of (g.F.Pages.files c.args.folder.now (Segment c.args.head.now.id))) c.args.head.now
     c.in-Some.left c.in-Some.right first s path u k items holds in
     let whole : c.args.clean ≡ true → All (λ (x : Item). is_live c.args.live.now x.doc ≡ true)
@@ -115,8 +115,8 @@ returns-in_ok-count_below-in-Some-clause-shown g t c = λ first s path u is.
 pub returns-in_ok-count_below-in-Some-clause-whole : goal.returns-in_ok-count_below-in-Some-clause-whole
 returns-in_ok-count_below-in-Some-clause-whole g t c = λ told agrees first s path u items is holds.
     let k = c.in-Some.ensures.some first s path u is in
-    let same = c.count_below.ensures.files told in
-    let agree = subst (λ f. Agrees f c.count_below.new.cache) (sym same) (c.count_below.ensures.agrees told agrees) in
+    let same = c.count_below.ensures.reading.files told in
+    let agree = subst (λ f. Agrees f c.count_below.new.cache) (sym same) (c.count_below.ensures.reading.agrees told agrees) in
     let j = held (bytes_of (g.F.Pages.files c.args.folder.now (Segment c.args.head.now.id))) c.args.head.now
     c.in-Some.left c.in-Some.right first s path u k items holds in
     c.count_below-in-Some.ensures.whole told agree (first + leaf_count k.l) (right_begin s k.l k.r) _ k.r j.back_items

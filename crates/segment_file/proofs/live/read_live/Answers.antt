@@ -88,7 +88,7 @@ returns-in_err-joined-clause-damage g c = λ told.
     let pages = c.pages_for-pages.result in
     let size : length (bytes_of (files name)) ≡ 4096 * pages =
     sym (first_size_is files c.in_ok-first.first name c.in_ok-first.ensures.name (c.in_ok-first.ensures.first told)) ∙ c.in_ok-check_size.ensures.ok.0 refl in
-    let found = rw (c.read.ensures.files told) at (c.in_err-joined.ensures.damage told) in
+    let found = rw (c.read.ensures.reading.files told) at (c.in_err-joined.ensures.damage told) in
     let e = err_from_is_err_and c.from_residual-in_err-joined.result c.from_residual-in_err-joined.ensures.1 in
     rw (e.1, e.2)
     (live_fault_of files name (SizeWithin (4096 * pages)) c.in_err-joined.field-0.0 (never_cut files name pages pages (omega arith) size)
@@ -105,7 +105,7 @@ returns-in_err-joined-clause-whole g c = λ told live file.
     let pages_are : pages_for (length f.body) ≡ c.pages_for-pages.result = ap (λ (n : ℕ). pages_for n) same ∙ sym c.pages_for-pages.ensures in
     let pages : ArePages name (bytes_of (files name)) 1 c.pages_for-pages.result = λ n from below. f.pages n (omega arith) (omega arith) in
     let e = err_from_is_err_and c.from_residual-in_err-joined.result c.from_residual-in_err-joined.ensures.1 in
-    rw (e.1, e.2) (c.in_err-joined.ensures.whole told (rw (c.read.ensures.files told) pages))
+    rw (e.1, e.2) (c.in_err-joined.ensures.whole told (rw (c.read.ensures.reading.files told) pages))
 
 pub set_of-requires-clause-said : goal.set_of-requires-clause-said
 set_of-requires-clause-said g c = λ s body x y h e.
@@ -120,9 +120,9 @@ returns-clause-live g c = λ told.
     let files = g.F.Pages.files c.args.folder.now in
     let bytes = bytes_of (files name) in
     let first = c.in_ok-first.ensures.first told in
-    let there : IsFirstPage (g.F.Pages.files c.read.new.folder) c.in_ok-first.first = rw (c.read.ensures.files told) first in
-    let payloads = rw (c.read.ensures.files told, c.pages_for-pages.ensures) at (c.in_ok-joined.ensures.payloads told there) in
-    let pages = rw (c.read.ensures.files told, c.pages_for-pages.ensures) at (c.in_ok-joined.ensures.pages told there) in
+    let there : IsFirstPage (g.F.Pages.files c.read.new.folder) c.in_ok-first.first = rw (c.read.ensures.reading.files told) first in
+    let payloads = rw (c.read.ensures.reading.files told, c.pages_for-pages.ensures) at (c.in_ok-joined.ensures.payloads told there) in
+    let pages = rw (c.read.ensures.reading.files told, c.pages_for-pages.ensures) at (c.in_ok-joined.ensures.pages told there) in
     let size : length bytes ≡ 4096 * pages_for c.in_ok-len.len =
     sym (first_size_is files c.in_ok-first.first name c.in_ok-first.ensures.name first) ∙ c.in_ok-check_size.ensures.ok.0 refl
     ∙ ap (λ (n : ℕ). 4096 * n) c.pages_for-pages.ensures in
@@ -142,8 +142,9 @@ returns-clause-whole g c = λ told live file.
     let payload : c.payload.result.now ≡ payload_of (page_at (bytes_of (files name)) 0) =
     c.payload.ensures.bytes ∙ first_payload_is files c.in_ok-first.first name c.in_ok-first.ensures.name (c.in_ok-first.ensures.first told) in
     let same = said_right c.args.id c.args.generation (bytes_of (files name)) c.payload.result.now live c.in_ok-len.len f payload c.in_ok-len.ensures.len in
-    let there : IsFirstPage (g.F.Pages.files c.read.new.folder) c.in_ok-first.first = rw (c.read.ensures.files told) (c.in_ok-first.ensures.first told) in
-    let payloads = rw (c.read.ensures.files told, c.pages_for-pages.ensures) at (c.in_ok-joined.ensures.payloads told there) in
+    let there : IsFirstPage (g.F.Pages.files c.read.new.folder) c.in_ok-first.first =
+    rw (c.read.ensures.reading.files told) (c.in_ok-first.ensures.first told) in
+    let payloads = rw (c.read.ensures.reading.files told, c.pages_for-pages.ensures) at (c.in_ok-joined.ensures.payloads told there) in
     let all = set_not_damaged c.args.id c.args.generation (bytes_of (files name)) c.in_ok-joined.joined.items live c.in_ok-len.len f same payloads in
     on_damage_both c.set_of.result (IsLiveDamage c.args.id c.args.generation) (IsBodyDamage name c.in_ok-joined.joined.items) (λ _. ⊥)
     (λ d shown carried. no_live_damage c.args.id c.args.generation live f.body c.in_ok-joined.joined.items [] d f.set all shown carried)

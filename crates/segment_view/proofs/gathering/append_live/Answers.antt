@@ -40,7 +40,7 @@ returns-clause-reads g c =
 
 pub returns-in_err-more-clause-calm : goal.returns-in_err-more-clause-calm
 returns-in_err-more-clause-calm g c =
-    let read = c.in_err-more.ensures in
+    let read = c.in_err-more.ensures.reading in
     calm_alone g.F.Pages.told (g.F.Pages.files c.args.folder.now) (g.F.Pages.files c.read_entries.new.folder) c.args.cache.now c.read_entries.new.cache
     c.args.head.now.id read.files read.agrees read.others
 
@@ -53,13 +53,13 @@ returns-in_err-more-clause-shown g c =
 
 pub returns-in_err-append-clause-calm : goal.returns-in_err-append-clause-calm
 returns-in_err-append-clause-calm g c =
-    let read = c.in_ok-more.ensures in
+    let read = c.in_ok-more.ensures.reading in
     calm_alone g.F.Pages.told (g.F.Pages.files c.args.folder.now) (g.F.Pages.files c.read_entries.new.folder) c.args.cache.now c.read_entries.new.cache
     c.args.head.now.id read.files read.agrees read.others
 
 pub returns-clause-calm : goal.returns-clause-calm
 returns-clause-calm g c =
-    let read = c.in_ok-more.ensures in
+    let read = c.in_ok-more.ensures.reading in
     calm_alone g.F.Pages.told (g.F.Pages.files c.args.folder.now) (g.F.Pages.files c.read_entries.new.folder) c.args.cache.now c.read_entries.new.cache
     c.args.head.now.id read.files read.agrees read.others
 

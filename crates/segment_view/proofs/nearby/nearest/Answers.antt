@@ -38,10 +38,10 @@ returns-clause-reads g c = λ told agrees es read found is leaves near.
 
 pub returns-clause-calm : goal.returns-clause-calm
 returns-clause-calm g c = record {
-  files = c.nearest.ensures.files;
-  agrees = c.nearest.ensures.agrees;
+  files = c.nearest.ensures.reading.files;
+  agrees = c.nearest.ensures.reading.agrees;
   others = λ id h. ⊎_elim (λ k. inl k) (λ k. inr (id_of c.args.segments.now id (subst (λ (hs : List Head). HasId hs id) c.heads-2.ensures.value k)))
-      (c.nearest.ensures.others id h);
+      (c.nearest.ensures.reading.others id h);
 }
 
 pub returns-clause-shown : goal.returns-clause-shown

@@ -60,7 +60,7 @@ pub returns-clause-calm : goal.returns-clause-calm
 returns-clause-calm g c =
     calm_alone g.F.Pages.told (g.F.Pages.files c.args.folder.now) (g.F.Pages.files c.intersect.new.folder) c.args.cache.now c.intersect.new.cache
     c.args.head.now.id
-    c.intersect.ensures.files c.intersect.ensures.agrees c.intersect.ensures.others
+    c.intersect.ensures.reading.files c.intersect.ensures.reading.agrees c.intersect.ensures.reading.others
 
 pub returns-clause-shown : goal.returns-clause-shown
 returns-clause-shown g c =
