@@ -114,7 +114,8 @@ all_tallied files c (s ∷ ss) (d ∷ ds) (f ∷ fs) h found all =
 
 -- ---- how many live entries there are
 
-pub entries_found : (held : List SegmentData) (findings : List Finding) → AllZip IsTalliedIn held findings → all_entries findings ≡ length (all_live_entries held)
+pub entries_found : (held : List SegmentData) (findings : List Finding) → AllZip IsTalliedIn held findings
+    → all_entries findings ≡ length (all_live_entries held)
 entries_found [] [] all = refl
 entries_found [] (f ∷ fs) all = absurd all
 entries_found (d ∷ ds) [] all = absurd all

@@ -63,7 +63,8 @@ returns-in_ok-gather-in-Some-clause-whole g t c = λ told agrees first s path u 
     let k = c.in-Some.ensures.some first s path u at in
     let bytes = bytes_of (g.F.Pages.files c.args.folder.now (Segment c.args.head.now.id)) in
     let halves = subst (λ (v : IndexTree). HoldsTree g.row.D bytes c.args.head.now first s v items) k.is holds in
-    let after : Agrees (g.F.Pages.files c.gather.new.folder) c.gather.new.cache = rw (c.gather.ensures.reading.files told) (c.gather.ensures.reading.agrees told agrees) in
+    let after : Agrees (g.F.Pages.files c.gather.new.folder) c.gather.new.cache =
+    rw (c.gather.ensures.reading.files told) (c.gather.ensures.reading.agrees told agrees) in
     c.gather-in-Some.ensures.whole told after (first + leaf_count k.l) (right_begin s k.l k.r) (right_of path k.dimension k.value) k.r k.right_is
     halves.back_items
     (rw (c.gather.ensures.reading.files told) halves.back_holds)
@@ -73,7 +74,8 @@ returns-in_ok-gather-in-Some-clause-gathers g t c = λ told agrees first s path 
     let k = c.in-Some.ensures.some first s path u at in
     let bytes = bytes_of (g.F.Pages.files c.args.folder.now (Segment c.args.head.now.id)) in
     let left = c.in_ok-gather-in-Some.ensures.gathers told agrees first s (left_of path k.dimension k.value) k.l k.left_is in
-    let after : Agrees (g.F.Pages.files c.gather.new.folder) c.gather.new.cache = rw (c.gather.ensures.reading.files told) (c.gather.ensures.reading.agrees told agrees) in
+    let after : Agrees (g.F.Pages.files c.gather.new.folder) c.gather.new.cache =
+    rw (c.gather.ensures.reading.files told) (c.gather.ensures.reading.agrees told agrees) in
     let right =
     c.gather-in-Some.ensures.gathers told after (first + leaf_count k.l) (right_begin s k.l k.r) (right_of path k.dimension k.value) k.r k.right_is in
     OnOk-weaker c.gather-in-Some.result _ _
