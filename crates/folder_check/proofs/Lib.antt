@@ -1,6 +1,5 @@
 pub mod Entries
 pub mod Totals
-pub mod OneEach
 pub mod Counted
 pub mod Pairs
 pub mod Gathered

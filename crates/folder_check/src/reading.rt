@@ -19,13 +19,13 @@ use document_checks::tally;
 use live_bits::LiveBits;
 use outer_io::Pages;
 use page_cache::{PageCache, PageFault};
-use segment_file::{SegmentHead, numbers_without_entry, read_entries};
+use segment_file::{SegmentHead, read_entries};
 use segment_view::Segments;
 use std::alloc::Global;
 
 /// What the leaves of each segment have. All leaves are read, those of segments without a live number too, and each of
 /// their pages once: leaves of one page follow each other, and the page that was read last is kept. Of one segment at a
-/// time the live entries are in memory, and of one with as many entries as live numbers a bit for each number alone.
+/// time the live entries are in memory.
 pub(crate) fn read_leaves<const D: usize, F: Pages>(
     alloc: Global,
     folder: &mut F,
@@ -55,8 +55,7 @@ pub(crate) fn read_leaves<const D: usize, F: Pages>(
     Ok(findings)
 }
 
-/// What the leaves of a segment have. Where there are as many entries as live numbers, and each of these has one, each
-/// has no other: none is crowded. So the numbers tell all, and no entry is kept.
+/// What the leaves of a segment have.
 fn read_segment<const D: usize, F: Pages>(
     alloc: Global,
     folder: &mut F,
@@ -79,14 +78,6 @@ fn read_segment<const D: usize, F: Pages>(
         → HasSegment D (F.files folder.old) (live_segment head.now live.now) → NotDamaged result }
 {
     head.index().is_spelled();
-    if head.entries() == live.live_count() {
-        let left = numbers_without_entry(alloc, folder, cache, head, live)?;
-        return Ok(Finding {
-            found: live.live_count() - left.live_count(),
-            crowded: None,
-            entries: u64::from(head.entries()),
-        });
-    }
     let entries = read_entries(alloc, folder, cache, head, live)?;
     let told = tally(alloc, live, entries.as_slice())?;
     Ok(Finding {

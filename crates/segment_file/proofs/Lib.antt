@@ -11,7 +11,6 @@ pub mod HeadReads
 pub mod Subtrees
 pub mod LeafPages
 pub mod Entries
-pub mod Cleared
 pub mod Paged
 pub mod Laid
 pub mod LaidTree

@@ -7,5 +7,3 @@ pub mod Kept
 pub mod FieldsSeen
 pub mod Gathers
 pub mod Pieced
-pub mod Sinks
-pub mod SinkLaws
