@@ -1,5 +1,5 @@
 use Rattle.std.proofs.lemmas.Result.{err_from_is_err_and}
-use Rattle.std.proofs.Common.{◌++◌, [], ap, subst, sym, refl, ◌∙◌, arith}
+use Rattle.std.proofs.Common.{◌++◌, [], ap, subst, sym, refl, inl, ◌∙◌, arith}
 use Rattle.std.specs.Prelude.{sum_by}
 use Rattle.point_codec.specs.Seen.{items_of}
 use Rattle.documents.specs.NearestEntries.{IsNearest, nears_of}
@@ -114,4 +114,24 @@ returns-in_err-found-clause-reading g c =
       others = h.others;
       agrees = h.agrees;
       cause = rw (p.1, p.2) (record { later = h.cause.later; fine = tt; failed = λ e. absurd cc });
+    }
+
+pub returns-in_err-push_roots-clause-reading : goal.returns-in_err-push_roots-clause-reading
+returns-in_err-push_roots-clause-reading g c =
+    let p = err_from_is_err_and c.from_residual-in_err-push_roots.result c.from_residual-in_err-push_roots.ensures.1 in
+    record {
+      files = λ told. refl;
+      others = λ i k. inl k;
+      agrees = λ told a. a;
+      cause = rw (p.1, p.2) (record { later = omega arith; fine = tt; failed = λ e. absurd cc });
+    }
+
+pub returns-clause-reading : goal.returns-clause-reading
+returns-clause-reading g c =
+    let h = c.in_ok-search.ensures.reading in
+    record {
+      files = h.files;
+      others = h.others;
+      agrees = h.agrees;
+      cause = record { later = h.cause.later; fine = h.cause.fine; failed = λ e. absurd cc };
     }

@@ -1,9 +1,10 @@
 use Rattle.std.proofs.lemmas.Result.{err_from_is_err_and}
-use Rattle.std.proofs.Common.{◌∷◌, ◌≤◌, inr, ⊎_elim, length, subst, sym, ◌∙◌, arith, rules}
+use Rattle.std.proofs.Common.{◌∷◌, ◌≤◌, inr, ⊎_elim, length, subst, sym, ◌∙◌, arith, rules, Err}
 use Rattle.std.specs.Prelude.{All}
 use Rattle.std.proofs.lemmas.List.Sorted.{All-permutation, sum_by_popped}
 use Rattle.std.proofs.lemmas.List.Elements.{All-cons, All-head, All-tail}
 use Rattle.page_cache.specs.Cache.{Agrees}
+use Rattle.page_cache.specs.Causes.{HasPageCause}
 use Rattle.documents.specs.NearestEntries.{IsNearest}
 use Rattle.nearest_query.specs.Best.{found_of}
 use Rattle.nearest_query.specs.Segments.{bound_of}
@@ -97,6 +98,20 @@ loop-next-preserved g c = record {
       c.in-Some.ensures.some in
       omega (arith, r, o, p);
 }
+
+pub returns-in_err-open-clause-reading : goal.returns-in_err-open-clause-reading
+returns-in_err-open-clause-reading g c =
+    let h = c.in_err-open.ensures.reading in
+    let was = c.loop-next.invariant in
+    let p = err_from_is_err_and c.from_residual.result c.from_residual.ensures.1 in
+    record {
+      files = λ told. h.files told ∙ was.files told;
+      others = λ i k. ⊎_elim (λ e. was.others i e) (λ e. inr e) (h.others i k);
+      agrees = λ told a. subst (λ f. Agrees f c.open.new.cache) (was.files told)
+          (h.agrees told (subst (λ f. Agrees f c.loop-next.cache) (sym (was.files told)) (was.agrees told a)));
+      cause = rw (p.1, p.2)
+          (subst (λ n. HasPageCause {T = Unit {0}} n (g.F.Pages.faults c.open.new.folder) (Err c.in_err-open.field-0.0)) was.faults h.cause);
+    }
 
 pub returns-in_err-open-clause-reads : goal.returns-in_err-open-clause-reads
 returns-in_err-open-clause-reads g c = λ told a w all nearest over s is.
