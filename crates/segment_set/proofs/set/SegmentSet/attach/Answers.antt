@@ -24,6 +24,9 @@ use Rattle.index_opening.proofs.Evident.{on_attach_evident}
 use Rattle.segment_set.proofs.Saving.{done_cause}
 use Rattle.segment_set.proofs.Viewing.{faithful_attached}
 use Rattle.page_cache.specs.Evidence.{OnDamage}
+use Rattle.stored_index.specs.Stored.{IsUndefined}
+use Rattle.index_opening.specs.Evidence.{IsEvident}
+use Rattle.segment_set.proofs.Refused.{memory_damage}
 use Rattle.segment_set.proofs.set.SegmentSet.attach.Goals as goal
 
 pub invariant_of-result : goal.invariant_of-result
@@ -161,4 +164,17 @@ returns-in_err-check_numbers-clause-damaged g c =
       damage = damage;
       evident = on_attach_evident (IsTrue g.F.Pages.told × IsCommitFile (bytes_of (files Commit)) c.args.c.now) files c.args.c.now
           c.from_residual-in_err-check_numbers.result (λ h. h.1) (λ h. damage h.0) shown;
+    }
+
+pub returns-in_err-cache-clause-damaged : goal.returns-in_err-cache-clause-damaged
+returns-in_err-cache-clause-damaged g c =
+    let files = g.F.Pages.files c.args.folder.now in
+    let none : (P : Damage → Type 0) → OnDamage c.from_residual-in_err-cache.result P = λ P.
+    memory_damage P c.from_residual-in_err-cache.result c.from_residual-in_err-cache.ensures.1 in
+    record {
+      whole = λ told says state stored. none (λ _. ⊥);
+      undefined = λ told says. none (λ _. IsUndefined files);
+      shown = none (IsAttachDamage c.args.c.now);
+      damage = λ told. none (IsAttachDamageOf files c.args.c.now);
+      evident = none (IsEvident (IsTrue g.F.Pages.told × IsCommitFile (bytes_of (files Commit)) c.args.c.now) files);
     }

@@ -1,4 +1,5 @@
 use Rattle.std.proofs.Common.{◌≡◌, ◌≤◌, ◌<◌, ℕ, true, List, length, take, ltb, Some, Err, refl, sym, ap, subst, ◌∙◌, lit<}
+use Rattle.std.specs.Prelude.{IsTrue}
 use Rattle.std.specs.List.{All, filter}
 use Rattle.std.proofs.lemmas.Result.{err_from_is_err_and}
 use Rattle.outer_io.specs.Files.{Files}
@@ -23,6 +24,7 @@ use Rattle.segment_build.specs.NewSegments.{NewSegmentData}
 use Rattle.segment_set.proofs.Viewed.{looked_sees}
 use Rattle.segment_set.proofs.Well.{well_cache}
 use Rattle.segment_set.proofs.Trusted.{IsTrusted, faithful_looked, on_evident_set}
+use Rattle.segment_set.proofs.Shows.{shows_none}
 use Rattle.segment_set.proofs.set.SegmentSet.merge_begin.Given as given
 use Rattle.segment_set.proofs.set.SegmentSet.merge_begin.Goals as goal
 
@@ -59,6 +61,12 @@ pub returns-in_err-inputs-clause-cause : goal.returns-in_err-inputs-clause-cause
 returns-in_err-inputs-clause-cause g c =
     let p = err_from_is_err_and c.from_residual.result c.from_residual.ensures.1 in
     rw (p.1, p.2) (begun_memory {T = Unit {0}} (g.F.Pages.faults c.args.folder.now) (g.F.Pages.faults c.args.folder.now) refl)
+
+pub returns-in_err-inputs-clause-damaged : goal.returns-in_err-inputs-clause-damaged
+returns-in_err-inputs-clause-damaged g c =
+    let p = err_from_is_err_and c.from_residual.result c.from_residual.ensures.1 in
+    shows_none g.row.D (IsTrue g.F.Pages.told) (g.F.Pages.files c.args.folder.now) (g.F.Pages.files c.args.folder.now) c.args.self.now _
+    (λ P. rw (p.1, p.2) tt)
 
 pub invariant_of-self : goal.invariant_of-self
 invariant_of-self g c =

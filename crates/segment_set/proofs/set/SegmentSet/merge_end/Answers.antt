@@ -1,4 +1,5 @@
 use Rattle.std.proofs.Common.{◌≡◌, ℕ, true, IsTrue, List, Option, sym, ap, subst, ◌∙◌, lit<, None, refl}
+use Rattle.std.specs.Prelude.{All}
 use Rattle.std.proofs.lemmas.List.Elements.{All-contains}
 use Rattle.std.proofs.lemmas.Result.{err_from_is_err_and}
 use Rattle.documents.specs.Entries.{is_among}
@@ -6,12 +7,13 @@ use Rattle.documents.proofs.Kept.{among_to}
 use Rattle.segment_view.specs.LiveSegments.{LiveSegment, ids_of}
 use Rattle.segment_build.specs.NewSegments.{NewSegmentData}
 use Rattle.segment_set.specs.declared.set.SegmentSet.TheInside.{Inside}
-use Rattle.segment_set.specs.Sets.{BegunMerge, IsWell, SetData, inputs_of}
+use Rattle.segment_set.specs.Sets.{BegunMerge, IsNamed, IsWell, SetData, inputs_of}
 use Rattle.segment_set.specs.Seen.{Sees}
 use Rattle.segment_set.specs.Kept.{AreCanonical, Follows, KeepsNamed, StaysAlone}
 use Rattle.segment_set.specs.Merged.{IsEnded}
 use Rattle.segment_set.specs.Merges.{Replaces, living}
 use Rattle.segment_set.specs.Faithful.{IsFaithful}
+use Rattle.segment_set.proofs.Carried.{canon_named, follows_none, keeps_none}
 use Rattle.segment_set.proofs.Ended.{end_canon, end_follows, end_parts, end_seen, end_stays, end_well}
 use Rattle.segment_set.proofs.Faulted.{ended_cause}
 use Rattle.segment_set.proofs.Moved.{moved}
@@ -82,6 +84,15 @@ invariant_of-self g c =
     subst (λ (ps : List LiveSegment).
     IsWell g.row.D (moved (set_of c.self.inside) c.replace.new.names ps c.self.inside.buffer.items c.self.inside.begun c.self.inside.cache))
     (sym c.in_err-replace.ensures.refused) (refused g c).well
+
+pub returns-in_default-clause-rewrites : goal.returns-in_default-clause-rewrites
+returns-in_default-clause-rewrites g c = record {
+  kept = keeps_none (IsTrue g.F.Pages.told) c.args.self.now.names (g.F.Pages.files c.args.folder.now);
+  follows = follows_none c.args.self.now.names c.args.self.now.parts;
+  canon = λ told. canon_named g.row.D (g.F.Pages.files c.args.folder.now) c.args.self.now.names c.args.self.now.parts
+      (subst (λ (s : SetData). All (IsNamed s.names) s.parts) c.self.view_is c.self.invariant.named);
+  faithful = λ told faithful. faithful;
+}
 
 pub returns-in_err-replace-clause-refused : goal.returns-in_err-replace-clause-refused
 returns-in_err-replace-clause-refused g c = λ told i seen.

@@ -107,7 +107,7 @@ returns-clause-faithful g c told keeps =
 
 pub returns-clause-damaged : goal.returns-clause-damaged
 returns-clause-damaged g c = record {
-  whole = c.nearest.ensures.whole told (agreed g c i seen) seen.contents (looked_read _ _ _ i _ _ (parts_are g c) seen);
+  whole = λ told i seen. c.nearest.ensures.whole told (agreed g c i seen) seen.contents (looked_read _ _ _ i _ _ (parts_are g c) seen);
   shown = subst (λ (ps : List LiveSegment). OnDamage c.nearest.result (IsPartDamage g.row.D ps)) (parts_are g c) c.nearest.ensures.shown;
   damage = λ told agrees.
       c.nearest.ensures.damage told (subst (λ (u : SetData). Agrees (g.F.Pages.files c.args.folder.now) u.cache) (sym c.self.view_is) agrees);
