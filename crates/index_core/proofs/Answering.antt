@@ -238,9 +238,9 @@ applies_told D told outcome committing old new r is = record {
   does = λ is_told. is.does tt;
   begins = is.begins;
   stays = record {
-    guards = λ is_told. is.guards tt;
-    faithful = λ is_told. is.faithful tt;
-    traced = λ is_told. is.traced tt;
+    guards = λ is_told. is.stays.guards tt;
+    faithful = λ is_told. is.stays.faithful tt;
+    traced = λ is_told. is.stays.traced tt;
   };
   keeps = record { kept = λ is_told. is.keeps.kept tt; stored = λ is_told. is.keeps.stored tt; lasting = λ is_told. is.keeps.lasting tt };
   commits = λ e. record {

@@ -23,9 +23,6 @@ returns-clause-guards g c told done guards =
     guards_anew _ _ _ _ _ c.attach.result c.self.view_is c.in-Some.is (subst (HasDims g.row.D) c.in-Some.is c.self.invariant.has)
     (says_last _ _ _ _ c.self.view_is c.in-Some.is done guards) c.attach.ensures.commit c.attach.ensures.names (c.attach.ensures.live told)
 
-pub returns-clause-emptied : goal.returns-clause-emptied
-returns-clause-emptied g c = on_ok_each (λ s rest. rest.as_committed.empty) c.attach.result c.attach.ensures.commit
-
 pub returns-clause-unchanged : goal.returns-clause-unchanged
 returns-clause-unchanged g c last is =
     on_ok_each (λ s rest. subst (IsAsCommitted s) (some_same _ _ (sym c.in-Some.is ∙ ap (λ (u : SessionData). u.commit) c.self.view_is ∙ is)) rest.as_committed)

@@ -1,5 +1,5 @@
 -- The commit takes its place, or it isn't known which of the two is there.
-use Rattle.std.proofs.Common.{refl, ap, ◌∙◌, inr}
+use Rattle.std.proofs.Common.{refl, ap, ◌∙◌, inr, rules}
 use Rattle.index_core.specs.Sessions.{SessionData}
 use Rattle.index_core.proofs.Guarding.{guards_done, guards_undone}
 use Rattle.index_core.proofs.Tracing.{traced_done}
@@ -71,3 +71,6 @@ returns-in-Err-clause-traced g c told lives traced =
     traced_done _ (g.F.Pages.files c.args.folder.now) (g.F.Pages.files c.write_commit.new.folder) _ _ c.args.commit c.self.view_is c.requires.listed lives
     (c.write_commit.ensures.others told)
     (which_says (g.F.Pages.files c.args.folder.now) (g.F.Pages.files c.write_commit.new.folder) c.args.commit (c.in-Err.ensures.kept told)) traced
+
+pub returns-in-Err-clause-faults : goal.returns-in-Err-clause-faults
+returns-in-Err-clause-faults g c = record { cause = search rules; whole = search rules }
