@@ -17,18 +17,18 @@ load_open-requires-after_bounds g c κs = λ _.
 pub returns-in-Ok : goal.returns-in-Ok
 returns-in-Ok g c =
     loads_after _ _ _ _ _ _ _ _ _ _ c.load_open.result c.in-Ok.ensures.files refl c.in-Ok.ensures.cause
-    (λ told says. trusts_still g.row.D _ _ _ (c.in-Ok.ensures.files told) (c.in-Ok.ensures.guards told says) (c.in-Ok.ensures.faithful told)
-    (c.in-Ok.ensures.traced told says))
+    (λ told says. trusts_still g.row.D _ _ _ (c.in-Ok.ensures.files told) (c.in-Ok.ensures.attaches.guards told says) (c.in-Ok.ensures.attaches.faithful told)
+    (c.in-Ok.ensures.attaches.traced told says))
     (λ told stored h. starts_still g.row.D _ _ c.args.commit _ stored (c.in-Ok.ensures.files told)
-    (attached_loading g.row.D _ c.args.commit _ stored (c.in-Ok.ensures.seen told h.0) (c.in-Ok.ensures.guards told h.0) c.in-Ok.ensures.unchanged h)
+    (attached_loading g.row.D _ c.args.commit _ stored (c.in-Ok.ensures.attaches.seen told h.0) (c.in-Ok.ensures.attaches.guards told h.0) c.in-Ok.ensures.attaches.unchanged h)
     (has_dims g.row.D _ c.args.commit stored c.requires.dims h))
     c.load_open.ensures
 
 pub returns-in-Err : goal.returns-in-Err
 returns-in-Err g c =
     loads_fault _ _ _ _ _ _ c.in-Err.fault _ refl (λ told stored h. inl (starts_keeps _ _ _ stored (c.in-Err.ensures.files told) h))
-    (λ told stored h. c.in-Err.ensures.whole told h.0 (Some h.1.0) h.1.2) c.in-Err.ensures.cause
-    (evident_still _ _ (g.F.Pages.files c.args.folder.now) (g.F.Pages.files c.attach.new.folder) c.in-Err.fault c.in-Err.ensures.files c.in-Err.ensures.evident)
+    (λ told stored h. c.in-Err.ensures.damaged.whole told h.0 (Some h.1.0) h.1.2) c.in-Err.ensures.cause
+    (evident_still _ _ (g.F.Pages.files c.args.folder.now) (g.F.Pages.files c.attach.new.folder) c.in-Err.fault c.in-Err.ensures.files c.in-Err.ensures.damaged.evident)
     (λ told says.
     fault_kept (g.F.Pages.files c.args.folder.now) (g.F.Pages.files c.attach.new.folder) (kept_equal _ _ (c.in-Err.ensures.files told)) c.in-Err.fault)
     (λ told says. commit_equal _ _ (c.in-Err.ensures.files told))
