@@ -40,11 +40,11 @@ returns-in_err-session g c =
     let e = c.in_err-session.ensures in
     stopped (IsTrue g.F.Pages.told) _ (IsCommitIn old c.args.commit) _ _ _ c.in_err-session.field-0.0 _ (p.1 ∙ ap (λ (s : Stop). Err s) p.2)
     (λ told says. kept_equal _ _ (e.files told ∙ first.files told))
-    (λ told says state stored. e.whole told (subst (λ (f : Files). IsCommitIn f c.args.commit) (sym (first.files told)) says) state
+    (λ told says state stored. e.damaged.whole told (subst (λ (f : Files). IsCommitIn f c.args.commit) (sym (first.files told)) says) state
     (subst (λ (f : Files). IsStored f state) (sym (first.files told)) stored))
     (cause_then _ _ _ (Err c.in_err-session.field-0.0) first.cause.fine e.cause)
     (on_evident_at {X = ℕ} IsTwice _ _ _ _ (Err c.in_err-session.field-0.0)
-    (λ h. (h.0, subst (λ (f : Files). IsCommitIn f c.args.commit) (sym (first.files h.0)) h.1)) (λ h. e.files h.0) e.evident) refl
+    (λ h. (h.0, subst (λ (f : Files). IsCommitIn f c.args.commit) (sym (first.files h.0)) h.1)) (λ h. e.files h.0) e.damaged.evident) refl
 
 pub returns : goal.returns
 returns g c =
@@ -53,5 +53,5 @@ returns g c =
     merges_after (IsTrue g.F.Pages.told) _ _ _ _ _ _ _ c.in_ok-session.session _ (λ told. then.files told ∙ first.files told) refl refl
     (cause_then _ _ _ _ first.cause.fine then.cause)
     (λ told says. opened g.row.D _ _ _ c.args.commit _ _ (first.files told) (then.files told) says (first.copy told)
-    (then.seen told) (then.guards told) (then.faithful told) (then.traced told) then.unchanged)
+    (then.attaches.seen told) (then.attaches.guards told) (then.attaches.faithful told) (then.attaches.traced told) then.attaches.unchanged)
     c.merge_with.ensures
