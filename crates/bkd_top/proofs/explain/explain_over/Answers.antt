@@ -42,7 +42,7 @@ returns-in-Ok-clause-cause g c = cause_from _ _ _ _ _ _ _ c.in-Ok.ensures.cause.
 
 pub returns-clause-ends : goal.returns-clause-ends
 returns-clause-ends g c = λ told says s scope.
-    unread_ends (IsTrue g.K.Sink.told) (TellsLine s) 1 0 _ _ _ c.in-Err.fault (c.in-Err.ensures.whole told says s.state scope.stored) c.stopped.result
+    unread_ends (IsTrue g.K.Sink.told) (TellsLine s) 1 0 _ _ _ c.in-Err.fault (c.in-Err.ensures.damaged.whole told says s.state scope.stored) c.stopped.result
     c.stopped.ensures
     refl
 
@@ -65,5 +65,5 @@ returns-in-Ok-clause-evident g c =
 
 pub returns-clause-evident : goal.returns-clause-evident
 returns-clause-evident g c =
-    fault_shows _ c.in-Err.fault (fault_at _ _ _ _ c.in-Err.fault (λ p. p) (λ p. c.in-Err.ensures.files p.0) c.in-Err.ensures.evident) c.stopped.result
+    fault_shows _ c.in-Err.fault (fault_at _ _ _ _ c.in-Err.fault (λ p. p) (λ p. c.in-Err.ensures.files p.0) c.in-Err.ensures.damaged.evident) c.stopped.result
     c.stopped.ensures
