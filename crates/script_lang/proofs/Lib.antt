@@ -3,6 +3,7 @@ pub mod WordsOf
 pub mod LinesOf
 pub mod Values
 pub mod ReadPoints
+pub mod Sought
 pub mod Limits
 pub mod Said
 pub mod Boundaries

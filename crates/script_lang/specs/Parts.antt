@@ -1,5 +1,5 @@
 -- What is said of the words of a line while they are read.
-use Rattle.std.specs.Prelude.{ℕ, ℤ, ◌+◌, ◌*◌, ◌≡◌, List, ◌∷◌, ◌++◌, length, Option, Result, Ok, Err}
+use Rattle.std.specs.Prelude.{ℕ, ℤ, ◌+◌, ◌*◌, ◌≡◌, ◌≤◌, List, ◌∷◌, ◌++◌, length, Option, Result, Ok, Err}
 use Rattle.std.specs.List.{flat_map}
 use Rattle.number_text.specs.Number.{coordinate}
 use Rattle.point_codec.specs.Seen.{coordinates_of}
@@ -21,6 +21,11 @@ pub record Takes (word : List ℕ) (first later : Words) : Type 0 where
   pub words : words_left first ≡ word ∷ words_left later
   pub place : later.place ≡ first.place + 1
   pub text : later.text.now ≡ after_word first.text.now
+
+-- later are the words of first that are left when those in front of them are read
+pub record IsRestOf (later first : Words) : Type 0 where
+  pub place : first.place ≤ later.place
+  pub count : later.place + length (words_left later) ≡ first.place + length (words_left first)
 
 -- values before others
 abbrev pub before : {X : Type 0} → List X → Result (List X) LineFault → Result (List X) LineFault

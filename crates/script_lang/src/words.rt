@@ -1,6 +1,6 @@
 //! A line cut into words, one after the other.
 
-ghost use Rattle.std.specs.Prelude.{◌≡◌, ◌+◌, ◌<◌, ◌≤◌, ◌^◌, ◌∷◌, [], length, MatchOption};
+ghost use Rattle.std.specs.Prelude.{◌≡◌, ◌==◌, ◌+◌, ◌<◌, ◌≤◌, ◌^◌, ◌∷◌, [], length, MatchOption};
 ghost use Rattle.std.specs.List.{prefix_len, position_or_len};
 ghost use Rattle.script_lang.specs.Lines.{words_of, after_word, is_blank};
 
@@ -14,6 +14,14 @@ fn first_word(text: &str) -> Option<(&str, &str)>
         return None;
     }
     Some(text.split_at(word_len(text)))
+}
+
+/// Whether a text is empty but for blanks.
+fn has_no_word(text: &str) -> bool
+    ensures { result ≡ (length (words_of text.now) == 0) }
+{
+    let (_, text) = text.split_at(blanks(text));
+    text.is_empty()
 }
 
 /// How many blanks stand at the front of a text.
@@ -51,11 +59,12 @@ pub struct Words<'a> {
 }
 
 impl<'a> Words<'a> {
-    ghost use Rattle.script_lang.specs.Parts.{words_left, Takes};
+    ghost use Rattle.script_lang.specs.Parts.{words_left, Takes, IsRestOf};
 
     /// The next word.
     pub fn next(&mut self) -> Option<&'a str>
-        ensures { MatchOption result (words_left self.old ≡ []) (λ word. Takes word.now self.old self.new) }
+        ensures word { MatchOption result (words_left self.old ≡ []) (λ word. Takes word.now self.old self.new) }
+        ensures rest { IsRestOf self.new self.old }
     {
         let (word, text) = first_word(self.text)?;
         *self = Words {
@@ -63,6 +72,13 @@ impl<'a> Words<'a> {
             place: self.place + 1,
         };
         Some(word)
+    }
+
+    /// Whether no word is left. No word is cut.
+    pub fn is_empty(&self) -> bool
+        ensures { result ≡ (length (words_left self.now) == 0) }
+    {
+        has_no_word(self.text)
     }
 
     /// How many words there are.
@@ -75,5 +91,13 @@ impl<'a> Words<'a> {
             count += 1;
         }
         count
+    }
+
+    /// How many words there are from a place of the line on, where those from there to the first that is left are read.
+    pub fn count_from(&self, place: u32) -> usize
+        requires { place ≤ self.now.place }
+        ensures { place + result ≡ self.now.place + length (words_left self.now) }
+    {
+        (self.place - place) as usize + self.count()
     }
 }
