@@ -1,34 +1,37 @@
--- One document after the other.
-use Rattle.std.proofs.Common.{Err, ap, ◌∙◌}
+-- Without a point nothing is added; else one document's list is made, and each point added by way of it.
+use Rattle.std.proofs.Common.{length, length-append, Err, ap, lit<, ◌∙◌, arith}
 use Rattle.std.proofs.lemmas.Result.{err_from_is_err_and}
 use Rattle.page_cache.specs.declared.faults.PageFault.{PageFault}
+use Rattle.point_codec.specs.declared.coordinates.Point.{Point}
 use Rattle.segment_set.proofs.Sizes.{point_fits}
 use Rattle.index_core.proofs.Sizes.{session_fits}
-use Rattle.index_core.proofs.Adding.{adds_all, adds_more, adds_none, adds_stopped, adds_then, room_for_next}
+use Rattle.index_core.proofs.Adding.{adds_empty, adds_memory_as}
 use Rattle.index_core.proofs.session.Session.add_points.Goals as goal
 
-pub add_point-requires-after_bounds : goal.add_point-requires-after_bounds
-add_point-requires-after_bounds g c κs = λ _. (
-  session_fits g.row.D c.point-item.result.high,
-  (
-    point_fits g.row.D c.point-item.result.high,
-    room_for_next g.row.D c.args.points.now c.loop-point.point-index _ _ c.loop-point-test.true c.requires c.loop-point.invariant.given,
-  ),
+pub of-requires : goal.of-requires
+of-requires g c =
+    let pushed = ap length c.push_reserved.ensures.items in
+    let before = ap length c.in_ok-list.ensures.items in (
+      point_fits g.row.D c.first-item.result.high,
+      (
+        lit< tt,
+        (omega (arith, pushed, before, length-append {A = Point g.row.D}), omega (arith, pushed, before, length-append {A = Point g.row.D})),
+      ),
+    )
+
+pub add_each-requires-after_bounds : goal.add_each-requires-after_bounds
+add_each-requires-after_bounds g c κs = λ _. (
+  session_fits g.row.D c.first-item.result.high,
+  (point_fits g.row.D c.first-item.result.high, (lit< tt, c.requires)),
 )
 
-pub loop-point-init : goal.loop-point-init
-loop-point-init g c = adds_none g.row.D _ _ tt
+pub returns-in-empty : goal.returns-in-empty
+returns-in-empty g c = adds_empty g.row.D _ c.args.points.now _ tt c.in-empty.len_below
 
-pub loop-point-preserved : goal.loop-point-preserved
-loop-point-preserved g c =
-    adds_more g.row.D _ c.args.points.now c.loop-point.point-index c.point-item.result _ _ _ tt _ c.loop-point-test.true c.point-item.is c.loop-point.invariant
-    c.in_ok-add_point.ensures
-
-pub returns-in_err-add_point : goal.returns-in_err-add_point
-returns-in_err-add_point g c =
+pub returns-in_err-list : goal.returns-in_err-list
+returns-in_err-list g c =
     let p = err_from_is_err_and c.from_residual.result c.from_residual.ensures.1 in
-    adds_stopped g.row.D _ _ _ _ _ c.in_err-add_point.field-0.0 _ (p.1 ∙ ap (λ (e : PageFault). Err e) p.2)
-    (adds_then g.row.D _ _ _ _ _ _ tt _ c.loop-point.invariant c.in_err-add_point.ensures)
+    adds_memory_as _ _ _ _ _ (p.1 ∙ ap (λ (e : PageFault). Err e) p.2)
 
-pub returns : goal.returns
-returns g c = adds_all g.row.D _ c.args.points.now c.loop-point.point-index _ _ _ c.loop-point-test.false c.loop-point.invariant
+pub returns-in-len1-up : goal.returns-in-len1-up
+returns-in-len1-up g c = c.add_each.ensures
