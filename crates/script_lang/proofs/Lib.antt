@@ -1,5 +1,6 @@
 pub mod Pieces
 pub mod WordsOf
+pub mod FirstWord
 pub mod LinesOf
 pub mod Values
 pub mod ReadPoints

@@ -34,7 +34,7 @@ words_from (b ∷ bs) =
       | false ↦ λ e. rw (prefix-no b bs e) refl
     ] refl
 
-words_none : (text : List ℕ) → from_word text ≡ [] → words_of text ≡ []
+pub words_none : (text : List ℕ) → from_word text ≡ [] → words_of text ≡ []
 unfolding words_of
 words_none text e = sym (words_from text) ∙ ap words_of e
 
@@ -77,7 +77,7 @@ first_at w some =
     ] refl
 
 -- what is left behind the blanks begins with a word
-begins : (text : List ℕ) → 0 < length (from_word text) → 0 < position_or_len is_blank (from_word text)
+pub begins : (text : List ℕ) → 0 < length (from_word text) → 0 < position_or_len is_blank (from_word text)
 begins [] some = absurd (omega arith)
 begins (b ∷ bs) some =
     elim (is_blank b) as (λ t. is_blank b ≡ t → 0 < position_or_len is_blank (from_word (b ∷ bs))) [
@@ -86,7 +86,7 @@ begins (b ∷ bs) some =
     ] refl
 
 -- the first word of a text
-words_first : (text : List ℕ) → 0 < length (from_word text)
+pub words_first : (text : List ℕ) → 0 < length (from_word text)
     → words_of text ≡ take (position_or_len is_blank (from_word text)) (from_word text)
     ∷ words_of (drop (position_or_len is_blank (from_word text)) (from_word text))
 words_first text some = sym (words_from text) ∙ first_at (from_word text) (begins text some)

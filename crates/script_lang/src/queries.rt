@@ -13,9 +13,24 @@ use point_codec::{Name, Point, View};
 use polygon_query::read_polygon;
 use std::alloc::Global;
 
-/// `[@NAME]`: what a query looks at.
-#[tactic(auto, unfolding(crate::specs::Reading::query_of))]
+/// `[@NAME]`: what a query looks at. No word is cut where none is named.
 pub fn view_at(words: &mut Words<'_>) -> Result<View, LineFault>
+    requires { words.old.place ≡ 2 }
+    ensures query { MatchResult result
+        (λ view. query_of (words_left words.old) ≡ Ok
+        (record { view = view_name view; place = words.new.place; words = words_left words.new }))
+        (λ f. query_of (words_left words.old) ≡ Err f) }
+    ensures behind { IfOk result (λ view. words.new.text.now ≡ behind_view (view_name view) words.old.text.now) }
+{
+    if !words.names_view() {
+        return Ok(View::Now);
+    }
+    named_view(words)
+}
+
+/// The same by the next word, which is cut.
+#[tactic(auto, unfolding(crate::specs::Reading::query_of))]
+fn named_view(words: &mut Words<'_>) -> Result<View, LineFault>
     requires { words.old.place ≡ 2 }
     ensures query { MatchResult result
         (λ view. query_of (words_left words.old) ≡ Ok

@@ -1,8 +1,8 @@
 //! A line cut into words, one after the other.
 
-ghost use Rattle.std.specs.Prelude.{◌≡◌, ◌==◌, ◌+◌, ◌<◌, ◌≤◌, ◌^◌, ◌∷◌, [], length, MatchOption};
+ghost use Rattle.std.specs.Prelude.{◌≡◌, ◌==◌, ◌+◌, ◌<◌, ◌≤◌, ◌^◌, ◌∷◌, [], length, slice_index, MatchOption};
 ghost use Rattle.std.specs.List.{prefix_len, position_or_len};
-ghost use Rattle.script_lang.specs.Lines.{words_of, after_word, is_blank};
+ghost use Rattle.script_lang.specs.Lines.{words_of, from_word, after_word, is_blank};
 
 /// The first word of a text, and what stands behind it.
 fn first_word(text: &str) -> Option<(&str, &str)>
@@ -22,6 +22,20 @@ fn has_no_word(text: &str) -> bool
 {
     let (_, text) = text.split_at(blanks(text));
     text.is_empty()
+}
+
+/// Whether what stands behind the blanks at the front of a text begins with `@`.
+fn begins_with_at(text: &str) -> bool
+    ensures { result ≡ (slice_index (from_word text.now) 0 == 64) }
+{
+    let (_, text) = text.split_at(blanks(text));
+    is_at(text)
+}
+
+fn is_at(text: &str) -> bool
+    ensures { result ≡ (slice_index text.now 0 == 64) }
+{
+    matches!(text.as_bytes(), [b'@', ..])
 }
 
 /// How many blanks stand at the front of a text.
@@ -59,7 +73,7 @@ pub struct Words<'a> {
 }
 
 impl<'a> Words<'a> {
-    ghost use Rattle.script_lang.specs.Parts.{words_left, Takes, IsRestOf};
+    ghost use Rattle.script_lang.specs.Parts.{words_left, names_view, Takes, IsRestOf};
 
     /// The next word.
     pub fn next(&mut self) -> Option<&'a str>
@@ -79,6 +93,13 @@ impl<'a> Words<'a> {
         ensures { result ≡ (length (words_left self.now) == 0) }
     {
         has_no_word(self.text)
+    }
+
+    /// Whether the next word begins with `@`. No word is cut.
+    pub fn names_view(&self) -> bool
+        ensures { result ≡ names_view (words_left self.now) }
+    {
+        begins_with_at(self.text)
     }
 
     /// How many words there are.
