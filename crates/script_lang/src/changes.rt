@@ -107,7 +107,8 @@ fn are_points(count: usize, dims: usize) -> bool
     if count % dims != 0 {
         return false;
     }
-    (1..=16).contains(&(count / dims))
+    let points = count / dims;
+    points >= 1 && points <= 16
 }
 
 /// The points that the words that are left write, up to 16. It stops behind the first word that is no coordinate.
