@@ -62,7 +62,7 @@ pub fn box_at<const D: usize>(mut words: Words<'_>) -> Result<(Point<D>, Point<D
 }
 
 /// The two points that the next words write. It stops as `point_at` does.
-pub fn corners_at<const D: usize>(words: &mut Words<'_>) -> Result<(Point<D>, Point<D>), LineFault>
+fn corners_at<const D: usize>(words: &mut Words<'_>) -> Result<(Point<D>, Point<D>), LineFault>
     requires some { 1 ≤ D }
     requires few { D ≤ 8 }
     ensures ends { length (words_left words.old) ≡ 2 * D → MatchResult result
