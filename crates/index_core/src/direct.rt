@@ -83,13 +83,29 @@ impl<const D: usize> Session<D> {
     {
         match points {
             [] => Ok(()),
-            [first, ..] => {
-                let mut list = Vec::with_capacity(alloc, 1)?;
-                list.push_reserved(*first);
-                let mut one = Points::of(list);
-                self.add_each(rt, alloc, folder, points, &mut one, gate)
-            }
+            [first, ..] => self.add_all(rt, alloc, folder, first, points, gate),
         }
+    }
+
+    /// The same by way of one document's list, which has the first point at first.
+    fn add_all<R: Threads + Sync, F: Folder, G: Gate>(
+        &mut self,
+        rt: &R,
+        alloc: Global,
+        folder: &mut F,
+        first: &Point<D>,
+        points: &[Point<D>],
+        gate: &G,
+    ) -> Result<(), PageFault>
+        requires { self.old.set.given + length points.now ≤ 2 ^ 24 }
+        ensures { Adds D (IsTrue F.told) (coordinates_of points.now)
+            (record { files = F.files folder.old; session = self.old; faults = F.faults folder.old })
+            (record { files = F.files folder.new; session = self.new; faults = F.faults folder.new }) result }
+    {
+        let mut list = Vec::with_capacity(alloc, 1)?;
+        list.push_reserved(*first);
+        let mut one = Points::of(list);
+        self.add_each(rt, alloc, folder, points, &mut one, gate)
     }
 
     /// The same by way of `one`, which is each point in turn.
