@@ -1,5 +1,5 @@
 -- What the header makes of the records under it.
-use Rattle.std.proofs.Common.{◌≡◌, ℕ, ◌≤◌, List, [], ◌∷◌, length, Result, Ok, Err, IfErr, ◌≢◌, refl, arith}
+use Rattle.std.proofs.Common.{◌≡◌, ℕ, ◌≤◌, List, [], ◌∷◌, length, Result, Ok, Err, IfErr, ◌≢◌, refl, sym, ap, ◌∙◌, arith}
 use Rattle.std.specs.Result.{IsErrAnd}
 use Rattle.csv_load.specs.Loading.{each_ok, column_of, point_of, points_of}
 use Rattle.csv_load.specs.declared.CsvFault.{CsvFault}
@@ -19,6 +19,13 @@ pub header_columns : (names : List (List ℕ)) (records rows : List (List (List 
     → each_ok (column_of header) 0 names ≡ Ok columns → points_of names records ≡ each_ok (point_of (length header) columns) 1 rows
 unfolding points_of
 header_columns names records rows header columns first h = rw (first, h) refl
+
+-- the same where the header's width was taken
+pub rows_whole : (names : List (List ℕ)) (records rows : List (List (List ℕ))) (header : List (List ℕ)) (columns : List ℕ) (width : ℕ)
+    → records ≡ header ∷ rows → width ≡ length header
+    → each_ok (column_of header) 0 names ≡ Ok columns → points_of names records ≡ each_ok (point_of width columns) 1 rows
+rows_whole names records rows header columns width first wide h =
+    header_columns names records rows header columns first h ∙ ap (λ (w : ℕ). each_ok (point_of w columns) 1 rows) (sym wide)
 
 -- a fault that is handed on
 pub handed_on : {T S : Type 0} (result : Result T CsvFault) (all : Result S CsvFault) (e : CsvFault) → IsErrAnd result (λ x. x ≡ e) → all ≡ Err e

@@ -4,13 +4,14 @@
 mod fields;
 mod records;
 
-ghost use Rattle.std.specs.Prelude.{◌≡◌, ◌≢◌, ◌≤◌, Ok, Err, IfOk, IfErr, length};
+ghost use Rattle.std.specs.Prelude.{◌≡◌, ◌≢◌, ◌≤◌, ◌<◌, ◌^◌, Ok, Err, IfOk, OnOk, IfErr, List, ℤ, length};
 ghost use Rattle.point_codec.specs.Seen.{coordinates_of};
 ghost use Rattle.csv.specs.Records.{fields_of};
-ghost use Rattle.csv_load.specs.Loading.{points_of, records_of};
+ghost use Rattle.csv_load.specs.Loading.{each_ok, point_of, points_of, records_of};
+ghost use Rattle.csv_load.specs.Reading.{IsReading, bytes_left, records_left};
 
 use byte_cursor::Bytes;
-use csv::ByteRecord;
+use csv::{ByteRecord, Reader};
 use fields::{columns_of, point_of};
 use point_codec::Point;
 use records::{next_record, open};
@@ -69,4 +70,51 @@ pub fn read_points<const D: usize>(
         points.push(point_of(&fields, width, &places, row)?)?;
     }
     Ok(points)
+}
+
+/// Reads all records of a file for their faults alone: it keeps no point. The fault is that of `read_points`.
+pub fn check_points<const D: usize>(
+    alloc: Global,
+    b: &[u8],
+    columns: &[Bytes],
+) -> Result<(), CsvFault>
+    requires some { 1 ≤ D }
+    requires few { D ≤ 8 }
+    requires named { length columns.now ≡ D }
+    ensures fine { OnOk result ((points : List (List ℤ)) × (points_of columns.now (records_of b.now) ≡ Ok points)) }
+    ensures fault { IfErr result
+        (λ fault. fault ≢ CsvFault.Memory → points_of columns.now (records_of b.now) ≡ Err fault) }
+{
+    let mut reader = open(alloc, b);
+    let mut fields = ByteRecord::new(alloc);
+    if !next_record(&mut reader, &mut fields)? {
+        return Err(CsvFault::NoColumn { column: 0 });
+    }
+    let width = fields.len();
+    let places = columns_of::<D>(&fields, columns)?;
+    check_rows(&mut reader, &mut fields, width, &places)
+}
+
+/// Reads the records that are left for their faults alone; they count from 1. Each is read into `fields`.
+fn check_rows<const D: usize>(
+    reader: &mut Reader<&[u8]>,
+    fields: &mut ByteRecord,
+    width: usize,
+    places: &[usize; D],
+) -> Result<(), CsvFault>
+    requires some { 1 ≤ D }
+    requires few { D ≤ 8 }
+    requires reading { IsReading reader.old }
+    requires short { length (bytes_left reader.old) < 2 ^ 63 }
+    ensures fine { OnOk result
+        ((points : List (List ℤ)) × (each_ok (point_of width places.now) 1 (records_left reader.old) ≡ Ok points)) }
+    ensures fault { IfErr result (λ fault. fault ≢ CsvFault.Memory
+        → each_ok (point_of width places.now) 1 (records_left reader.old) ≡ Err fault) }
+{
+    let mut row: u64 = 0;
+    'records: while next_record(reader, fields)? {
+        row += 1;
+        point_of::<D>(fields, width, places, row)?;
+    }
+    Ok(())
 }

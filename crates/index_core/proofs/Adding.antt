@@ -62,6 +62,11 @@ adds_none D told at x = record {
   evident = tt;
 }
 
+pub adds_empty : {T : Type 0} (D : ℕ) (told : Type 0) (points : List (Point D)) (at : SessionMoment) (x : T) → length points < 1
+    → Adds D told (coordinates_of points) at at (Ok x)
+adds_empty D told [] at x none = adds_none D told at x
+adds_empty D told (p ∷ ps) at x none = absurd (omega arith)
+
 -- for want of memory nothing is
 pub adds_no_memory : {T : Type 0} (D : ℕ) (told : Type 0) (points : List (List ℤ)) (at : SessionMoment) → Adds {T = T} D told points at at (Err page.Memory)
 adds_no_memory D told points at = record {

@@ -66,7 +66,8 @@ impl<const D: usize> Session<D> {
         add_result(self.set.add(rt, alloc, folder, &Points::of(list), gate))
     }
 
-    /// Adds a document for each point, in their order, without a copy of them. After a fault some are added.
+    /// Adds a document for each point, in their order, without a copy of them. It takes memory for one document's list,
+    /// however many there are. After a fault some are added.
     pub fn add_points<R: Threads + Sync, F: Folder, G: Gate>(
         &mut self,
         rt: &R,
@@ -80,10 +81,74 @@ impl<const D: usize> Session<D> {
             (record { files = F.files folder.old; session = self.old; faults = F.faults folder.old })
             (record { files = F.files folder.new; session = self.new; faults = F.faults folder.new }) result }
     {
+        match points {
+            [] => Ok(()),
+            [first, ..] => self.add_all(rt, alloc, folder, first, points, gate),
+        }
+    }
+
+    /// The same by way of one document's list, which has the first point at first.
+    fn add_all<R: Threads + Sync, F: Folder, G: Gate>(
+        &mut self,
+        rt: &R,
+        alloc: Global,
+        folder: &mut F,
+        first: &Point<D>,
+        points: &[Point<D>],
+        gate: &G,
+    ) -> Result<(), PageFault>
+        requires { self.old.set.given + length points.now ≤ 2 ^ 24 }
+        ensures { Adds D (IsTrue F.told) (coordinates_of points.now)
+            (record { files = F.files folder.old; session = self.old; faults = F.faults folder.old })
+            (record { files = F.files folder.new; session = self.new; faults = F.faults folder.new }) result }
+    {
+        let mut list = Vec::with_capacity(alloc, 1)?;
+        list.push_reserved(*first);
+        let mut one = Points::of(list);
+        self.add_each(rt, alloc, folder, points, &mut one, gate)
+    }
+
+    /// The same by way of `one`, which is each point in turn.
+    fn add_each<R: Threads + Sync, F: Folder, G: Gate>(
+        &mut self,
+        rt: &R,
+        alloc: Global,
+        folder: &mut F,
+        points: &[Point<D>],
+        one: &mut Points<D>,
+        gate: &G,
+    ) -> Result<(), PageFault>
+        requires { self.old.set.given + length points.now ≤ 2 ^ 24 }
+        ensures { Adds D (IsTrue F.told) (coordinates_of points.now)
+            (record { files = F.files folder.old; session = self.old; faults = F.faults folder.old })
+            (record { files = F.files folder.new; session = self.new; faults = F.faults folder.new }) result }
+    {
         for point in points {
-            self.add_point(rt, alloc, folder, point, gate)?;
+            self.add_by(rt, alloc, folder, point, one, gate)?;
         }
         Ok(())
+    }
+
+    /// Adds a document of one point by way of `one`, which is that point afterwards. What is kept stays, whatever is
+    /// answered.
+    fn add_by<R: Threads + Sync, F: Folder, G: Gate>(
+        &mut self,
+        rt: &R,
+        alloc: Global,
+        folder: &mut F,
+        point: &Point<D>,
+        one: &mut Points<D>,
+        gate: &G,
+    ) -> Result<(), PageFault>
+        requires { self.old.set.given + 1 ≤ 2 ^ 24 }
+        ensures { Adds D (IsTrue F.told) (point.now.c ∷ [])
+            (record { files = F.files folder.old; session = self.old; faults = F.faults folder.old })
+            (record { files = F.files folder.new; session = self.new; faults = F.faults folder.new }) result }
+    {
+        // its segments are all named
+        let _leaf = self.set.leaf();
+        one.set_one(point);
+        add_result(self.set.add(rt, alloc, folder, one, gate))
     }
 
     /// Takes a document out. True exactly where it was live. It takes no memory and no folder.

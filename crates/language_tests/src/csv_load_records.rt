@@ -1,6 +1,6 @@
 use crate::asserts::{same, same_at};
 use byte_cursor::Bytes;
-use csv_load::{CsvFault, read_points};
+use csv_load::{CsvFault, check_points, read_points};
 use std::alloc::Global;
 use std::fmt::Write;
 use std::test::Fail;
@@ -28,6 +28,7 @@ fn loads_points(rt: HostRuntime) -> Result<(), Fail> {
         (b"x,other,y\n1,\xff\xfe,2\n", &[[1, 2]]),
         (b"\n\nx,y\n\n1,2\n\n", &[[1, 2]]),
     ] {
+        check_points::<2>(rt.alloc(), text, &columns)?;
         let loaded = read_points::<2>(rt.alloc(), text, &columns)?;
         same_at(&rt, loaded.len(), points.len(), &text);
         for (point, c) in loaded.iter().zip(points) {
@@ -61,6 +62,8 @@ fn names_the_first_fault(rt: HostRuntime) -> Result<(), Fail> {
     ] {
         let loaded = read_points::<2>(rt.alloc(), text, &columns);
         same_at(&rt, loaded.err(), Some(fault), &text);
+        let checked = check_points::<2>(rt.alloc(), text, &columns);
+        same_at(&rt, checked.err(), Some(fault), &text);
     }
     Ok(())
 }

@@ -12,7 +12,7 @@ use std::test::Fail;
 const SEVENTEEN: &[u8] = b"add 1 1 2 2 3 3 4 4 5 5 6 6 7 7 8 8 9 9 1 2 1 3 1 4 1 5 1 6 1 7 1 8 1 9";
 
 // lines that have a fault where ranges have one dimension
-const CHANGES: [(&[u8], RangeFault); 27] = [
+const CHANGES: [(&[u8], RangeFault); 28] = [
     (b"create", Line(Words)),
     (b"create 0", Line(Dims)),
     (b"create 5", Line(Dims)),
@@ -28,6 +28,7 @@ const CHANGES: [(&[u8], RangeFault); 27] = [
     (SEVENTEEN, Line(Words)),
     (b"add 5 1 2", Line(Words)),
     (b"add 5 x", Line(Number { word: 3 })),
+    (b"add 5 x 2", Line(Words)),
     (b"add 5 1 x 2", Line(Number { word: 4 })),
     (b"add 5 1", NotRange),
     (b"add 1 2 5 1", NotRange),
@@ -42,7 +43,7 @@ const CHANGES: [(&[u8], RangeFault); 27] = [
     (b"release a b", Line(Words)),
 ];
 
-const QUERIES: [(&[u8], RangeFault); 14] = [
+const QUERIES: [(&[u8], RangeFault); 16] = [
     (b"box 1 2", Line(Unknown)),
     (b"polygon {", Line(Unknown)),
     (b"nearest 1 0 0", Line(Unknown)),
@@ -51,6 +52,8 @@ const QUERIES: [(&[u8], RangeFault); 14] = [
     (b"intersects @ 5 1", Line(BadName)),
     (b"intersects 5", Line(Words)),
     (b"intersects @a 5 1 2", Line(Words)),
+    (b"intersects x", Line(Words)),
+    (b"intersects 5 x 2", Line(Words)),
     (b"intersects 5 x", Line(Number { word: 3 })),
     (b"within @a 5 x", Line(Number { word: 4 })),
     (b"intersects 5 1", NotRange),

@@ -8,14 +8,19 @@ use script_lang::{Command, First, LineFault, read_first, read_line};
 use std::alloc::Global;
 use std::test::Fail;
 
-// 17 points of one dimension
+// 17 points of one dimension, and as many words of which the first is none
 const SEVENTEEN: &[u8] = b"add 1 2 3 4 5 6 7 8 9 10 11 12 13 14 15 16 17";
+
+const NO_SEVENTEEN: &[u8] = b"add x 2 3 4 5 6 7 8 9 10 11 12 13 14 15 16 17";
+
+// 16 points but for the last word
+const NO_SIXTEEN: &[u8] = b"add 1 2 3 4 5 6 7 8 9 10 11 12 13 14 15 y";
 
 const POLYGON: &[u8] =
     br#"polygon @_ {"type": "Polygon", "coordinates": [[[0,0],[4,0],[4,4],[0,0]]]} "#;
 
 /// Lines of two dimensions, and the first fault of each.
-const FAULTS: [(&[u8], LineFault); 37] = [
+const FAULTS: [(&[u8], LineFault); 48] = [
     (b"near 1 0 0", Unknown),
     (b"\xff# a note", NotUtf8),
     (b"create 9 leaf 1", Dims),
@@ -30,18 +35,29 @@ const FAULTS: [(&[u8], LineFault); 37] = [
     (b"add 1 2147483648", Number { word: 3 }),
     (b"add -2147483649 y", Number { word: 2 }),
     (b"add 1 +2", Number { word: 3 }),
+    (b"add x", Words),
+    (b"add 1 x 3", Words),
+    (b"add 1 2 x", Words),
+    (b"add 1 2 3 x y 6", Number { word: 5 }),
     (b"delete", Words),
     (b"delete box 1", Words),
+    (b"delete box x 0 5", Words),
     (b"delete 1 2", Words),
     (b"delete 4294967296", Number { word: 2 }),
     (b"box @ 0 0 5 5", BadName),
     (b"box @a.b 0 0 5", BadName),
     (b"box @a 0 0 5", Words),
     (b"box @a 0 0 5 x", Number { word: 6 }),
+    (b"box x 0 5 5 y", Words),
+    (b"box 0 x 5 y", Number { word: 3 }),
     (b"nearest 0 0 0", BadK),
     (b"nearest 10001 0 0", BadK),
     (b"nearest 10001 0 0x", Number { word: 4 }),
     (b"nearest 1 0", Words),
+    (b"nearest", Words),
+    (b"nearest x 0", Words),
+    (b"nearest x y 0", Number { word: 2 }),
+    (b"nearest 1 0 y 0", Words),
     (b"polygon", Words),
     (b"polygon @a ", Words),
     (b"polygon {", Geo(GeoFault::NotJson)),
@@ -76,6 +92,9 @@ fn fault_of_one(alloc: Global, line: &[u8]) -> Option<LineFault> {
 fn first_fault_of_one_dimension(rt: HostRuntime) {
     same(&rt, fault_of_one(rt.alloc(), b"polygon {"), Some(NotTwo));
     same(&rt, fault_of_one(rt.alloc(), SEVENTEEN), Some(Words));
+    same(&rt, fault_of_one(rt.alloc(), NO_SEVENTEEN), Some(Words));
+    let last = fault_of_one(rt.alloc(), NO_SIXTEEN);
+    same(&rt, last, Some(Number { word: 17 }));
 }
 
 /// What a line asks where there is no index.

@@ -10,7 +10,7 @@ ghost use Rattle.load_points.specs.Loads.{HasIndexDims, Loads};
 
 use crate::texts::{put_csv_fault, put_dims};
 use byte_cursor::Bytes;
-use csv_load::{CsvFault, read_points};
+use csv_load::{CsvFault, check_points};
 use page_cache::PageFault;
 use std::alloc::Global;
 
@@ -65,28 +65,13 @@ fn look_through(alloc: Global, columns: &[Bytes], input: &[u8]) -> Result<(), Cs
         (λ fault. fault ≢ CsvFault.Memory → points_of columns.now (records_of input.now) ≡ Err fault) }
 {
     match columns.len() {
-        1 => look::<1>(alloc, columns, input),
-        2 => look::<2>(alloc, columns, input),
-        3 => look::<3>(alloc, columns, input),
-        4 => look::<4>(alloc, columns, input),
-        5 => look::<5>(alloc, columns, input),
-        6 => look::<6>(alloc, columns, input),
-        7 => look::<7>(alloc, columns, input),
-        _ => look::<8>(alloc, columns, input),
-    }
-}
-
-/// Reads all records of `D` columns for their faults alone.
-fn look<const D: usize>(alloc: Global, columns: &[Bytes], input: &[u8]) -> Result<(), CsvFault>
-    requires some { 1 ≤ D }
-    requires few { D ≤ 8 }
-    requires named { length columns.now ≡ D }
-    ensures fine { OnOk result ((points : List (List ℤ)) × (points_of columns.now (records_of input.now) ≡ Ok points)) }
-    ensures fault { IfErr result
-        (λ fault. fault ≢ CsvFault.Memory → points_of columns.now (records_of input.now) ≡ Err fault) }
-{
-    match read_points::<D>(alloc, input, columns) {
-        Ok(_) => Ok(()),
-        Err(fault) => Err(fault),
+        1 => check_points::<1>(alloc, input, columns),
+        2 => check_points::<2>(alloc, input, columns),
+        3 => check_points::<3>(alloc, input, columns),
+        4 => check_points::<4>(alloc, input, columns),
+        5 => check_points::<5>(alloc, input, columns),
+        6 => check_points::<6>(alloc, input, columns),
+        7 => check_points::<7>(alloc, input, columns),
+        _ => check_points::<8>(alloc, input, columns),
     }
 }

@@ -15,6 +15,7 @@ use Rattle.std.specs.FinSet.{IsAntisymmetric, slice_cmp-IsAntisymmetric, int_cmp
 use Rattle.std.specs.FinMap as finite
 use Rattle.std.specs.FinMap.Entries.{is_sorted, below_all, is_some-find, same_entries}
 use Rattle.point_codec.specs.Order.{in_order}
+use Rattle.point_codec.specs.Points.{ArePoints}
 
 pub points_total : IsTotalOrder (slice_cmp int_cmp)
 points_total = lists_total int_cmp_total
@@ -161,6 +162,11 @@ dedup_some E (x ∷ xs) h = some_from E x xs
 dedup_few : {X : Type 0} (E : X → X → Bool) (xs : List X) → length (dedup E xs) ≤ length xs
 dedup_few E [] = omega arith
 dedup_few E (x ∷ xs) = omega (arith, few_from E x xs)
+
+-- one point alone
+pub one_point : (point : List ℤ) → ArePoints (point ∷ [])
+unfolding IsStrictlySortedBy
+one_point point = record { some = omega arith; few = omega arith; ascending = (tt, tt) }
 
 -- of 1 to 16 elements, moved and rid of repetitions, 1 to 16 are left
 pub still_few : {X Y : Type 0} (f : X → Y) (E : X → X → Bool) (xs ys : List X) → IsPermutation xs ys → 1 ≤ length xs → length xs ≤ 16

@@ -1,6 +1,6 @@
 //! A point, and the points of a document.
 
-ghost use Rattle.std.specs.Prelude.{◌≡◌, ℕ, ◌+◌, ◌*◌, ◌^◌, ◌≤◌, ◌<◌, length, List, ℤ, IsTrue, map, ◌-ℤ◌};
+ghost use Rattle.std.specs.Prelude.{◌≡◌, ℕ, ◌+◌, ◌*◌, ◌^◌, ◌≤◌, ◌<◌, ◌∷◌, [], length, List, ℤ, IsTrue, map, ◌-ℤ◌};
 ghost use Rattle.point_codec.specs.Points.{square};
 
 use std::marker::Model;
@@ -69,6 +69,14 @@ impl<const D: usize> Points<D> {
         list.sort_unstable();
         list.dedup();
         Points { list }
+    }
+
+    /// Makes it this one point alone. It takes no memory: the room of a point is there.
+    pub fn set_one(&mut self, point: &Point<D>)
+        ensures { self.new ≡ point.now.c ∷ [] }
+    {
+        self.list.clear();
+        self.list.push_reserved(*point);
     }
 
     /// The points, in ascending order.

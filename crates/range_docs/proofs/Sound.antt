@@ -15,7 +15,7 @@ use Rattle.script_lang.specs.Requests.{Request, Viewed}
 use Rattle.script_lang.specs.Requests as asks
 use Rattle.script_lang.specs.Reading.{Reading, Says, Fails, greatest_leaf, is_from_to, on_success}
 use Rattle.script_lang.specs.Reading.{values_of, word_alone, create_reading}
-use Rattle.script_lang.specs.Reading.{read_add, read_merge, query_of, box_of, pieces, points_of, text_of, read}
+use Rattle.script_lang.specs.Reading.{read_add, document_of, read_merge, query_of, box_of, pieces, points_of, text_of, read}
 use Rattle.script_lang.specs.Lines.{words_of}
 use Rattle.script_lang.proofs.Limits.{IsPart, value_part, values_part, name_part}
 use Rattle.script_lang.specs.Seen.{IsWithinLimits, first_request_of}
@@ -175,15 +175,14 @@ added_sound r count dims (Ok xs) two are =
     ranges_sound r (ordered_points (pieces count dims xs)) (subst (λ (n : ℕ). All (IsPoint n) (ordered_points (pieces count dims xs))) two points)
 
 add_sound : (r dims : ℕ) (words : List (List ℕ)) → dims ≡ 2 * r → IsSound r (if_ranges r (read_add dims words))
-unfolding read_add
+unfolding read_add document_of
 add_sound r dims words two =
     by (length words % dims == 0) (is_from_to 1 16 (length words / dims)) refl
   where
     by : (whole few : Bool) → (length words % dims == 0) ≡ whole
         → IsSound r (if_ranges r
-        (cond (whole && few)
-        (on_success (points_of (length words / dims) dims (values_of coordinate 2 words)) (λ points. Says (asks.Add (ordered_points points))))
-        (Fails line.Words)))
+        (on_success (cond (whole && few) (points_of (length words / dims) dims (values_of coordinate 2 words)) (Err line.Words))
+        (λ points. Says (asks.Add (ordered_points points)))))
     by true true e = added_sound r (length words / dims) dims (values_of coordinate 2 words) two (λ xs is.
         let values = are_values 2 words xs is in
         let none : length words % dims ≡ 0 = grind (arith, nat_tests) in

@@ -71,11 +71,7 @@ pub(crate) fn add<const D: usize>(alloc: Global, words: Words<'_>) -> Result<Com
     requires second { words.place ≡ 2 }
     ensures { AgreesOnRanges request_of result (if_ranges (D / 2) (read_add D (words_left words.entry))) }
 {
-    let count = words.count();
-    if count % D != 0 || count / D < 1 || count / D > 16 {
-        return Err(RangeFault::Line(LineFault::Words));
-    }
-    let points = Points::of(points_at(alloc, words, count / D)?);
+    let points = Points::of(points_at(alloc, words)?);
     if !are_ranges(points.as_slice()) {
         return Err(RangeFault::NotRange);
     }

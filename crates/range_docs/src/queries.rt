@@ -1,7 +1,7 @@
 //! The lines that ask which ranges are there.
 
-ghost use Rattle.std.specs.Prelude.{◌≡◌, ◌*◌, ◌/◌, ◌%◌, ◌≤◌, take, drop, MatchResult, Ok, Err};
-ghost use Rattle.script_lang.specs.Parts.{words_left};
+ghost use Rattle.std.specs.Prelude.{◌≡◌, ◌*◌, ◌/◌, ◌%◌, ◌≤◌, take, drop, length, MatchResult, Ok, Err};
+ghost use Rattle.script_lang.specs.Parts.{words_left, IsRestOf};
 ghost use Rattle.script_lang.specs.Seen.{request_of};
 ghost use Rattle.script_lang.specs.Reading.{box_of};
 ghost use Rattle.range_docs.specs.Reading.{read_question};
@@ -44,9 +44,25 @@ fn ends_at<const D: usize>(mut words: Words<'_>) -> Result<Point<D>, LineFault>
     ensures { let read = box_of (D / 2) words.entry.place (words_left words.entry) in
         MatchResult result (λ p. read ≡ Ok (take (D / 2) p.c, drop (D / 2) p.c)) (λ f. read ≡ Err f) }
 {
-    if words.count() != D {
+    let first = words.place;
+    let ends = next_ends(&mut words);
+    let count = words.count_from(first);
+    if count != D {
         return Err(LineFault::Words);
     }
-    let ends = point_at(&mut words)?;
+    ends
+}
+
+/// The lower ends and then the upper ends, which the next words write. It stops as `point_at` does.
+fn next_ends<const D: usize>(words: &mut Words<'_>) -> Result<Point<D>, LineFault>
+    requires some { 1 ≤ D }
+    requires few { D ≤ 8 }
+    requires even { D % 2 ≡ 0 }
+    ensures ends { length (words_left words.old) ≡ D → MatchResult result
+        (λ p. box_of (D / 2) words.old.place (words_left words.old) ≡ Ok (take (D / 2) p.c, drop (D / 2) p.c))
+        (λ f. box_of (D / 2) words.old.place (words_left words.old) ≡ Err f) }
+    ensures rest { IsRestOf words.new words.old }
+{
+    let ends = point_at(words)?;
     Ok(ends)
 }

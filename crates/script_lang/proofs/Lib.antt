@@ -1,8 +1,10 @@
 pub mod Pieces
 pub mod WordsOf
+pub mod FirstWord
 pub mod LinesOf
 pub mod Values
 pub mod ReadPoints
+pub mod Sought
 pub mod Limits
 pub mod Said
 pub mod Boundaries

@@ -9,7 +9,8 @@ use Rattle.script_lang.specs.Requests.{Request}
 use Rattle.script_lang.specs.Requests as asks
 use Rattle.script_lang.specs.Reading.{Reading, Says, Fails, greatest_leaf, is_from_to, on_success, value_of, values_of, onto_values, points_of}
 use Rattle.script_lang.specs.Reading.{corners_of, box_of, query_of, name_of, word_alone, create_reading, read_create, read_add, read_delete, read_box}
-use Rattle.script_lang.specs.Reading.{nearest_of, read_nearest, behind_view, polygon_fault, rings_of, read_polygon, read_merge, read_command, text_of}
+use Rattle.script_lang.specs.Reading.{document_of, with_values, sought_of, read_nearest, behind_view, polygon_fault, rings_of, read_polygon}
+use Rattle.script_lang.specs.Reading.{read_merge, read_command, text_of}
 use Rattle.script_lang.specs.Seen.{IsWithinLimits, IsReadAs, request_of, first_request_of}
 use Rattle.script_lang.specs.Parts.{first_reading_of}
 use Rattle.script_lang.specs.declared.commands.Command.{Command}
@@ -127,9 +128,13 @@ create_fine (d ∷ word ∷ s ∷ []) =
     if_fine _ (given_fine (value_part number 2 d) (λ dims. given_fine (value_part number 4 s) (λ leaf. created_fine dims leaf))) wrong
 create_fine (d ∷ word ∷ s ∷ w ∷ ws) = wrong
 
+document_part : (dims place : ℕ) (words : List (List ℕ)) → IsPart (document_of dims place words)
+unfolding document_of
+document_part dims place words = if_part _ (points_part _ dims _ (values_part coordinate place words)) (not_there fault.Words (λ e. cc))
+
 add_fine : (dims : ℕ) (words : List (List ℕ)) → IsFine (read_add dims words)
 unfolding read_add
-add_fine dims words = if_fine _ (given_fine (points_part _ dims _ (values_part coordinate 2 words)) (λ ps. says _ tt)) wrong
+add_fine dims words = given_fine (document_part dims 2 words) (λ ps. says _ tt)
 
 delete_fine : (dims : ℕ) (words : List (List ℕ)) → IsFine (read_delete dims words)
 unfolding read_delete
@@ -148,14 +153,22 @@ k_fine view k cs =
       | false ↦ λ t. fails fault.BadK (λ e. cc)
     ] refl
 
-nearest_of_fine : (dims : ℕ) (view : asks.Viewed) (place : ℕ) (words : List (List ℕ)) → IsFine (nearest_of dims view place words)
-nearest_of_fine dims view place [] = wrong
-nearest_of_fine dims view place (w ∷ ws) =
-    if_fine _ (given_fine (value_part number place w) (λ k. given_fine (values_part coordinate (place + 1) ws) (λ cs. k_fine view k cs))) wrong
+with_part : (one : Result ℕ LineFault) (others : Result (List ℤ) LineFault) → IsPart one → IsPart others → IsPart (with_values one others)
+with_part (Err f) others first rest = not_there f first.remembers
+with_part (Ok x) (Err f) first rest = not_there f rest.remembers
+with_part (Ok x) (Ok xs) first rest = there (x, xs)
+
+sought_part : (dims place : ℕ) (words : List (List ℕ)) → IsPart (sought_of dims place words)
+unfolding sought_of
+sought_part dims place [] = not_there fault.Words (λ e. cc)
+sought_part dims place (w ∷ ws) =
+    if_part _
+    (with_part (value_of number place w) (values_of coordinate (place + 1) ws) (value_part number place w) (values_part coordinate (place + 1) ws))
+    (not_there fault.Words (λ e. cc))
 
 nearest_fine : (dims : ℕ) (words : List (List ℕ)) → IsFine (read_nearest dims words)
 unfolding read_nearest
-nearest_fine dims words = given_fine (query_part words) (λ q. nearest_of_fine dims q.view q.place q.words)
+nearest_fine dims words = given_fine (query_part words) (λ q. given_fine (sought_part dims q.place q.words) (λ s. k_fine q.view s.0 s.1))
 
 fault_part : {X : Type 0} (read : Result X GeoFault) → IsPart (polygon_fault read)
 fault_part (Ok x) = there x

@@ -7,10 +7,25 @@ use Rattle.std.proofs.lemmas.List.{append-nil}
 use Rattle.std.proofs.lemmas.Bool.Decides.{nat_tests}
 use Rattle.number_text.specs.Number.{coordinate}
 use Rattle.script_lang.specs.Reading.{value_of, values_of, onto_values, box_of}
-use Rattle.script_lang.specs.Parts.{words_left, before, Takes, Writes}
+use Rattle.script_lang.specs.Parts.{words_left, before, Takes, Writes, IsRestOf}
 use Rattle.script_lang.specs.declared.faults.LineFault.{LineFault}
 use Rattle.script_lang.specs.declared.faults.LineFault.TheVariants as fault
 use Rattle.script_lang.specs.declared.words.Words.{Words}
+
+-- ---- the words that are left
+
+pub rest_none : (w : Words) → IsRestOf w w
+rest_none w = record { place = omega arith; count = refl }
+
+-- what is left of what is left
+pub rest_both : {a b c : Words} → IsRestOf b a → IsRestOf c b → IsRestOf c a
+rest_both r s = record { place = omega (arith, r.place, s.place); count = s.count ∙ r.count }
+
+-- so many words are counted from a place on as are left there
+pub counted : (place n : ℕ) (a b : Words) → place ≡ a.place → place + n ≡ b.place + length (words_left b) → IsRestOf b a → n ≡ length (words_left a)
+counted place n a b at count rest = omega (arith, at, count, rest.count)
+
+-- ---- their values
 
 before-nil : {X : Type 0} (others : Result (List X) LineFault) → before [] others ≡ others
 before-nil (Ok xs) = refl

@@ -1,9 +1,11 @@
 -- The words of a text, taken off one by one.
-use Rattle.std.proofs.Common.{◌≡◌, ℕ, ◌+◌, ◌<◌, ◌≤◌, Bool, true, false, List, [], ◌∷◌, length, take, drop, arith, refl, ap, sym, ◌∙◌, add-one, length-take-le}
-use Rattle.std.specs.Prelude.{nat_lt, filter}
+use Rattle.std.proofs.Common.{◌≡◌, ℕ, ◌+◌, ◌<◌, ◌≤◌, Bool, true, false, List, [], ◌∷◌, length, take}
+use Rattle.std.proofs.Common.{drop, arith, refl, ap, sym, subst, ◌∙◌, add-one, length-take-le}
+use Rattle.std.specs.Prelude.{nat_lt, filter, ◌==◌}
 use Rattle.std.specs.List.{position_or_len, prefix_len, slice_split, before_first, after_first}
 use Rattle.std.proofs.lemmas.List.Splits.{slice_split-cons_yes, slice_split_first, length-slice_split}
 use Rattle.std.proofs.lemmas.List.Sums.{prefix_len-le-length, passes_at_first, length-filter, count_by-le-length}
+use Rattle.std.proofs.lemmas.Bool.{eq-eqb, ne_eqb}
 use Rattle.std.proofs.lemmas.Bool.Decides.{nat_tests}
 use Rattle.std.proofs.lemmas.Grind.{common_steps}
 use Rattle.std.proofs.Math.Nat.{add_comm}
@@ -32,7 +34,7 @@ words_from (b ∷ bs) =
       | false ↦ λ e. rw (prefix-no b bs e) refl
     ] refl
 
-words_none : (text : List ℕ) → from_word text ≡ [] → words_of text ≡ []
+pub words_none : (text : List ℕ) → from_word text ≡ [] → words_of text ≡ []
 unfolding words_of
 words_none text e = sym (words_from text) ∙ ap words_of e
 
@@ -75,7 +77,7 @@ first_at w some =
     ] refl
 
 -- what is left behind the blanks begins with a word
-begins : (text : List ℕ) → 0 < length (from_word text) → 0 < position_or_len is_blank (from_word text)
+pub begins : (text : List ℕ) → 0 < length (from_word text) → 0 < position_or_len is_blank (from_word text)
 begins [] some = absurd (omega arith)
 begins (b ∷ bs) some =
     elim (is_blank b) as (λ t. is_blank b ≡ t → 0 < position_or_len is_blank (from_word (b ∷ bs))) [
@@ -84,7 +86,7 @@ begins (b ∷ bs) some =
     ] refl
 
 -- the first word of a text
-words_first : (text : List ℕ) → 0 < length (from_word text)
+pub words_first : (text : List ℕ) → 0 < length (from_word text)
     → words_of text ≡ take (position_or_len is_blank (from_word text)) (from_word text)
     ∷ words_of (drop (position_or_len is_blank (from_word text)) (from_word text))
 words_first text some = sym (words_from text) ∙ first_at (from_word text) (begins text some)
@@ -103,6 +105,22 @@ pub none_taken : (text w : List ℕ) (n : ℕ) → n ≡ prefix_len is_blank tex
 none_taken text w n n-is w-is none =
     let from : w ≡ from_word text = w-is ∙ ap (λ k. drop k text) n-is in
     words_none text (empty (from_word text) (rw (← from) (omega arith)))
+
+both_some : (v : List ℕ) (ws : List (List ℕ)) → 0 < length v → 0 < length ws → (length v == 0) ≡ (length ws == 0)
+both_some v ws more most = ne_eqb (length v) 0 (λ e. omega arith) ∙ sym (ne_eqb (length ws) 0 (λ e. omega arith))
+
+both_none : (v : List ℕ) (ws : List (List ℕ)) → length v ≡ 0 → length ws ≡ 0 → (length v == 0) ≡ (length ws == 0)
+both_none v ws none no = eq-eqb (length v) 0 none ∙ sym (eq-eqb (length ws) 0 no)
+
+-- no byte is left behind the blanks at the front exactly where no word is
+pub empty_from : (text w : List ℕ) (n : ℕ) → n ≡ prefix_len is_blank text → w ≡ drop n text → (length w == 0) ≡ (length (words_of text) == 0)
+empty_from text w n n-is w-is = by w (w-is ∙ ap (λ k. drop k text) n-is)
+  where
+    by : (v : List ℕ) → v ≡ from_word text → (length v == 0) ≡ (length (words_of text) == 0)
+    by [] from = both_none [] (words_of text) refl (ap length (words_none text (sym from)))
+    by (b ∷ bs) from =
+        let some : 0 < length (b ∷ bs) = omega arith in
+        both_some (b ∷ bs) (words_of text) some (omega (arith, ap length (words_first text (subst (λ (v : List ℕ). 0 < length v) from some))))
 
 -- a text has no more words than bytes, but for one
 pub words_fit : (text : List ℕ) → length (words_of text) ≤ length text + 1

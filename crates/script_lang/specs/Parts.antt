@@ -1,5 +1,6 @@
 -- What is said of the words of a line while they are read.
-use Rattle.std.specs.Prelude.{ℕ, ℤ, ◌+◌, ◌*◌, ◌≡◌, List, ◌∷◌, ◌++◌, length, Option, Result, Ok, Err}
+use Rattle.std.specs.Prelude.{ℕ, ℤ, ◌+◌, ◌*◌, ◌==◌, ◌≡◌, ◌≤◌, Bool, false, List, [], ◌∷◌, ◌++◌, length, slice_index}
+use Rattle.std.specs.Prelude.{Option, Result, Ok, Err}
 use Rattle.std.specs.List.{flat_map}
 use Rattle.number_text.specs.Number.{coordinate}
 use Rattle.point_codec.specs.Seen.{coordinates_of}
@@ -16,11 +17,21 @@ use Rattle.script_lang.specs.declared.words.Words.{Words}
 abbrev pub words_left : Words → List (List ℕ)
 words_left some = words_of some.text.now
 
+-- the first of the words begins with '@'
+abbrev pub names_view : List (List ℕ) → Bool
+names_view [] = false
+names_view (w ∷ ws) = slice_index w 0 == 64
+
 -- a word is taken off: later is what is left of first behind it
 pub record Takes (word : List ℕ) (first later : Words) : Type 0 where
   pub words : words_left first ≡ word ∷ words_left later
   pub place : later.place ≡ first.place + 1
   pub text : later.text.now ≡ after_word first.text.now
+
+-- later are the words of first that are left when those in front of them are read
+pub record IsRestOf (later first : Words) : Type 0 where
+  pub place : first.place ≤ later.place
+  pub count : later.place + length (words_left later) ≡ first.place + length (words_left first)
 
 -- values before others
 abbrev pub before : {X : Type 0} → List X → Result (List X) LineFault → Result (List X) LineFault

@@ -111,13 +111,16 @@ read_create (d ∷ word ∷ s ∷ []) =
     else Fails fault.Words
 read_create (d ∷ word ∷ s ∷ w ∷ ws) = Fails fault.Words
 
--- `add` with the coordinates of 1 to 16 points, point after point
-unfoldable pub read_add : ℕ → List (List ℕ) → Reading
-read_add dims words =
+-- the coordinates of 1 to 16 points, point after point, from this place on
+unfoldable pub document_of : ℕ → ℕ → List (List ℕ) → Result (List (List ℤ)) LineFault
+document_of dims place words =
     if length words % dims == 0 && is_from_to 1 16 (length words / dims)
-    then on_success (points_of (length words / dims) dims (values_of coordinate 2 words))
-    (λ points. Says (asks.Add (ordered_points points)))
-    else Fails fault.Words
+    then points_of (length words / dims) dims (values_of coordinate place words)
+    else Err fault.Words
+
+-- `add` with the points of a document
+unfoldable pub read_add : ℕ → List (List ℕ) → Reading
+read_add dims words = on_success (document_of dims 2 words) (λ points. Says (asks.Add (ordered_points points)))
 
 -- `delete NUMBER` or `delete box LO HI`: the word `box` is never a number
 unfoldable pub read_delete : ℕ → List (List ℕ) → Reading
@@ -133,18 +136,24 @@ read_box dims words =
     on_success (query_of words)
     (λ query. on_success (box_of dims query.place query.words) (λ box. Says (asks.InBox query.view box.0 box.1)))
 
--- `K C1 .. CD`
-abbrev pub nearest_of : ℕ → Viewed → ℕ → List (List ℕ) → Reading
-nearest_of dims view place [] = Fails fault.Words
-nearest_of dims view place (w ∷ ws) =
-    if length ws == dims then
-    on_success (value_of number place w) (λ k. on_success (values_of coordinate (place + 1) ws) (λ cs.
-    if is_from_to 1 10000 k then Says (asks.Nearest view k cs) else Fails fault.BadK))
-    else Fails fault.Words
+-- a value, and the values behind it
+abbrev pub with_values : Result ℕ LineFault → Result (List ℤ) LineFault → Result (ℕ × List ℤ) LineFault
+with_values (Err f) others = Err f
+with_values (Ok x) (Err f) = Err f
+with_values (Ok x) (Ok xs) = Ok (x, xs)
+
+-- `K C1 .. CD`, from this place on
+unfoldable pub sought_of : ℕ → ℕ → List (List ℕ) → Result (ℕ × List ℤ) LineFault
+sought_of dims place [] = Err fault.Words
+sought_of dims place (w ∷ ws) =
+    if length ws == dims then with_values (value_of number place w) (values_of coordinate (place + 1) ws)
+    else Err fault.Words
 
 -- `nearest [@NAME] K C1 .. CD`
 unfoldable pub read_nearest : ℕ → List (List ℕ) → Reading
-read_nearest dims words = on_success (query_of words) (λ query. nearest_of dims query.view query.place query.words)
+read_nearest dims words =
+    on_success (query_of words) (λ query. on_success (sought_of dims query.place query.words) (λ sought.
+    if is_from_to 1 10000 sought.0 then Says (asks.Nearest query.view sought.0 sought.1) else Fails fault.BadK))
 
 -- what stands behind what a query looks at
 abbrev pub behind_view : Viewed → List ℕ → List ℕ

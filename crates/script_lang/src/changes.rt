@@ -1,12 +1,13 @@
 //! The lines that change what is there.
 
 ghost use Rattle.std.specs.Prelude.{◌≡◌, ◌≤◌, ◌<◌, ◌+◌, ◌*◌, ◌%◌, ◌/◌, length, List, ℤ, Ok, Err, MatchResult, IfOk};
+ghost use Rattle.std.specs.Prelude.{◌==◌, ◌&&◌, ◌≢◌, ℕ};
 ghost use Rattle.number_text.specs.Number.{number, coordinate};
 ghost use Rattle.point_codec.specs.Seen.{coordinates_of};
-ghost use Rattle.script_lang.specs.Parts.{words_left, ReadsAs, first_reading_of};
+ghost use Rattle.script_lang.specs.Parts.{words_left, IsRestOf, ReadsAs, first_reading_of};
 ghost use Rattle.script_lang.specs.Reading.{read_create, create_reading, read_add, read_delete, read_merge, name_of};
 ghost use Rattle.script_lang.specs.Reading.{word_alone};
-ghost use Rattle.script_lang.specs.Reading.{greatest_leaf, values_of, points_of};
+ghost use Rattle.script_lang.specs.Reading.{greatest_leaf, is_from_to, values_of, points_of, document_of};
 ghost use Rattle.script_lang.specs.Seen.{request_of, IsReadAs};
 
 use crate::commands::{Command, First, Positions};
@@ -73,30 +74,65 @@ pub(crate) fn add<const D: usize>(alloc: Global, words: Words<'_>) -> Result<Com
     requires second { words.place ≡ 2 }
     ensures { IsReadAs request_of result (read_add D (words_left words.entry)) }
 {
-    let count = words.count();
-    if count % D != 0 || count / D < 1 || count / D > 16 {
-        return Err(LineFault::Words);
-    }
-    let points = points_at(alloc, words, count / D)?;
+    let points = points_at(alloc, words)?;
     Ok(Command::Add(Points::of(points)))
 }
 
-/// So many points, which all words that are left write.
+/// The points of a document, 1 to 16, which all words that are left write.
 pub fn points_at<const D: usize>(
     alloc: Global,
     mut words: Words<'_>,
-    count: usize,
 ) -> Result<Vec<Point<D>>, LineFault>
     requires some { 1 ≤ D }
     requires few { D ≤ 8 }
-    requires all { length (words_left words) ≡ count * D }
     ensures points { ReadsAs (λ points. coordinates_of points.items) result
-        (points_of count D (values_of coordinate words.entry.place (words_left words.entry))) }
-    ensures count { IfOk result (λ points. length points.items ≡ count) }
+        (document_of D words.entry.place (words_left words.entry)) }
+    ensures some { IfOk result (λ points. 1 ≤ length points.items) }
+    ensures few { IfOk result (λ points. length points.items ≤ 16) }
 {
-    let mut points = Vec::with_capacity(alloc, count)?;
-    while points.len() < count {
-        points.push(point_at(&mut words)?)?;
+    let first = words.place;
+    let points = next_points(alloc, &mut words);
+    let count = words.count_from(first);
+    if !are_points(count, D) {
+        return Err(LineFault::Words);
+    }
+    points
+}
+
+/// Whether so many words write 1 to 16 points.
+fn are_points(count: usize, dims: usize) -> bool
+    requires { 1 ≤ dims }
+    ensures { result ≡ (count % dims == 0 && is_from_to 1 16 (count / dims)) }
+{
+    if count % dims != 0 {
+        return false;
+    }
+    let points = count / dims;
+    points >= 1 && points <= 16
+}
+
+/// The points that the words that are left write, up to 16. It stops behind the first word that is no coordinate.
+fn next_points<const D: usize>(
+    alloc: Global,
+    words: &mut Words<'_>,
+) -> Result<Vec<Point<D>>, LineFault>
+    requires some { 1 ≤ D }
+    requires few { D ≤ 8 }
+    ensures points { (count : ℕ) → length (words_left words.old) ≡ count * D → count ≤ 16 → MatchResult result
+        (λ points. points_of count D (values_of coordinate words.old.place (words_left words.old))
+        ≡ Ok (coordinates_of points.items))
+        (λ f. f ≢ LineFault.Memory
+        → points_of count D (values_of coordinate words.old.place (words_left words.old)) ≡ Err f) }
+    ensures some { 0 < length (words_left words.old) → IfOk result (λ points. 1 ≤ length points.items) }
+    ensures few { IfOk result (λ points. length points.items ≤ 16) }
+    ensures rest { IsRestOf words.new words.old }
+{
+    let mut points = Vec::new(alloc);
+    'document: while points.len() < 16 {
+        if words.is_empty() {
+            return Ok(points);
+        }
+        points.push(point_at(words)?)?;
     }
     Ok(points)
 }

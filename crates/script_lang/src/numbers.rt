@@ -3,7 +3,7 @@
 ghost use Rattle.std.specs.Prelude.{◌≡◌, ◌+◌, ◌*◌, ◌<◌, ◌≤◌, ◌^◌, ◌∷◌, ◌++◌, [], length, MatchOption, MatchResult, Ok};
 ghost use Rattle.std.specs.Prelude.{Err};
 ghost use Rattle.script_lang.specs.Reading.{value_of, values_of, box_of};
-ghost use Rattle.script_lang.specs.Parts.{words_left, Writes};
+ghost use Rattle.script_lang.specs.Parts.{words_left, Writes, IsRestOf};
 ghost use Rattle.number_text.specs.Number.{number, coordinate};
 
 use crate::faults::LineFault;
@@ -17,19 +17,21 @@ pub fn number_at(word: &str, place: u32) -> Result<u32, LineFault>
     number_text::number(word.as_bytes()).ok_or(LineFault::Number { word: place })
 }
 
-/// The point that the next `D` words write.
+/// The point that the next `D` words write. It stops behind the first of them that is no coordinate, and where none is
+/// left.
 pub fn point_at<const D: usize>(words: &mut Words<'_>) -> Result<Point<D>, LineFault>
     requires some { 1 ≤ D }
     requires few { D ≤ 8 }
-    requires enough { D ≤ length (words_left words.old) }
-    ensures { MatchResult result (λ point. Writes coordinate point.c words.old words.new)
-        (λ f. values_of coordinate words.old.place (words_left words.old) ≡ Err f) }
+    ensures reads { MatchResult result (λ point. Writes coordinate point.c words.old words.new)
+        (λ f. D ≤ length (words_left words.old)
+        → values_of coordinate words.old.place (words_left words.old) ≡ Err f) }
+    ensures rest { IsRestOf words.new words.old }
 {
     let mut c = [0; D];
     for i in 0..D {
         let place = words.place;
         let Some(word) = words.next() else {
-            unreachable!()
+            return Err(LineFault::Words);
         };
         let x = coordinate_at(word, place)?;
         c[i] = x;
@@ -50,10 +52,25 @@ pub fn box_at<const D: usize>(mut words: Words<'_>) -> Result<(Point<D>, Point<D
     ensures { MatchResult result (λ ends. box_of D words.entry.place (words_left words.entry) ≡ Ok (ends.0.c, ends.1.c))
         (λ f. box_of D words.entry.place (words_left words.entry) ≡ Err f) }
 {
-    if words.count() != 2 * D {
+    let first = words.place;
+    let ends = corners_at(&mut words);
+    let count = words.count_from(first);
+    if count != 2 * D {
         return Err(LineFault::Words);
     }
-    let lo = point_at(&mut words)?;
-    let hi = point_at(&mut words)?;
+    ends
+}
+
+/// The two points that the next words write. It stops as `point_at` does.
+fn corners_at<const D: usize>(words: &mut Words<'_>) -> Result<(Point<D>, Point<D>), LineFault>
+    requires some { 1 ≤ D }
+    requires few { D ≤ 8 }
+    ensures ends { length (words_left words.old) ≡ 2 * D → MatchResult result
+        (λ ends. box_of D words.old.place (words_left words.old) ≡ Ok (ends.0.c, ends.1.c))
+        (λ f. box_of D words.old.place (words_left words.old) ≡ Err f) }
+    ensures rest { IsRestOf words.new words.old }
+{
+    let lo = point_at(words)?;
+    let hi = point_at(words)?;
     Ok((lo, hi))
 }

@@ -1,8 +1,8 @@
 //! A line cut into words, one after the other.
 
-ghost use Rattle.std.specs.Prelude.{◌≡◌, ◌+◌, ◌<◌, ◌≤◌, ◌^◌, ◌∷◌, [], length, MatchOption};
+ghost use Rattle.std.specs.Prelude.{◌≡◌, ◌==◌, ◌+◌, ◌<◌, ◌≤◌, ◌^◌, ◌∷◌, [], length, slice_index, MatchOption};
 ghost use Rattle.std.specs.List.{prefix_len, position_or_len};
-ghost use Rattle.script_lang.specs.Lines.{words_of, after_word, is_blank};
+ghost use Rattle.script_lang.specs.Lines.{words_of, from_word, after_word, is_blank};
 
 /// The first word of a text, and what stands behind it.
 fn first_word(text: &str) -> Option<(&str, &str)>
@@ -14,6 +14,28 @@ fn first_word(text: &str) -> Option<(&str, &str)>
         return None;
     }
     Some(text.split_at(word_len(text)))
+}
+
+/// Whether a text is empty but for blanks.
+fn has_no_word(text: &str) -> bool
+    ensures { result ≡ (length (words_of text.now) == 0) }
+{
+    let (_, text) = text.split_at(blanks(text));
+    text.is_empty()
+}
+
+/// Whether what stands behind the blanks at the front of a text begins with `@`.
+fn begins_with_at(text: &str) -> bool
+    ensures { result ≡ (slice_index (from_word text.now) 0 == 64) }
+{
+    let (_, text) = text.split_at(blanks(text));
+    is_at(text)
+}
+
+fn is_at(text: &str) -> bool
+    ensures { result ≡ (slice_index text.now 0 == 64) }
+{
+    matches!(text.as_bytes(), [b'@', ..])
 }
 
 /// How many blanks stand at the front of a text.
@@ -51,11 +73,12 @@ pub struct Words<'a> {
 }
 
 impl<'a> Words<'a> {
-    ghost use Rattle.script_lang.specs.Parts.{words_left, Takes};
+    ghost use Rattle.script_lang.specs.Parts.{words_left, names_view, Takes, IsRestOf};
 
     /// The next word.
     pub fn next(&mut self) -> Option<&'a str>
-        ensures { MatchOption result (words_left self.old ≡ []) (λ word. Takes word.now self.old self.new) }
+        ensures word { MatchOption result (words_left self.old ≡ []) (λ word. Takes word.now self.old self.new) }
+        ensures rest { IsRestOf self.new self.old }
     {
         let (word, text) = first_word(self.text)?;
         *self = Words {
@@ -63,6 +86,20 @@ impl<'a> Words<'a> {
             place: self.place + 1,
         };
         Some(word)
+    }
+
+    /// Whether no word is left. No word is cut.
+    pub fn is_empty(&self) -> bool
+        ensures { result ≡ (length (words_left self.now) == 0) }
+    {
+        has_no_word(self.text)
+    }
+
+    /// Whether the next word begins with `@`. No word is cut.
+    pub fn names_view(&self) -> bool
+        ensures { result ≡ names_view (words_left self.now) }
+    {
+        begins_with_at(self.text)
     }
 
     /// How many words there are.
@@ -75,5 +112,13 @@ impl<'a> Words<'a> {
             count += 1;
         }
         count
+    }
+
+    /// How many words there are from a place of the line on, where those from there to the first that is left are read.
+    pub fn count_from(&self, place: u32) -> usize
+        requires { place ≤ self.now.place }
+        ensures { place + result ≡ self.now.place + length (words_left self.now) }
+    {
+        (self.place - place) as usize + self.count()
     }
 }

@@ -2,7 +2,7 @@ use Rattle.std.proofs.Common.{Ok, take}
 use Rattle.std.specs.Prelude.{IsTrue}
 use Rattle.point_codec.specs.Seen.{coordinates_of}
 use Rattle.index_core.specs.Whole.{Adds}
-use Rattle.index_core.proofs.session.Session.add_points.Given as goal
+use Rattle.index_core.proofs.session.Session.add_each.Given as goal
 
 -- a document came for each point so far
 abbrev pub invariant-loop-point : goal.invariant-loop-point
