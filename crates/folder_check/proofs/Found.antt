@@ -1,5 +1,5 @@
 -- What is found of the entries that were read.
-use Rattle.std.proofs.Common.{◌≡◌, ℕ, ◌+◌, ◌-◌, ◌≤◌, List, not, eqb, filter, length, None, true, refl, sym, ap, subst, ◌∙◌, arith}
+use Rattle.std.proofs.Common.{◌≡◌, ℕ, ◌+◌, ◌-◌, ◌≤◌, List, not, eqb, filter, length, Option, None, true, refl, sym, ap, subst, ◌∙◌, arith}
 use Rattle.std.specs.Prelude.{IfNone, IfSome}
 use Rattle.std.specs.List.{Contains, count_by, list_any}
 use Rattle.std.proofs.lemmas.List.{length-map}
@@ -62,8 +62,8 @@ tallied_of : (live : LiveSet) (items : List Item) (f : Finding) → IsLiveSet li
     → count_by (λ n. has_entry n items) live.live ≡ length live.live → f.crowded ≡ None → f.entries ≡ length items
     → AreTallied (filter (λ x. is_live live x.doc) items) f
 tallied_of live items f set many all none entries = record {
-  none = subst (λ o. IfNone o (NoneTwice xs × AreFew xs)) (sym none) (lone xs one.0);
-  some = subst (λ o. IfSome o (λ number. IsLeastCrowded number xs)) (sym none) tt;
+  none = subst (λ (o : Option ℕ). IfNone o (NoneTwice xs × AreFew xs)) (sym none) (lone xs one.0);
+  some = subst (λ (o : Option ℕ). IfSome o (λ number. IsLeastCrowded number xs)) (sym none) tt;
   entries = omega (arith, entries, many, short, one.1);
 }
   where

@@ -66,32 +66,23 @@ small : (b : Bool) → one_if b ≤ 1
 small true = omega arith
 small false = omega arith
 
+one_below : (s : LiveSet) (xs : List Item) (n : ℕ) → IsLiveSet s → s.base + s.span ≤ n → length xs ≤ length s.live
+    → ((k : ℕ) → Contains s.live k → has_entry k xs ≡ true) → ((m : ℕ) → m < n → count_of m xs ≤ 1) × (length s.live ≤ length xs)
+one_below s xs n set end few each =
+    let all : total (λ m. one_if (is_among s.live m)) n ≡ length s.live =
+    total_among s.live n (AllPairs-from_increasing s.live set.ascending)
+    (All-weaker (λ k. (s.base ≤ k) × (k < s.base + s.span)) (λ k. k < n) (λ k h. omega (arith, h.1, end)) s.live set.within) in
+    let some = among_counted s.live xs each in
+    let more = total_le (λ m. one_if (is_among s.live m)) (λ m. count_of m xs) n some in
+    let counted = total_counted xs n in
+    let most : total (λ m. count_of m xs) n ≤ total (λ m. one_if (is_among s.live m)) n = omega (arith, all, few, counted) in (
+      λ m lt. omega (arith, total_tight (λ k. one_if (is_among s.live k)) (λ k. count_of k xs) n some most m lt, small (is_among s.live m)),
+      omega (arith, all, more, counted),
+    )
+
 pub one_each : (s : LiveSet) (xs : List Item) → IsLiveSet s → length xs ≤ length s.live → ((n : ℕ) → Contains s.live n → has_entry n xs ≡ true)
     → ((m : ℕ) → count_of m xs ≤ 1) × (length s.live ≤ length xs)
-one_each s xs set few each = (one, omega (arith, as_many 0, total_le among counts (end 0) some, total_counted xs (end 0)))
-  where
-    among : ℕ → ℕ
-    among m = one_if (is_among s.live m)
-
-    counts : ℕ → ℕ
-    counts m = count_of m xs
-
-    some : (m : ℕ) → among m ≤ counts m
-    some = among_counted s.live xs each
-
-    -- behind all live numbers and m
-    end : ℕ → ℕ
-    end m = s.base + s.span + m + 1
-
-    as_many : (m : ℕ) → total among (end m) ≡ length s.live
-    as_many m =
-        total_among s.live (end m) (AllPairs-from_increasing s.live set.ascending)
-        (All-weaker (λ n. (s.base ≤ n) × (n < s.base + s.span)) (λ n. n < end m) (λ n h. omega (arith, h.1)) s.live set.within)
-
-    one : (m : ℕ) → count_of m xs ≤ 1
-    one m =
-        omega (
-          arith,
-          total_tight among counts (end m) some (omega (arith, as_many m, few, total_counted xs (end m))) m (omega arith),
-          small (is_among s.live m),
-        )
+one_each s xs set few each = (
+  λ m. (one_below s xs (s.base + s.span + m + 1) set (omega arith) few each).0 m (omega arith),
+  (one_below s xs (s.base + s.span) set (omega arith) few each).1,
+)
