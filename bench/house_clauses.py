@@ -1,4 +1,6 @@
-"""The places of promises that README.md and docs/PROVED.md name: each file, call and clause has to be there."""
+"""The places of promises that README.md and docs/PROVED.md name: each file, call and clause has to be there. A clause
+that is a record is followed by a dot and the field that says the promise, which has to stand in some crate's specs."""
+import glob
 import os
 import re
 
@@ -22,6 +24,15 @@ def contracts_of(root, path):
     return calls
 
 
+def fields_of(root):
+    """The fields of all records in specs."""
+    fields = set()
+    for specs in glob.glob(os.path.join(root, "crates/*/specs/**/*.antt"), recursive=True):
+        with open(specs, encoding="utf-8") as text:
+            fields.update(re.findall(r"(?m)^ +pub (\w+) :", text.read()))
+    return fields
+
+
 def places_of(path, text):
     """The places that a page names: file, call and clauses of each row. PROVED.md names the crate in a row above."""
     crate = None
@@ -38,7 +49,7 @@ def places_of(path, text):
 
 
 def faults_of_places(root):
-    counted, known = 0, {}
+    counted, known, there_are = 0, {}, fields_of(root)
     for page in ("README.md", "docs/PROVED.md"):
         with open(os.path.join(root, page), encoding="utf-8") as text:
             places = list(places_of(page, text.read()))
@@ -54,6 +65,9 @@ def faults_of_places(root):
                 continue
             counted += len(clauses)
             for clause in clauses:
+                clause, *fields = clause.split(".")
                 if not any(clause in names for names in there):
                     yield "%s names `%s` of `%s`, and no such clause is there" % (page, clause, calls[0])
+                for field in set(fields) - there_are:
+                    yield "%s names `%s` of `%s`, and no such field is there" % (page, field, calls[0])
     print("%-24s %4d clauses that pages name are there" % ("crates", counted))

@@ -89,9 +89,9 @@ module _ (D : ℕ) (told : Type 0) (r : Resident D) where
     begins_memory q result is begins = subst (BeginsMerge D told r (moment_of a) (moment_of b)) (sym is) (record {
       begun = λ t o i h. tt;
       brings = λ t o. begins.canon t o.index (o.seen o.index o.stored) o.trusts.guards;
-      kept = λ t o. begins.kept t o.trusts.guards;
+      kept = λ t o. begins.keeps.kept t o.trusts.guards;
       whole = λ t o. tt;
-      cause = memory_cause a.faults b.faults begins.cause.later;
+      cause = memory_cause a.faults b.faults begins.faults.cause.later;
       evident = tt;
     })
 
@@ -101,11 +101,11 @@ module _ (D : ℕ) (told : Type 0) (r : Resident D) where
     begins_fault {T} fault result is begins = subst (BeginsMerge D told r (moment_of a) (moment_of b)) (sym is) (record {
       begun = λ t o i h. tt;
       brings = λ t o. begins.canon t o.index (o.seen o.index o.stored) o.trusts.guards;
-      kept = λ t o. begins.kept t o.trusts.guards;
-      whole = λ t o. begins.whole t o.index (o.seen o.index o.stored) (λ e. o.trusts.guards);
-      cause = fault_to a.faults b.faults fault begins.cause;
+      kept = λ t o. begins.keeps.kept t o.trusts.guards;
+      whole = λ t o. begins.faults.whole t o.index (o.seen o.index o.stored) (λ e. o.trusts.guards);
+      cause = fault_to a.faults b.faults fault begins.faults.cause;
       evident = on_evident_less {X = Applied} (told × Trusts D a.files a.session) (told × AreOpen D a.files r a.session) b.files (Err fault)
-          (λ h. (h.0, h.1.trusts)) begins.evident;
+          (λ h. (h.0, h.1.trusts)) begins.faults.evident;
     })
 
     -- it is begun
@@ -121,9 +121,9 @@ module _ (D : ℕ) (told : Type 0) (r : Resident D) where
           record {
             seen = does.1;
             trusts = record {
-              guards = begins.guards t o.trusts.guards;
-              faithful = begins.faithful t o.trusts.faithful;
-              traced = begins.traced t o.trusts;
+              guards = begins.stays.guards t o.trusts.guards;
+              faithful = begins.stays.faithful t o.trusts.faithful;
+              traced = begins.stays.traced t o.trusts;
             };
             merge = (
               has.inputs.0,
@@ -136,8 +136,8 @@ module _ (D : ℕ) (told : Type 0) (r : Resident D) where
                 (first_named D a.files r a.session o id there);
           };
       brings = λ t o. begins.canon t o.index (o.seen o.index o.stored) o.trusts.guards;
-      kept = λ t o. begins.kept t o.trusts.guards;
+      kept = λ t o. begins.keeps.kept t o.trusts.guards;
       whole = λ t o. tt;
-      cause = done_cause a.faults b.faults x y begins.cause;
+      cause = done_cause a.faults b.faults x y begins.faults.cause;
       evident = tt;
     }

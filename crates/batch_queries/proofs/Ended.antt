@@ -1,12 +1,11 @@
 -- A merge that is begun in a session, ended and committed, by what the calls answered.
-use Rattle.std.proofs.Common.{◌≡◌, ℕ, Bool, true, false, List, Some, None, Result, Ok, Err, OnOk, refl, sym, ap, subst, ◌∙◌, ◌⊎◌, inl, inr, ⊎_elim}
+use Rattle.std.proofs.Common.{◌≡◌, ℕ, true, false, List, Some, Result, Ok, Err, OnOk, refl, sym, ap, subst, ◌⊎◌, inl, inr, ⊎_elim}
 use Rattle.std.specs.List.{Contains}
 use Rattle.std.proofs.lemmas.Bool.{both_ways, false_from_ne_true}
 use Rattle.outer_io.specs.declared.file_name.FileName.TheVariants.{Segment}
 use Rattle.outer_io.specs.Files.{Files}
 use Rattle.documents.specs.Entries.{is_among}
 use Rattle.page_cache.specs.declared.faults.PageFault.{PageFault}
-use Rattle.page_cache.specs.Evidence.{OnDamage}
 use Rattle.script_lang.specs.Requests as asks
 use Rattle.index_model.specs.State.{Index, at_rest}
 use Rattle.index_model.specs.Step.{step_on}
@@ -15,23 +14,21 @@ use Rattle.index_model.specs.declared.session.Applied.TheVariants as applied
 use Rattle.stored_index.specs.Kept.{SameKept}
 use Rattle.stored_index.specs.Stored.{IsStored}
 use Rattle.stored_index.proofs.KeptFiles.{kept_after}
-use Rattle.index_opening.specs.Evidence.{IsEvident}
 use Rattle.index_opening.proofs.Evident.{on_evident_less}
 use Rattle.segment_view.specs.LiveSegments.{LiveSegment}
 use Rattle.file_names.specs.Names.{is_named}
 use Rattle.segment_set.specs.Kept.{Follows, IsSubset}
 use Rattle.segment_set.specs.Seen.{Sees}
 use Rattle.segment_set.specs.Sets.{SetData}
-use Rattle.index_core.specs.Brought.{KeepsCommit}
 use Rattle.index_core.specs.Effects.{HasEnded, OnDone}
-use Rattle.index_core.specs.Sessions.{SessionData, Trusts}
-use Rattle.index_core.specs.Steps.{Applies, DoesOver, KeepsOver, StepMoment, SaysCommit, Stores}
+use Rattle.index_core.specs.Sessions.{Trusts}
+use Rattle.index_core.specs.Steps.{Applies, DoesOver, StepMoment, Stores}
 use Rattle.index_core.specs.Whole.{SessionMoment}
 use Rattle.index_core.proofs.FaultCauses.{cause_then, fault_to}
 use Rattle.index_core.proofs.Bringing.{brings_then}
 use Rattle.index_core.proofs.Brought.{commit_after}
 use Rattle.index_core.proofs.Undone.{fault_kept, levels_after, undone_after}
-use Rattle.index_core.proofs.Wholes.{IsCommitted}
+use Rattle.index_core.proofs.Wholes.{CommitSays}
 use Rattle.batch_queries.specs.MergeRuns.{EndsMerge, IsBegun, IsMergeDone}
 
 abbrev pub moment_of : StepMoment → SessionMoment
@@ -52,38 +49,31 @@ ended_is D files i s before after applied.Done ((j, is, seen), grew) =
     some_inj x y e = cc
 ended_is D files i s before after (applied.Refused why) h = absurd h
 
--- what a commit that is done says
-pub says_done : {T : Type 0} (old new : Files) (s : SessionData) (r : Result T PageFault) → KeepsOver true old new s r → OnOk r (SaysCommit new s.commit)
-says_done old new s (Ok x) says = says
-says_done old new s (Err fault) kept = tt
-
 module _ (D : ℕ) (told : Type 0) (ids : List ℕ) (i : Index) (a b : StepMoment) where
   -- a fault of the call that ends it
   pub end_stopped : {T : Type 0} (fault : PageFault) (r : Result T PageFault) → r ≡ Err fault
       → Applies D told (λ j. step_on j asks.MergeEnd) false a b (Err fault)
       → EndsMerge D told ids i (moment_of a) (moment_of b) r
   end_stopped {T} fault r is ends = subst (EndsMerge D told ids i (moment_of a) (moment_of b)) (sym is) (record {
-    keeps = λ t g. inl (ends.kept t g.trusts.guards);
+    keeps = λ t g. inl (ends.keeps.kept t g.trusts.guards);
     done = λ t g. tt;
-    undone = λ t g. fault_kept a.files b.files (ends.kept t g.trusts.guards) fault;
-    lasting = λ t g. inl (ends.kept t g.trusts.guards);
-    whole = λ t g. ends.whole t (merging i) g.seen (λ e. g.trusts.guards);
-    cause = fault_to a.faults b.faults fault ends.cause;
-    evident = ends.evident;
+    undone = λ t g. fault_kept a.files b.files (ends.keeps.kept t g.trusts.guards) fault;
+    lasting = λ t g. inl (ends.keeps.kept t g.trusts.guards);
+    whole = λ t g. ends.faults.whole t (merging i) g.seen (λ e. g.trusts.guards);
+    cause = fault_to a.faults b.faults fault ends.faults.cause;
+    evident = ends.faults.evident;
   })
 
   module _ (x : Applied) (ends : Applies D told (λ j. step_on j asks.MergeEnd) false a b (Ok x)) where
     trusts_on : told → Trusts D a.files a.session → Trusts D b.files b.session
-    trusts_on t h = record { guards = ends.guards t h.guards; faithful = ends.faithful t h.faithful; traced = ends.traced t h }
+    trusts_on t h = record { guards = ends.stays.guards t h.guards; faithful = ends.stays.faithful t h.faithful; traced = ends.stays.traced t h }
 
     -- the set is seen as before the merge
     seen_on : told → IsBegun D a.files a.session ids i → (x ≡ applied.Done) × Sees D b.files b.session.set (record i { begun = false })
     seen_on t g = ended_is D b.files i b.session.set a.text b.text x (ends.does t (merging i) g.seen (λ e. g.trusts.guards))
 
     module _ {T : Type 0} (c : SessionMoment) (r : Result T PageFault) (leaves : OnDone (Ok x) (HasEnded D told b.files a.session.set b.session.set))
-        (commits : IsCommitted D told (moment_of b) c r) (follows : Follows b.session.set.names b.session.set.parts c.session.set.parts)
-        (lasting : told → Trusts D b.files b.session → KeepsCommit b.files c.files)
-        (evident : OnDamage r (IsEvident (told × Trusts D b.files b.session) c.files)) where
+        (commits : CommitSays D told (moment_of b) c r) (follows : Follows b.session.set.names b.session.set.parts c.session.set.parts) where
       has_ended : told → IsBegun D a.files a.session ids i → HasEnded D told b.files a.session.set b.session.set
       has_ended t g = subst (λ (y : Applied). OnDone (Ok y) (HasEnded D told b.files a.session.set b.session.set)) (seen_on t g).0 leaves
 
@@ -108,32 +98,35 @@ module _ (D : ℕ) (told : Type 0) (ids : List ℕ) (i : Index) (a b : StepMomen
       keeps_on (Ok y) same stores = inr stores.0
       keeps_on (Err fault) same stores = ⊎_elim (λ more. inl (kept_after a.files b.files c.files same more)) inr stores
 
-      merged_on : (q : Result T PageFault) → IsCommitted D told (moment_of b) c q → told → IsBegun D a.files a.session ids i
+      merged_on : (q : Result T PageFault) → CommitSays D told (moment_of b) c q → told → IsBegun D a.files a.session ids i
           → OnOk q (IsMergeDone D ids i (moment_of a) c)
       merged_on (Err fault) commit t g = tt
       merged_on (Ok y) commit t g =
           let seen = (seen_on t g).1 in
           let trusts = trusts_on t g.trusts in
           record {
-            stored = (commit.stored t (record i { begun = false }) seen trusts.guards).0;
+            stored = (commit.durable.stored t (record i { begun = false }) seen trusts.guards).0;
             index = record i { begun = false };
             seen = commit.seen t (record i { begun = false }) seen;
-            guards = commit.guards t trusts.guards;
-            says = commit.says t trusts.guards;
-            unchanged = commit.unchanged;
+            guards = commit.stays.guards t trusts.guards;
+            says = commit.durable.kept t trusts.guards;
+            unchanged = commit.done.unchanged;
             apart = apart_on t g;
             brings = brings_then D a.files b.files c.files a.session.set.parts b.session.set.parts c.session.set.parts
-                (ends.canon t (merging i) g.seen g.trusts.guards) (commit.brings t);
-            levels = levels_after a.files b.files c.files (ends.kept t g.trusts.guards) (commit.few t trusts.guards (has_ended t g).ended);
+                (ends.canon t (merging i) g.seen g.trusts.guards) (commit.canon t);
+            levels = levels_after a.files b.files c.files (ends.keeps.kept t g.trusts.guards) (commit.done.few t trusts.guards (has_ended t g).ended);
           }
 
       pub ended_committed : EndsMerge D told ids i (moment_of a) c r
       ended_committed = record {
-        keeps = λ t g. keeps_on r (ends.kept t g.trusts.guards) (commits.stored t (record i { begun = false }) (seen_on t g).1 (trusts_on t g.trusts).guards);
+        keeps = λ t g.
+            keeps_on r (ends.keeps.kept t g.trusts.guards)
+            (commits.durable.stored t (record i { begun = false }) (seen_on t g).1 (trusts_on t g.trusts).guards);
         done = merged_on r commits;
-        undone = λ t g. undone_after a.files b.files c.files r (ends.kept t g.trusts.guards) (commits.undone t (trusts_on t g.trusts).guards);
-        lasting = λ t g. commit_after a.files b.files c.files (ends.kept t g.trusts.guards) (lasting t (trusts_on t g.trusts));
-        whole = λ t g. commits.whole t (record i { begun = false }) (seen_on t g).1;
-        cause = cause_then a.faults b.faults c.faults r ends.cause.fine commits.cause;
-        evident = on_evident_less (told × Trusts D b.files b.session) (told × Trusts D a.files a.session) c.files r (λ h. (h.0, trusts_on h.0 h.1)) evident;
+        undone = λ t g. undone_after a.files b.files c.files r (ends.keeps.kept t g.trusts.guards) (commits.durable.undone t (trusts_on t g.trusts).guards);
+        lasting = λ t g. commit_after a.files b.files c.files (ends.keeps.kept t g.trusts.guards) (commits.durable.lasting t (trusts_on t g.trusts));
+        whole = λ t g. commits.faults.whole t (record i { begun = false }) (seen_on t g).1;
+        cause = cause_then a.faults b.faults c.faults r ends.faults.cause.fine commits.faults.cause;
+        evident = on_evident_less (told × Trusts D b.files b.session) (told × Trusts D a.files a.session) c.files r (λ h. (h.0, trusts_on h.0 h.1))
+            commits.faults.evident;
       }

@@ -22,7 +22,7 @@ use Rattle.run_status.specs.declared.status.Status.{Status}
 use Rattle.run_status.specs.declared.status.Status.TheVariants as status
 use Rattle.run_status.specs.declared.stop.Stop.{Stop}
 use Rattle.run_status.specs.declared.stop.Stop.TheVariants as stop
-use Rattle.run_status.proofs.Ending.{counted}
+use Rattle.run_status.proofs.Ending.{counted, no_folder, no_sink}
 use Rattle.batch_queries.specs.Batched.{IsBatchText, TellsBatch}
 use Rattle.batch_queries.specs.Ends.{CutsAll, StoresSome}
 use Rattle.batch_queries.specs.Merging.{EndsMerging, MergeKeeps, MergeLeaves}
@@ -196,19 +196,11 @@ kept_by old new false count = tt
 pub counted_kept : (old new : Files) (count : ℕ) → MergeKeeps old new (status_of (Ok count))
 counted_kept old new count = kept_by old new (count == 0) count
 
-folder_by : (b : Bool) (count : ℕ) {P : Type 0} → counted b count ≡ status.FolderFault → P
-folder_by true count e = cc
-folder_by false count e = cc
-
 pub counted_folder : (count : ℕ) {P : Type 0} → status_of (Ok count) ≡ status.FolderFault → P
-counted_folder count e = folder_by (count == 0) count e
-
-sink_by : (b : Bool) (count : ℕ) {P : Type 0} → counted b count ≡ status.SinkFault → P
-sink_by true count e = cc
-sink_by false count e = cc
+counted_folder count e = no_folder (count == 0) count e
 
 pub counted_sink : (count : ℕ) {P : Type 0} → status_of (Ok count) ≡ status.SinkFault → P
-counted_sink count e = sink_by (count == 0) count e
+counted_sink count e = no_sink (count == 0) count e
 
 -- ---- what was sent
 

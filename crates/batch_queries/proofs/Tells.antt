@@ -1,16 +1,13 @@
 -- What is told of lines, and of their replies.
-use Rattle.std.proofs.Common.{◌≡◌, ◌≤◌, ℕ, Bool, true, false, cond, List, [], ◌∷◌, ◌++◌, None, Some, map, drop, length}
-use Rattle.std.proofs.Common.{◌+◌, ◌/◌, ap, refl, subst, sum_by, sym, ◌∙◌, arith}
+use Rattle.std.proofs.Common.{◌≡◌, ◌≤◌, ℕ, Bool, true, false, cond, List, [], ◌∷◌, ◌++◌, map, drop, length}
+use Rattle.std.proofs.Common.{◌+◌, ◌/◌, ap, subst, sum_by, sym, ◌∙◌, arith}
 use Rattle.std.proofs.Common.{OnOk, Result, Ok, Err, append-nil, length-append, length-drop, zero-add}
 use mir.Val.{bool_byte}
 use Rattle.outer_io.specs.declared.file_name.FileName.TheVariants.{Commit}
 use Rattle.outer_io.specs.Files.{Files, bytes_of}
 use Rattle.commit_list.specs.Commits.{CommitData}
-use Rattle.commit_list.specs.CommitFiles.{IsCommitFile}
-use Rattle.commit_list.proofs.CommitPages.{file_there, one_file}
+use Rattle.commit_list.proofs.CommitPages.{one_file}
 use Rattle.script_lang.specs.Requests.{Request}
-use Rattle.index_model.specs.State.{State}
-use Rattle.stored_index.specs.Stored.{IsStored}
 use Rattle.run_status.specs.Told.{Teller, Tellings, TellsAll, TellsLines}
 use Rattle.batch_run.specs.Copies.{IsCommitIn, copied_pages}
 use Rattle.batch_run.specs.declared.queries.Reply.{Reply}
@@ -52,17 +49,6 @@ all_told T lines rest line refused first now p none empty = record {
   text = λ t. p.text t ∙ ap (λ (bs : List ℕ). bs ++ p.of_done.text) empty;
   count = sym (p.refused ∙ zero-add p.of_done.refused);
 }
-
--- a state that is stored without a Commit file is that of no index
-pub none_stored : (files : Files) (state : State) → files Commit ≡ None → IsStored files state → state ≡ None
-none_stored files None none stored = refl
-none_stored files (Some i) none stored = let there = (file_there (files Commit) stored.commit stored.holds.commit).0 in absurd cc
-
--- what is damage neither without a Commit file nor with a commit in it is none where a state is stored
-pub not_damaged : {P : Type 0} (files : Files) (state : State) → IsStored files state → (files Commit ≡ None → P)
-    → ((c : CommitData) → IsCommitFile (bytes_of (files Commit)) c → P) → P
-not_damaged files None h absent whole = absent h
-not_damaged files (Some i) h absent whole = whole h.commit h.holds.commit
 
 -- reading the commit and then what it lists reads each page once
 pub reads_once : (files : Files) (c : CommitData) (before mid now : ℕ) → IsCommitIn files c

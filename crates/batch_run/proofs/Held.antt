@@ -1,32 +1,23 @@
 -- The segments of an index that files hold, as queries have them, and what they hold then.
-use Rattle.std.proofs.Common.{◌≡◌, ℕ, true, IsTrue, List, [], ◌∷◌, ◌++◌, get_or, map, refl, sym, ap, subst, ◌∙◌, All}
-use Rattle.std.specs.List.{AllZip, Contains, filter}
-use Rattle.std.proofs.lemmas.List.Elements.{All-contains_itself, All-head, All-map, All-tail}
+use Rattle.std.proofs.Common.{◌≡◌, ℕ, true, IsTrue, List, get_or, map, refl, sym, ap, subst, ◌∙◌, All}
+use Rattle.std.specs.List.{AllZip, Contains}
+use Rattle.std.proofs.lemmas.List.Elements.{All-contains_itself, All-map}
 use Rattle.outer_io.specs.declared.file_name.FileName.TheVariants.{Segment}
 use Rattle.outer_io.specs.Files.{Files, bytes_of}
 use Rattle.point_codec.specs.Points.{Item}
-use Rattle.live_bits.specs.LiveSet.{is_live}
 use Rattle.documents.specs.Documents.{Document}
 use Rattle.documents.specs.Entries.{AreDocs, has_entry}
 use Rattle.commit_list.specs.declared.listed.Listed.{Listed}
 use Rattle.commit_list.specs.Commits.{CommitData}
 use Rattle.segment_file.specs.Segments.{IsSegment}
-use Rattle.stored_index.specs.Segments.{SegmentData, all_live_entries, entries_at, live_entries}
+use Rattle.stored_index.specs.Segments.{SegmentData, entries_at}
 use Rattle.stored_index.specs.Stored.{HoldsFiles, HoldsIndex}
 use Rattle.stored_index.proofs.Pairwise.{partner_of}
 use Rattle.stored_index.proofs.Parts.{contents}
 use Rattle.segment_view.specs.LiveSegments.{AreRead, Contents, IsRead, LiveSegment, live_in_parts}
 use Rattle.index_opening.specs.Opened.{IsOpened}
-use Rattle.index_opening.proofs.Listed.{as_part, opened_heads, opened_lives, parts_held}
+use Rattle.index_opening.proofs.Listed.{as_part, opened_heads, opened_lives, parts_held, entries_map}
 use Rattle.batch_run.specs.Held.{HoldsDocs}
-
-entries_map : (es : Contents) (held : List SegmentData) → All (λ (d : SegmentData). es d.head.id ≡ d.entries) held
-    → live_in_parts es (map as_part held) ≡ all_live_entries held
-entries_map es [] all = refl
-entries_map es (d ∷ ds) all =
-    ap (λ (xs : List Item). filter (λ (x : Item). is_live d.live x.doc) xs ++ live_in_parts es (map as_part ds))
-    (All-head (λ (e : SegmentData). es e.head.id ≡ e.entries) d ds all)
-    ∙ ap (λ (xs : List Item). live_entries d ++ xs) (entries_map es ds (All-tail (λ (e : SegmentData). es e.head.id ≡ e.entries) d ds all))
 
 module _ (D : ℕ) (files : Files) (c : CommitData) (docs : List Document) (dims : c.dims ≡ D) (h : HoldsIndex files c docs) where
   abbrev held_contents : Contents

@@ -1,9 +1,9 @@
 -- Subtrees: how many leaves they have, what is found below, and what a damage of theirs is to the tree above.
-use Rattle.std.proofs.Common.{◌≡◌, ℕ, ◌+◌, ◌-◌, ◌/◌, ◌≤◌, inl, inr, Bool, true, false, cond, ◌&&◌, List, []}
+use Rattle.std.proofs.Common.{◌≡◌, ℕ, ◌+◌, ◌-◌, ◌/◌, inl, inr, Bool, true, false, cond, ◌&&◌, List, []}
 use Rattle.std.proofs.Common.{◌∷◌, ◌++◌, map, filter, ℤ, Result, Ok, Err, refl, sym, ap, subst, ◌∙◌, arith}
 use Rattle.std.proofs.lemmas.List.{append_assoc}
 use Rattle.std.proofs.lemmas.List.Elements.{All-head, All-tail}
-use Rattle.std.specs.Prelude.{OnOk, IsErrAnd}
+use Rattle.std.specs.Prelude.{IsErrAnd}
 use Rattle.std.specs.List.{All}
 use Rattle.outer_io.specs.declared.file_name.FileName.TheVariants.{Segment}
 use Rattle.point_codec.specs.Points.{Item, Region, in_box}
@@ -45,15 +45,6 @@ shaped_count n (Split d x l r) h =
 -- a node has as many leaves as its subtree
 pub count_at : {D : ℕ} (node : NodeAt D) (first : ℕ) (s : Spot) (path : Region) (t : IndexTree) → IsAt node first s path t → leaf_count t ≡ node.leaves
 count_at node first s path t h = shaped_count node.leaves t h.is.shaped
-
-pub some_leaf : (t : IndexTree) → 1 ≤ leaf_count t
-some_leaf (Leaf len own) = omega arith
-some_leaf (Split d x l r) = let a = some_leaf l in omega (arith, a)
-
--- a tree of one leaf is one
-pub only_leaf : (P : IndexTree → Type 0) (t : IndexTree) → leaf_count t ≡ 1 → ((len : ℕ) (own : Region) → P (Leaf len own)) → P t
-only_leaf P (Leaf len own) h f = f len own
-only_leaf P (Split d x l r) h f = let a = some_leaf l in let b = some_leaf r in absurd (omega (arith, a, b, h))
 
 -- and an index as its tree
 pub tree_count : (D : ℕ) (index : Body) (root : Region) (t : IndexTree) → HasTree D index root t → leaf_count t ≡ index.leaves
@@ -158,10 +149,6 @@ damage_right D head first s d x l r (damage.Doubled doc) h = h
 pub handed_on : {T : Type 0} (r : Result T PageFault) (f : PageFault) (P : Damage → Type 0) → IsErrAnd r (λ e. e ≡ f) → FaultShows P f → OnDamage r P
 handed_on (Ok x) f P h k = tt
 handed_on (Err e) f P h k = subst (FaultShows P) (sym h) k
-
-pub on_ok : {T E : Type 0} (P Q : Type 0) (r : Result T E) → (P → Q) → OnOk r P → OnOk r Q
-on_ok P Q (Ok x) f h = f h
-on_ok P Q (Err e) f h = h
 
 -- ---- the same by the children that a node gives
 

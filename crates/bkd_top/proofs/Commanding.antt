@@ -7,16 +7,16 @@ use Rattle.stored_index.specs.Stored.{IsStored}
 use Rattle.command_words.specs.Commands.{Task, Run, Load, Explain, Check, Generate, Session, Count, Ranges, Batch, MergingBatch, task_of}
 use Rattle.command_words.specs.declared.Words.{Words}
 use Rattle.drawn_points.specs.Generated.{generate_answer}
-use Rattle.explain_queries.specs.Explained.{IsScope, Scope, silence}
+use Rattle.explain_queries.specs.Explained.{IsScope, Scope, TellsLine}
+use Rattle.run_status.specs.Told.{EndsTold, silence}
 use Rattle.load_points.specs.Loaded.{load_answer}
-use Rattle.run_status.specs.Told as telling
 use Rattle.count_queries.specs.Counted as counts
 use Rattle.batch_queries.specs.Batched.{TellsBatch}
 use Rattle.batch_queries.specs.Ends.{EndsBatch}
 use Rattle.batch_queries.specs.Merging.{EndsMerging, MergeLeaves}
 use Rattle.bkd_top.specs.Calls.{Call, LeavesTask, OnTask, TakesInput, WholeLeaves}
 use Rattle.bkd_top.specs.Checking.{EndsCheck}
-use Rattle.bkd_top.specs.Commands.{Before, EndsTask, EndsExplain, EndsWhole, reads_input, reads_whole}
+use Rattle.bkd_top.specs.Commands.{Before, EndsTask, EndsWhole, reads_input, reads_whole}
 use Rattle.run_status.specs.Causes.{ReadsInput}
 use Rattle.index_core.proofs.Brought.{commit_itself}
 use Rattle.script_run.proofs.Calling.{nothing_costs}
@@ -60,7 +60,7 @@ no_memory_ends told (Run cache forks) b files new keeps same still =
     stops_here {told = told} (meaning language.Points) (start b.state (lines_of b.input) b.written) files new still (inl keeps)
 no_memory_ends told (Load columns forks) b files new keeps same still = record { text = still; stored = inl keeps }
 no_memory_ends told (Explain cache) b files new keeps same still =
-    λ scope is. record { done = []; rest = lines_of b.input; whole = refl; of_done = silence; tells = refl; text = λ t. still t ∙ sym (append-nil b.written) }
+    λ scope is. record { done = []; rest = lines_of b.input; whole = refl; of_done = silence; all = refl; text = λ t. still t ∙ sym (append-nil b.written) }
 no_memory_ends told Check b files new keeps same still = (same, still)
 no_memory_ends told (Generate docs seed forks) b files new keeps same still = record { text = still; stored = inl keeps }
 no_memory_ends told (Session cache forks) b files new keeps same still =
@@ -73,7 +73,7 @@ no_memory_ends told (Count cache) b files new keeps same still =
       done = [];
       rest = lines_of b.input;
       whole = refl;
-      of_done = telling.silence;
+      of_done = silence;
       all = refl;
       text = λ t. still t ∙ sym (append-nil b.written);
     }
@@ -111,7 +111,7 @@ module _ (told : Type 0) (w : Words) (b : Before) (files : Files) (new : List �
   load_ends columns forks is ends = subst (λ (a : Task). EndsTask told a b files new s) (sym is) ends
 
   pub explain_ends : (cache : ℕ) → task_of w ≡ Explain cache
-      → ((scope : Scope) → IsScope b.files scope → EndsExplain told scope (lines_of b.input) b.written new s) → EndsTask told (task_of w) b files new s
+      → ((scope : Scope) → IsScope b.files scope → EndsTold told (TellsLine scope) (lines_of b.input) b.written new s) → EndsTask told (task_of w) b files new s
   explain_ends cache is ends = subst (λ (a : Task). EndsTask told a b files new s) (sym is) ends
 
   pub check_ends : task_of w ≡ Check → (files ≡ b.files) × EndsCheck told b.files b.written new s → EndsTask told (task_of w) b files new s
@@ -130,7 +130,7 @@ module _ (told : Type 0) (w : Words) (b : Before) (files : Files) (new : List �
   ranges_ends cache forks is ends = subst (λ (a : Task). EndsTask told a b files new s) (sym is) ends
 
   pub count_ends : (cache : ℕ) → task_of w ≡ Count cache
-      → ((scope : counts.Scope) → counts.IsScope b.files scope → telling.EndsTold told (counts.TellsCount scope) (lines_of b.input) b.written new s)
+      → ((scope : counts.Scope) → counts.IsScope b.files scope → EndsTold told (counts.TellsCount scope) (lines_of b.input) b.written new s)
       → EndsTask told (task_of w) b files new s
   count_ends cache is ends = subst (λ (a : Task). EndsTask told a b files new s) (sym is) ends
 

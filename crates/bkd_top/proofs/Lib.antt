@@ -1,4 +1,3 @@
 pub mod Commanding
 pub mod Finished
-pub mod Telling
 pub mod Verdict

@@ -1,6 +1,6 @@
 -- How the program ends, by what its words ask for.
-use Rattle.std.specs.Prelude.{ℕ, ◌+◌, ◌≡◌, ◌≤◌, ◌⊎◌, Bool, true, false, cond, List, [], ◌∷◌, ◌++◌, length, Option, None}
-use Rattle.std.specs.Prelude.{Some, Result, Ok, Err}
+use Rattle.std.specs.Prelude.{ℕ, ◌+◌, ◌≡◌, ◌≤◌, ◌⊎◌, Bool, true, false, List, ◌++◌, Option, None}
+use Rattle.std.specs.Prelude.{Some}
 use Rattle.outer_io.specs.Files.{Files}
 use Rattle.outer_io.specs.Parts.{WritesPart}
 use Rattle.script_lang.specs.Lines.{lines_of}
@@ -13,7 +13,8 @@ use Rattle.command_words.specs.Commands.{Task, Run, Load, Explain, Check, Genera
 use Rattle.command_words.specs.Commands.{MergingBatch}
 use Rattle.load_points.specs.Loaded.{load_answer}
 use Rattle.drawn_points.specs.Generated.{generate_answer}
-use Rattle.explain_queries.specs.Explained.{Scope, IsScope, Told, TellsLine, TellsLines}
+use Rattle.explain_queries.specs.Explained.{Scope, IsScope, TellsLine}
+use Rattle.run_status.specs.Told.{EndsTold, TellsLines, Told}
 use Rattle.count_queries.specs.Counted as counts
 use Rattle.script_run.specs.Languages.{meaning}
 use Rattle.batch_queries.specs.Batched.{TellsBatch}
@@ -24,11 +25,8 @@ use Rattle.script_run.specs.RangeScript.{AreRanges, EndsRanges}
 use Rattle.script_run.specs.Runs.{Ends, EndsSession}
 use Rattle.script_run.specs.declared.language.Language.TheVariants as language
 use Rattle.bkd_top.specs.Checking.{EndsCheck}
-use Rattle.run_status.specs.Told as telling
 use Rattle.run_status.specs.declared.status.Status.{Status}
 use Rattle.run_status.specs.declared.status.Status.TheVariants as status
-use Rattle.run_status.specs.declared.stop.Stop.{Stop}
-use Rattle.run_status.specs.declared.stop.Stop.TheVariants as stop
 
 -- ---- what is asked
 
@@ -105,96 +103,18 @@ EndsWhole told b a files new status.TooLarge = Rests told b files new
 
 -- ---- explaining
 
--- a stage of explaining: the number of the next line, how many before it were refused, the lines that are left, and all
--- that has gone out
-pub record Stage : Type 0 where
-  pub line : ℕ
-  pub refused : ℕ
-  pub rest : List (List ℕ)
-  pub written : List ℕ
-
--- from one stage to a later one it was told of the lines between what there is to tell
-pub record Tellings (told : Type 0) (s : Scope) (from to : Stage) : Type 0 where
-  pub done : List (List ℕ)
-  pub whole : from.rest ≡ done ++ to.rest
-  pub line : to.line ≡ from.line + length done
-  pub of_done : Told
-  pub tells : TellsLines s from.line done of_done
-  pub refused : to.refused ≡ from.refused + of_done.refused
-  pub text : told → to.written ≡ from.written ++ of_done.text
-
--- of lines from a number on it was told what there is to tell, and so many are refused
-pub record TellsAll (told : Type 0) (s : Scope) (line : ℕ) (lines : List (List ℕ)) (old new : List ℕ) (refused : ℕ)
-    : Type 0 where
-  pub of_lines : Told
-  pub tells : TellsLines s line lines of_lines
-  pub text : told → new ≡ old ++ of_lines.text
-  pub count : of_lines.refused ≡ refused
-
--- of some lines it was told whole, and nothing else
-pub record TellsSome (told : Type 0) (s : Scope) (line : ℕ) (lines : List (List ℕ)) (old new : List ℕ) : Type 0 where
-  pub done : List (List ℕ)
-  pub rest : List (List ℕ)
-  pub whole : lines ≡ done ++ rest
-  pub of_done : Told
-  pub tells : TellsLines s line done of_done
-  pub text : told → new ≡ old ++ of_done.text
-
--- the sink failed at a line: what is told of those before it went out whole, and a prefix of what is told of it
-pub record TellsPart (told : Type 0) (s : Scope) (line : ℕ) (lines : List (List ℕ)) (old new : List ℕ) : Type 0 where
-  pub done : List (List ℕ)
-  pub at : List ℕ
-  pub rest : List (List ℕ)
-  pub whole : lines ≡ done ++ at ∷ rest
-  pub of_done : Told
-  pub of_at : Told
-  pub tells : TellsLines s line done of_done
-  pub tells_at : TellsLine s (line + length done) at of_at
-  pub text : told → WritesPart (old ++ of_done.text) new of_at.text
-
--- a line was told, and it is said whether it is refused, or it stops
-abbrev pub SendsLine : (told : Type 0) → Scope → (line : ℕ) → List ℕ → (old new : List ℕ) → Result Bool Stop → Type 0
-SendsLine told s line bytes old new (Ok is_refused) = TellsAll told s line (bytes ∷ []) old new (cond is_refused 1 0)
-SendsLine told s line bytes old new (Err stop.FolderFault) = told → new ≡ old
-SendsLine told s line bytes old new (Err stop.Memory) = told → new ≡ old
-SendsLine told s line bytes old new (Err stop.SinkFault) = (t : Told) × TellsLine s line bytes t
-    × (told → WritesPart old new t.text)
-SendsLine told s line bytes old new (Err (stop.Damaged damage)) = ⊥
-
--- lines are explained to their end, of which with those before so many are refused, or it stops
-abbrev pub EndsTold : (told : Type 0) → Scope → (line refused : ℕ) → List (List ℕ) → (old new : List ℕ) → Result ℕ Stop
-    → Type 0
-EndsTold told s line refused lines old new (Ok count) = (n : ℕ) × (count ≡ refused + n)
-    × TellsAll told s line lines old new n
-EndsTold told s line refused lines old new (Err stop.FolderFault) = TellsSome told s line lines old new
-EndsTold told s line refused lines old new (Err stop.Memory) = TellsSome told s line lines old new
-EndsTold told s line refused lines old new (Err stop.SinkFault) = TellsPart told s line lines old new
-EndsTold told s line refused lines old new (Err (stop.Damaged damage)) = ⊥
-
--- how explaining ends over a folder that stored a state
-abbrev pub EndsExplain : (told : Type 0) → Scope → List (List ℕ) → (old new : List ℕ) → Status → Type 0
-EndsExplain told s lines old new status.Done = TellsAll told s 1 lines old new 0
-EndsExplain told s lines old new (status.SomeRefused count) = (1 ≤ count) × TellsAll told s 1 lines old new count
-EndsExplain told s lines old new status.FolderFault = TellsSome told s 1 lines old new
-EndsExplain told s lines old new status.Memory = TellsSome told s 1 lines old new
-EndsExplain told s lines old new status.SinkFault = TellsPart told s 1 lines old new
-EndsExplain told s lines old new (status.Damaged damage) = ⊥
-EndsExplain told s lines old new status.Usage = told → new ≡ old
-EndsExplain told s lines old new status.SourceFault = told → new ≡ old
-EndsExplain told s lines old new status.TooLarge = told → new ≡ old
-
 -- after the commit is read: the pages of its segments' heads, indexes and live bits, and a page for each leaf that the
 -- lines touch
 abbrev pub OpensFew : Files → CommitData → List (List ℕ) → (old new : ℕ) → Type 0
 OpensFew files c lines old new =
-    (s : Scope) → IsScope files s → (t : Told) → TellsLines s 1 lines t
+    (s : Scope) → IsScope files s → (t : Told) → TellsLines (TellsLine s) 1 lines t
     → new ≤ old + segments_pages files c.listed s.heads + t.touched
 
 -- it reads at most the pages of opening, and a page for each leaf that the lines touch
 abbrev pub ReadsFew : Files → List (List ℕ) → (old new : ℕ) → Type 0
 ReadsFew files lines old new =
-    (pages : ℕ) → IsOpening files pages → (s : Scope) → IsScope files s → (t : Told) → TellsLines s 1 lines t
-    → new ≤ old + pages + t.touched
+    (pages : ℕ) → IsOpening files pages → (s : Scope) → IsScope files s → (t : Told)
+    → TellsLines (TellsLine s) 1 lines t → new ≤ old + pages + t.touched
 
 -- ---- the program
 
@@ -205,7 +125,7 @@ EndsTask told (Run cache forks) b files new s =
     Ends (meaning language.Points) told (start b.state (lines_of b.input) b.written) files new s
 EndsTask told (Load columns forks) b files new s = EndsWhole told b (load_answer b.state b.input columns) files new s
 EndsTask told (Explain cache) b files new s = (scope : Scope) → IsScope b.files scope
-    → EndsExplain told scope (lines_of b.input) b.written new s
+    → EndsTold told (TellsLine scope) (lines_of b.input) b.written new s
 EndsTask told Check b files new s = (files ≡ b.files) × EndsCheck told b.files b.written new s
 EndsTask told (Generate docs seed forks) b files new s =
     EndsWhole told b (generate_answer b.state docs seed) files new s
@@ -213,7 +133,7 @@ EndsTask told (Session cache forks) b files new s =
     EndsSession (meaning language.Points) told (start b.state (lines_of b.input) b.written) files new s
 EndsTask told (Count cache) b files new s =
     (scope : counts.Scope) → counts.IsScope b.files scope
-    → telling.EndsTold told (counts.TellsCount scope) (lines_of b.input) b.written new s
+    → EndsTold told (counts.TellsCount scope) (lines_of b.input) b.written new s
 EndsTask told (Ranges cache forks) b files new s =
     AreRanges b.state → EndsRanges told (start b.state (lines_of b.input) b.written) files new s
 EndsTask told (Batch forks) b files new s = EndsBatch told (TellsBatch b.state) (lines_of b.input) b.written new s

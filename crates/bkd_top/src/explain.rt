@@ -1,6 +1,6 @@
 //! The lines of a script of queries, explained one after the other.
 
-ghost use Rattle.std.specs.Prelude.{◌≡◌, ◌≤◌, ◌<◌, ◌+◌, ◌^◌, length, Some, None, [], IsTrue, ℕ};
+ghost use Rattle.std.specs.Prelude.{◌≡◌, ◌≤◌, ◌<◌, ◌+◌, ◌^◌, length, IsTrue, ℕ};
 ghost use Rattle.outer_io.specs.Faults.{Rose};
 ghost use Rattle.outer_io.specs.Files.{bytes_of};
 ghost use Rattle.outer_io.specs.declared.file_name.FileName.TheVariants.{Commit as CommitName};
@@ -10,11 +10,12 @@ ghost use Rattle.index_model.specs.State.{State};
 ghost use Rattle.stored_index.specs.Stored.{IsStored};
 ghost use Rattle.index_opening.specs.Evidence.{IsEvident};
 ghost use Rattle.segment_set.specs.Faithful.{IsFaithful};
-ghost use Rattle.explain_queries.specs.Explained.{IsScope, Scope, TellsLine, TellsLines, Told};
+ghost use Rattle.explain_queries.specs.Explained.{IsScope, Scope, TellsLine, bare};
 ghost use Rattle.explain_queries.specs.Explains.{IsExplaining};
+ghost use Rattle.run_status.specs.Told.{EndsLines, EndsTold, SendsLine, TellsLines, Told};
 ghost use Rattle.run_status.specs.Causes.{HasCauses, ReadsInput};
 ghost use Rattle.bkd_top.specs.Calls.{TellsDamage};
-ghost use Rattle.bkd_top.specs.Commands.{EndsExplain, EndsTold, OpensFew, ReadsFew, SendsLine};
+ghost use Rattle.bkd_top.specs.Commands.{OpensFew, ReadsFew};
 ghost use Rattle.run_status.specs.Ends.{DoesNothing, HasStopCause, OnStopDamage};
 
 use commit_list::{Commit, read_commit};
@@ -39,7 +40,8 @@ pub fn run_explain<S: Source, F: Folder, K: Sink>(
     requires few { cache_pages ≤ 65536 }
     ensures never_usage { result ≡ Status.Usage → ⊥ }
     ensures ends { IsTrue S.told → IsTrue F.told → (s : Scope) → IsScope (F.files folder.old) s
-        → EndsExplain (IsTrue K.told) s (lines_of (S.left input.old)) (K.written out.old) (K.written out.new) result }
+        → EndsTold (IsTrue K.told) (TellsLine s) (lines_of (S.left input.old)) (K.written out.old)
+        (K.written out.new) result }
     ensures files { IsTrue F.told → F.files folder.new ≡ F.files folder.old }
     ensures reads { IsTrue S.told → IsTrue F.told
         → ReadsFew (F.files folder.old) (lines_of (S.left input.old)) (F.reads folder.old) (F.reads folder.new) }
@@ -70,7 +72,8 @@ fn explain_lines<F: Folder, K: Sink>(
     requires few { cache_pages ≤ 65536 }
     requires lines { length lines.now ≤ 2 ^ 32 }
     ensures ends { IsTrue F.told → (s : Scope) → IsScope (F.files folder.old) s
-        → EndsTold (IsTrue K.told) s 1 0 (lines_of lines.now) (K.written out.old) (K.written out.new) result }
+        → EndsLines (IsTrue K.told) (TellsLine s) 1 0 (lines_of lines.now) (K.written out.old)
+        (K.written out.new) result }
     ensures files { IsTrue F.told → F.files folder.new ≡ F.files folder.old }
     ensures reads { IsTrue F.told
         → ReadsFew (F.files folder.old) (lines_of lines.now) (F.reads folder.old) (F.reads folder.new) }
@@ -88,7 +91,7 @@ fn explain_lines<F: Folder, K: Sink>(
 /// Explains lines where no index is there.
 fn explain_none<K: Sink>(alloc: Global, lines: &[u8], out: &mut K) -> Result<u64, Stop>
     requires { length lines.now ≤ 2 ^ 32 }
-    ensures ends { EndsTold (IsTrue K.told) (record { state = None; heads = [] }) 1 0 (lines_of lines.now)
+    ensures ends { EndsLines (IsTrue K.told) (TellsLine bare) 1 0 (lines_of lines.now)
         (K.written out.old) (K.written out.new) result }
     ensures cause { (faults : ℕ) → HasStopCause faults faults (K.faults out.old) (K.faults out.new) result }
     ensures undamaged { OnStopDamage result (λ _. ⊥) }
@@ -116,7 +119,7 @@ fn tell_first<K: Sink>(
     reply: &mut Vec<u8>,
     out: &mut K,
 ) -> Result<bool, Stop>
-    ensures ends { SendsLine (IsTrue K.told) (record { state = None; heads = [] }) number line.now (K.written out.old)
+    ensures ends { SendsLine (IsTrue K.told) (TellsLine bare) number line.now (K.written out.old)
         (K.written out.new) result }
     ensures cause { (faults : ℕ) → HasStopCause faults faults (K.faults out.old) (K.faults out.new) result }
     ensures undamaged { OnStopDamage result (λ _. ⊥) }
@@ -142,7 +145,8 @@ fn explain_stored<F: Folder, K: Sink>(
     requires lines { length lines.now ≤ 2 ^ 32 }
     ensures ends { IsTrue F.told → IsCommitFile (bytes_of (F.files folder.old CommitName)) commit → (s : Scope)
         → IsScope (F.files folder.old) s
-        → EndsTold (IsTrue K.told) s 1 0 (lines_of lines.now) (K.written out.old) (K.written out.new) result }
+        → EndsLines (IsTrue K.told) (TellsLine s) 1 0 (lines_of lines.now) (K.written out.old)
+        (K.written out.new) result }
     ensures files { IsTrue F.told → F.files folder.new ≡ F.files folder.old }
     ensures reads { IsTrue F.told → IsCommitFile (bytes_of (F.files folder.old CommitName)) commit
         → OpensFew (F.files folder.old) commit (lines_of lines.now) (F.reads folder.old) (F.reads folder.new) }
@@ -181,7 +185,8 @@ fn explain_over<const D: usize, F: Folder, K: Sink>(
     requires lines { length lines.now ≤ 2 ^ 32 }
     ensures ends { IsTrue F.told → IsCommitFile (bytes_of (F.files folder.old CommitName)) commit → (s : Scope)
         → IsScope (F.files folder.old) s
-        → EndsTold (IsTrue K.told) s 1 0 (lines_of lines.now) (K.written out.old) (K.written out.new) result }
+        → EndsLines (IsTrue K.told) (TellsLine s) 1 0 (lines_of lines.now) (K.written out.old)
+        (K.written out.new) result }
     ensures files { IsTrue F.told → F.files folder.new ≡ F.files folder.old }
     ensures reads { IsTrue F.told → IsCommitFile (bytes_of (F.files folder.old CommitName)) commit
         → OpensFew (F.files folder.old) commit (lines_of lines.now) (F.reads folder.old) (F.reads folder.new) }
@@ -214,10 +219,11 @@ fn explain_all<const D: usize, F: Folder, K: Sink>(
     requires few { D ≤ 8 }
     requires lines { length lines.now ≤ 2 ^ 32 }
     ensures ends { IsTrue F.told → (s : Scope) → IsExplaining D (F.files folder.old) set.old s
-        → EndsTold (IsTrue K.told) s 1 0 (lines_of lines.now) (K.written out.old) (K.written out.new) result }
+        → EndsLines (IsTrue K.told) (TellsLine s) 1 0 (lines_of lines.now) (K.written out.old)
+        (K.written out.new) result }
     ensures files { IsTrue F.told → F.files folder.new ≡ F.files folder.old }
     ensures reads { IsTrue F.told → (s : Scope) → IsExplaining D (F.files folder.old) set.old s → (t : Told)
-        → TellsLines s 1 (lines_of lines.now) t
+        → TellsLines (TellsLine s) 1 (lines_of lines.now) t
         → F.reads folder.new ≤ F.reads folder.old + t.touched }
     ensures cause { HasStopCause (F.faults folder.old) (F.faults folder.new) (K.faults out.old)
         (K.faults out.new) result }
@@ -253,7 +259,7 @@ fn tell_line<const D: usize, F: Folder, K: Sink>(
     requires some { 1 ≤ D }
     requires few { D ≤ 8 }
     ensures ends { IsTrue F.told → (s : Scope) → IsExplaining D (F.files folder.old) set.old s
-        → SendsLine (IsTrue K.told) s number line.now (K.written out.old) (K.written out.new) result }
+        → SendsLine (IsTrue K.told) (TellsLine s) number line.now (K.written out.old) (K.written out.new) result }
     ensures stays { IsTrue F.told → (s : Scope) → IsExplaining D (F.files folder.old) set.old s
         → IsExplaining D (F.files folder.new) set.new s }
     ensures files { IsTrue F.told → F.files folder.new ≡ F.files folder.old }

@@ -2,3 +2,4 @@ pub mod Numbers
 pub mod Vints
 pub mod Partway
 pub mod SpelledVints
+pub mod Lists

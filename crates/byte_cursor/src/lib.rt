@@ -8,10 +8,12 @@
 
 mod bytes;
 mod cursor;
+mod cuts;
 mod laws;
 mod puts;
 
 pub use bytes::Bytes;
 pub use cursor::{Cursor, Short, VintFault};
+pub use cuts::cut;
 pub use laws::{numbers_are_unique, vints_are_spelled, vints_are_unique, vints_exist};
 pub use puts::{Memory, put_slice, put_u8, put_u16, put_u32, put_u64, put_vint};

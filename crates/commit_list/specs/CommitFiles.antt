@@ -3,8 +3,7 @@ use Rattle.std.specs.Prelude.{◌≡◌, ℕ, List, ◌++◌}
 use Rattle.outer_io.specs.declared.file_name.FileName.TheVariants.{Commit}
 use Rattle.outer_io.specs.Files.{Files}
 use Rattle.page_cache.specs.declared.faults.Damage.{Damage}
-use Rattle.page_cache.specs.declared.faults.Damage.TheVariants.{Page, Leaf, Body, Missing, Size, Unequal, Beyond}
-use Rattle.page_cache.specs.declared.faults.Damage.TheVariants.{Doubled}
+use Rattle.page_cache.specs.declared.faults.Damage.TheVariants.{Page, Body, Missing, Size}
 use Rattle.page_cache.specs.Bodies.{padded_body, pages_for, IsBodyFile}
 use Rattle.page_cache.specs.Evidence.{IsFileDamage, IsFileDamageOf, IsSizeOf, ArePayloadsOf}
 use Rattle.commit_list.specs.Commits.{CommitData}
@@ -49,18 +48,11 @@ IsCommitDamage (Page file number bytes) = IsFileDamage Commit (Page file number 
 IsCommitDamage (Missing file) = IsFileDamage Commit (Missing file)
 IsCommitDamage (Size file size needed) = IsFileDamage Commit (Size file size needed)
 IsCommitDamage (Body file bytes) = (file ≡ Commit) × IsNoCommitBody bytes
-IsCommitDamage (Leaf file number offset len bytes) = ⊥
-IsCommitDamage (Unequal file said found) = ⊥
-IsCommitDamage (Beyond doc next) = ⊥
-IsCommitDamage (Doubled doc) = ⊥
+IsCommitDamage _ = ⊥
 
 -- and it is true of the files; a Commit that isn't there is no damage
 abbrev pub IsCommitDamageOf : Files → Damage → Type 0
 IsCommitDamageOf files (Page file number bytes) = IsFileDamageOf files (Page file number bytes)
-IsCommitDamageOf files (Missing file) = ⊥
 IsCommitDamageOf files (Size file size needed) = IsSizeOf AsksCommit files file size needed
 IsCommitDamageOf files (Body file bytes) = ArePayloadsOf files file bytes
-IsCommitDamageOf files (Leaf file number offset len bytes) = ⊥
-IsCommitDamageOf files (Unequal file said found) = ⊥
-IsCommitDamageOf files (Beyond doc next) = ⊥
-IsCommitDamageOf files (Doubled doc) = ⊥
+IsCommitDamageOf files _ = ⊥

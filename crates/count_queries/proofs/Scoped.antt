@@ -1,11 +1,10 @@
 -- What a folder's segments are where it stores a state, and those that were opened.
-use Rattle.std.proofs.Common.{◌≡◌, ◌≤◌, ◌+◌, ◌/◌, ℕ, List, [], ◌∷◌, ◌++◌, length, get_or, map, Some, None, refl, sym, ap, subst, ◌∙◌, ⊎_elim, arith, All}
-use Rattle.std.specs.List.{AllZip, Contains, filter}
-use Rattle.std.proofs.lemmas.List.Elements.{All-contains_itself, All-head, All-map, All-tail}
+use Rattle.std.proofs.Common.{◌≡◌, ◌≤◌, ◌+◌, ◌/◌, ℕ, List, [], ◌∷◌, length, get_or, map, Some, None, refl, sym, ap, subst, ◌∙◌, ⊎_elim, arith, All}
+use Rattle.std.specs.List.{AllZip, Contains}
+use Rattle.std.proofs.lemmas.List.Elements.{All-contains_itself, All-map}
 use Rattle.outer_io.specs.declared.file_name.FileName.TheVariants.{Commit, Segment}
 use Rattle.outer_io.specs.Files.{Files, bytes_of}
 use Rattle.point_codec.specs.Points.{Item}
-use Rattle.live_bits.specs.LiveSet.{is_live}
 use Rattle.documents.specs.Documents.{Document}
 use Rattle.documents.specs.Entries.{AreDocs, has_entry}
 use Rattle.commit_list.specs.declared.listed.Listed.{Listed}
@@ -15,7 +14,7 @@ use Rattle.commit_list.proofs.CommitPages.{file_there, one_file}
 use Rattle.segment_file.specs.Heads.{Head}
 use Rattle.segment_file.specs.Segments.{IsHeadOf, IsSegment}
 use Rattle.index_model.specs.State.{Index, State}
-use Rattle.stored_index.specs.Segments.{SegmentData, all_live_entries, entries_at, live_entries}
+use Rattle.stored_index.specs.Segments.{SegmentData, entries_at}
 use Rattle.stored_index.specs.Stored.{HasHead, HaveHeads, HaveLive, HoldsFiles, HoldsIndex, IsStored, index_of}
 use Rattle.stored_index.specs.Opening.{IsOpening, OpensIndex, segments_pages}
 use Rattle.stored_index.proofs.Pairwise.{partner_of}
@@ -24,7 +23,7 @@ use Rattle.stored_index.proofs.Whole.{held_for}
 use Rattle.segment_view.specs.LiveSegments.{AreRead, Contents, IsRead, LiveSegment, heads_of, live_in_parts, lives_of}
 use Rattle.segment_view.specs.Held.{HasOwnHead}
 use Rattle.index_opening.specs.Opened.{IsOpened}
-use Rattle.index_opening.proofs.Listed.{as_part, lives_map, opened_heads, opened_lives, parts_held}
+use Rattle.index_opening.proofs.Listed.{as_part, lives_map, opened_heads, opened_lives, parts_held, entries_map}
 use Rattle.index_opening.proofs.Ordered.{zip_right}
 use Rattle.count_queries.specs.Counted.{AreStoredParts, IsScope, Scope, bare}
 use Rattle.count_queries.specs.Counts.{IsCounting}
@@ -101,14 +100,6 @@ own_heads T D files c parts t dims opened =
         subst (λ n. IsHeadOf n (bytes_of (files (Segment p.head.id))) p.head) dims
         (subst (λ id. IsHeadOf c.dims (bytes_of (files (Segment id))) p.head) (sym h.id) h.is)
 
-entries_map : (es : Contents) (held : List SegmentData) → All (λ (d : SegmentData). es d.head.id ≡ d.entries) held
-    → live_in_parts es (map as_part held) ≡ all_live_entries held
-entries_map es [] all = refl
-entries_map es (d ∷ ds) all =
-    ap (λ (xs : List Item). filter (λ (x : Item). is_live d.live x.doc) xs ++ live_in_parts es (map as_part ds))
-    (All-head (λ (e : SegmentData). es e.head.id ≡ e.entries) d ds all)
-    ∙ ap (λ (xs : List Item). live_entries d ++ xs) (entries_map es ds (All-tail (λ (e : SegmentData). es e.head.id ≡ e.entries) d ds all))
-
 -- where an index is stored their files hold its documents
 module _ (D : ℕ) (files : Files) (c : CommitData) (parts : List LiveSegment) (s : Scope) (dims : c.dims ≡ D) (says : IsCommitFile (bytes_of (files Commit)) c)
     (h : Holds files c s) where
@@ -177,13 +168,3 @@ commit_few files s pages before now scope opening unread most = by s.state scope
         let few = most stored.commit stored.holds.commit in
         let is = opening_is files stored.commit s pages stored.holds.commit scope opening in
         omega (arith, few, is)
-
--- what is damage neither without a Commit file nor with a commit in it is none where a state is stored
-pub not_damaged : {P : Type 0} (files : Files) (state : State) → IsStored files state → (files Commit ≡ None → P)
-    → ((c : CommitData) → IsCommitFile (bytes_of (files Commit)) c → P) → P
-not_damaged files None h absent whole = absent h
-not_damaged files (Some i) h absent whole = whole h.commit h.holds.commit
-
--- the commit that was read is that of the files after reading it
-pub says_after : (old new : Files) (c : CommitData) → new ≡ old → IsCommitFile (bytes_of (old Commit)) c → IsCommitFile (bytes_of (new Commit)) c
-says_after old new c same says = subst (λ (f : Files). IsCommitFile (bytes_of (f Commit)) c) (sym same) says

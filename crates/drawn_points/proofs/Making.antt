@@ -11,10 +11,10 @@ use Rattle.documents.specs.Documents.{Document, docs_without}
 use Rattle.documents.proofs.Lists.{filter_alike, filter_twice}
 use Rattle.script_lang.specs.Requests.{Request, Create, Add, Delete}
 use Rattle.index_model.specs.State.{Index, State, new_index}
-use Rattle.index_model.specs.Step.{Outcome, Done, Refused, add_outcome, step, step_on}
+use Rattle.index_model.specs.Step.{Outcome, Done, Refused, add_outcome, step, step_on, left_by}
 use Rattle.script_lang.specs.Replies.{doc_text}
 use Rattle.drawn_points.specs.Draws.{point}
-use Rattle.drawn_points.specs.Generated.{adds, after, deletes, document, documents, kept_docs, left_by, made_state, requests, stays}
+use Rattle.drawn_points.specs.Generated.{adds, after, deletes, document, documents, kept_docs, made_state, requests, stays}
 
 -- ---- documents that are added
 

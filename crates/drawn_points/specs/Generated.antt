@@ -8,16 +8,11 @@ use Rattle.documents.specs.Nearest.{nearest}
 use Rattle.script_lang.specs.Requests.{Request, Create, Add, Delete}
 use Rattle.script_lang.specs.Replies.{text_line}
 use Rattle.index_model.specs.State.{Index, State, new_index}
-use Rattle.index_model.specs.Step.{Outcome, Done, Refused, step}
+use Rattle.index_model.specs.Step.{step, left_by}
 use Rattle.index_model.specs.Script.{Answer}
 use Rattle.drawn_points.specs.Draws.{point, points}
 
 -- ---- the index
-
--- the state after a request
-abbrev pub left_by : State → Outcome → State
-left_by state (Done after text) = after
-left_by state (Refused cause) = state
 
 abbrev pub after : State → Request → State
 after state request = left_by state (step state request)

@@ -1,5 +1,5 @@
 -- What is told of a command that was read, and of a line where no index is there.
-use Rattle.std.proofs.Common.{◌≡◌, ◌++◌, ℕ, Bool, cond, List, [], Some, None, refl, sym, ap, subst, ◌∙◌, ℤ}
+use Rattle.std.proofs.Common.{◌≡◌, ◌++◌, ℕ, Bool, cond, List, None, refl, sym, ap, subst, ◌∙◌, ℤ}
 use Rattle.outer_io.specs.Files.{Files}
 use Rattle.point_codec.specs.Points.{Region, in_box}
 use Rattle.cell_relate.specs.Boxes as boxes
@@ -21,14 +21,12 @@ use Rattle.point_codec.specs.declared.coordinates.Point.{Point}
 use Rattle.ring_parity.specs.declared.rings.Rings.{Rings}
 use Rattle.segment_file.specs.Heads.{Head}
 use Rattle.segment_set.specs.Sets.{SetData}
-use Rattle.explain_queries.specs.Explained.{Scope, Tells, TellsLine, TellsNear, TellsOn, TellsReading, TellsShape, Told, refusal}
-use Rattle.explain_queries.specs.Explains.{InScope, IsExplaining, IsTold}
-use Rattle.explain_queries.proofs.Explaining.{Telling, tells_from, tells_to}
+use Rattle.explain_queries.specs.Explained.{Scope, Tells, TellsLine, bare, TellsNear, TellsOn, TellsReading, TellsShape}
+use Rattle.explain_queries.specs.Explains.{InScope, IsExplaining}
+use Rattle.run_status.specs.Told.{Told, refusal, IsTold}
+use Rattle.explain_queries.proofs.Explaining.{Telling, tells_from, tells_to, some_inj}
 use Rattle.explain_queries.proofs.ShapesTold.{tells_shape}
 use Rattle.explain_queries.proofs.Nearby.{tells_near}
-
-some_inj : {X : Type 0} (x y : X) → Some x ≡ Some y → x ≡ y
-some_inj x y e = cc
 
 -- ---- over the index that is looked at
 
@@ -113,16 +111,13 @@ other_told i heads line command.Reopen blank box polygon near = refl
 
 -- ---- without an index
 
-abbrev pub nowhere : Scope
-nowhere = record { state = None; heads = [] }
-
 -- what is told of what was read is told of the line
 pub first_told : (line : ℕ) (bytes : List ℕ) (reading : Reading) (before after : List ℕ) (t : Told) (is_refused : Bool) → read None bytes ≡ reading
-    → TellsReading nowhere line reading t
-    → after ≡ before ++ t.text → t.refused ≡ cond is_refused 1 0 → IsTold (TellsLine nowhere line bytes) before after is_refused
+    → TellsReading bare line reading t
+    → after ≡ before ++ t.text → t.refused ≡ cond is_refused 1 0 → IsTold (TellsLine bare line bytes) before after is_refused
 first_told line bytes reading before after t is_refused is tells grew refused = record {
   told = t;
-  tells = subst (λ (r : Reading). TellsReading nowhere line r t) (sym is) tells;
+  tells = subst (λ (r : Reading). TellsReading bare line r t) (sym is) tells;
   text = grew;
   refused = refused;
 }

@@ -29,8 +29,9 @@ use Rattle.segment_set.specs.Seen.{Sees}
 use Rattle.segment_set.specs.Kept.{StaysButCache}
 use Rattle.index_opening.specs.Evidence.{IsEvident}
 use Rattle.segment_set.specs.Faithful.{IsFaithful}
-use Rattle.explain_queries.specs.Explained.{Scope, Tells, TellsIn, TellsLine, TellsOn, TellsReading, Told, reach, refusal}
-use Rattle.explain_queries.specs.Explains.{Explains, IsExplaining, IsTold, ExplainMoment}
+use Rattle.explain_queries.specs.Explained.{Scope, Tells, TellsIn, TellsLine, TellsOn, TellsReading, reach}
+use Rattle.explain_queries.specs.Explains.{Explains, IsExplaining, ExplainMoment}
+use Rattle.run_status.specs.Told.{Told, refusal, IsTold}
 
 pub some_inj : {X : Type 0} (x y : X) → Some x ≡ Some y → x ≡ y
 some_inj x y e = cc

@@ -1,5 +1,5 @@
 -- What is told of a query for the nearest.
-use Rattle.std.proofs.Common.{◌≡◌, ◌++◌, ℕ, false, List, length, Option, Some, refl, sym, ap, subst, ◌∙◌, ℤ}
+use Rattle.std.proofs.Common.{◌≡◌, ◌++◌, ℕ, false, List, length, Option, refl, sym, ap, subst, ◌∙◌, ℤ}
 use Rattle.outer_io.specs.Files.{Files}
 use Rattle.point_codec.specs.declared.entries.Near.{Near}
 use Rattle.documents.specs.Nearest.{found_of, nearest}
@@ -10,13 +10,11 @@ use Rattle.segment_view.specs.LiveSegments.{heads_of}
 use Rattle.index_model.specs.State.{Index}
 use Rattle.segment_set.specs.Sets.{SetData}
 use Rattle.segment_set.specs.Seen.{entries_seen}
-use Rattle.explain_queries.specs.Explained.{Scope, TellsNear, Told, near_text, reach}
-use Rattle.explain_queries.specs.Explains.{InScope, IsExplaining, IsTold}
-use Rattle.explain_queries.proofs.Explaining.{Telling, reach_is}
+use Rattle.explain_queries.specs.Explained.{Scope, TellsNear, near_text, reach}
+use Rattle.explain_queries.specs.Explains.{InScope, IsExplaining}
+use Rattle.run_status.specs.Told.{Told, IsTold}
+use Rattle.explain_queries.proofs.Explaining.{Telling, reach_is, some_inj}
 use Rattle.explain_queries.proofs.There.{are_nearest, there, there_found}
-
-some_inj : {X : Type 0} (x y : X) → Some x ≡ Some y → x ≡ y
-some_inj x y e = cc
 
 -- a query's own telling over the index that is looked at
 abbrev pub tells_near : (k : ℕ) (at : List ℤ) → Telling

@@ -8,8 +8,9 @@ use Rattle.segment_view.specs.Costs.{AreTested, AreTouched}
 use Rattle.segment_view.specs.LiveSegments.{heads_of}
 use Rattle.index_model.specs.State.{Index}
 use Rattle.segment_set.specs.Sets.{SetData}
-use Rattle.explain_queries.specs.Explained.{Scope, TellsShape, Told, shape_text}
-use Rattle.explain_queries.specs.Explains.{InScope, IsExplaining, IsTold}
+use Rattle.explain_queries.specs.Explained.{Scope, TellsShape, shape_text}
+use Rattle.explain_queries.specs.Explains.{InScope, IsExplaining}
+use Rattle.run_status.specs.Told.{Told, IsTold}
 use Rattle.explain_queries.proofs.Explaining.{some_inj, Telling}
 
 -- ---- shapes

@@ -1,6 +1,6 @@
 -- What explaining queries tells. Lines are read as those of a script; of a query it is told how much of the stored
 -- segments is tested and touched, and how much is found, each leaf judged by its own cell.
-use Rattle.std.specs.Prelude.{ℕ, ◌+◌, ◌≡◌, Bool, if◌then◌else◌, nat_lt, List, [], ◌∷◌, ◌++◌, length, Option, None, Some}
+use Rattle.std.specs.Prelude.{ℕ, ◌≡◌, Bool, if◌then◌else◌, nat_lt, List, [], ◌++◌, length, Option, None, Some}
 use Rattle.std.specs.Prelude.{codes, decimal, ℤ}
 use Rattle.std.specs.List.{last_or}
 use Rattle.std.specs.Option.{option_map}
@@ -24,6 +24,7 @@ use Rattle.index_model.specs.State.{Index, State}
 use Rattle.index_model.specs.Step.{in_plane_polygon}
 use Rattle.stored_index.specs.Stored.{HaveHeads, IsStored}
 use Rattle.segment_view.specs.Costs.{AreTested, AreTouched}
+use Rattle.run_status.specs.Told.{Told, silence, refusal}
 use Rattle.nearest_query.specs.Segments.{AreNearLeaves}
 
 -- ---- what is looked at
@@ -43,23 +44,11 @@ pub record IsScope (files : Files) (s : Scope) : Type 0 where
   pub stored : IsStored files s.state
   pub heads : AreStoredHeads files s.state s.heads
 
+-- where no index is there
+abbrev pub bare : Scope
+bare = record { state = None; heads = [] }
+
 -- ---- what is told
-
--- of some lines: the text, how many of them are refused, and how many leaves they touch
-pub record Told : Type 0 where
-  pub text : List ℕ
-  pub refused : ℕ
-  pub touched : ℕ
-
-abbrev pub silence : Told
-silence = record { text = []; refused = 0; touched = 0 }
-
-abbrev pub refusal : List ℕ → Told
-refusal text = record { text = text; refused = 1; touched = 0 }
-
--- one after the other
-abbrev pub followed_by : Told → Told → Told
-followed_by a b = record { text = a.text ++ b.text; refused = a.refused + b.refused; touched = a.touched + b.touched }
 
 unfoldable pub shape_text : (tested touched hits : ℕ) → List ℕ
 shape_text tested touched hits =
@@ -127,10 +116,3 @@ TellsReading s line (Fails fault) t = t ≡ refusal (line_fault_text line fault)
 -- of a line with this number
 abbrev pub TellsLine : Scope → (line : ℕ) → List ℕ → Told → Type 0
 TellsLine s line bytes t = TellsReading s line (read (option_map (λ i. i.dims) s.state) bytes) t
-
--- of lines, of which the first has this number
-abbrev pub TellsLines : Scope → (line : ℕ) → List (List ℕ) → Told → Type 0
-TellsLines s line [] t = t ≡ silence
-TellsLines s line (l ∷ ls) t =
-    (first : Told) × (rest : Told) × TellsLine s line l first × TellsLines s (line + 1) ls rest
-    × (t ≡ followed_by first rest)

@@ -1,5 +1,5 @@
 -- How a set whose index is explained goes from one place to another.
-use Rattle.std.specs.Prelude.{ℕ, ◌+◌, ◌≡◌, ◌≤◌, Bool, cond, List, ◌++◌, Some, Result, IfOk}
+use Rattle.std.specs.Prelude.{ℕ, ◌+◌, ◌≡◌, ◌≤◌, Bool, List, Some, Result, IfOk}
 use Rattle.outer_io.specs.Files.{Files}
 use Rattle.page_cache.specs.declared.faults.PageFault.{PageFault}
 use Rattle.page_cache.specs.Causes.{HasPageCause}
@@ -10,7 +10,8 @@ use Rattle.segment_set.specs.Sets.{SetData}
 use Rattle.segment_set.specs.Seen.{Sees}
 use Rattle.index_opening.specs.Evidence.{IsEvident}
 use Rattle.segment_set.specs.Faithful.{IsFaithful}
-use Rattle.explain_queries.specs.Explained.{Scope, Told}
+use Rattle.run_status.specs.Told.{Told, IsTold}
+use Rattle.explain_queries.specs.Explained.{Scope}
 
 -- the set with these files is seen as the index that is looked at, and its segments have these heads
 pub record IsExplaining (D : ℕ) (files : Files) (set : SetData) (s : Scope) : Type 0 where
@@ -22,13 +23,6 @@ pub record IsExplaining (D : ℕ) (files : Files) (set : SetData) (s : Scope) : 
 -- this is told of the index that is looked at
 abbrev pub InScope : Scope → (Index → Told → Type 0) → Told → Type 0
 InScope s tells t = (i : Index) × (s.state ≡ Some i) × tells i t
-
--- what is told so is appended, and it is said whether the line is refused
-pub record IsTold (says : Told → Type 0) (before after : List ℕ) (is_refused : Bool) : Type 0 where
-  pub told : Told
-  pub tells : says told
-  pub text : after ≡ before ++ told.text
-  pub refused : told.refused ≡ cond is_refused 1 0
 
 -- a set between two lines: with the files of its folder, the folder's reads and faults, and the text
 pub record ExplainMoment : Type 0 where

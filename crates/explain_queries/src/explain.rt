@@ -1,14 +1,15 @@
 //! What is told of a line.
 
-ghost use Rattle.std.specs.Prelude.{◌≡◌, ◌≢◌, ◌≤◌, ◌++◌, [], None, true, IsTrue, IfOk, OnErr, IsErrOf};
+ghost use Rattle.std.specs.Prelude.{◌≡◌, ◌≢◌, ◌≤◌, ◌++◌, true, IsTrue, IfOk, OnErr, IsErrOf};
 ghost use Rattle.script_lang.specs.Replies.{line_fault_text, refused_text};
 ghost use Rattle.script_lang.specs.Seen.{IsWithinLimits, request_of};
 ghost use Rattle.documents.specs.Nearest.{found_of};
 ghost use Rattle.ring_parity.specs.Rings.{all_edges};
 ghost use Rattle.polygon_query.specs.Shape as polygons;
 ghost use Rattle.index_model.specs.Step.{in_plane_polygon};
-ghost use Rattle.explain_queries.specs.Explained.{Tells, TellsLine, TellsNear, TellsShape, reach};
-ghost use Rattle.explain_queries.specs.Explains.{Explains, InScope, IsTold};
+ghost use Rattle.explain_queries.specs.Explained.{Tells, TellsLine, TellsNear, TellsShape, bare, reach};
+ghost use Rattle.explain_queries.specs.Explains.{Explains, InScope};
+ghost use Rattle.run_status.specs.Told.{IsTold};
 
 use crate::texts::{put_near, put_shape};
 use cell_relate::{BoxShape, Shape};
@@ -59,8 +60,7 @@ pub fn explain_line<const D: usize, F: Folder>(
 
 /// Appends what is told of a line where no index is there. True where the line is refused.
 pub fn explain_first(number: u64, line: &[u8], reply: &mut Vec<u8>) -> Result<bool, AllocError>
-    ensures { IfOk result
-        (IsTold (TellsLine (record { state = None; heads = [] }) number line.now) reply.old.items reply.new.items) }
+    ensures { IfOk result (IsTold (TellsLine bare number line.now) reply.old.items reply.new.items) }
 {
     match read_first(line) {
         Ok(First::Blank) => Ok(false),

@@ -27,7 +27,7 @@ use Rattle.index_core.specs.Sessions.{Guards, SessionData}
 use Rattle.index_core.specs.Whole.{DoesWhole, HasNewCanonical, SessionMoment}
 use Rattle.index_core.proofs.Bringing.{brings_then}
 use Rattle.index_core.proofs.Listed.{new_canonical}
-use Rattle.index_core.proofs.Wholes.{IsCommitted, does_fault}
+use Rattle.index_core.proofs.Wholes.{CommitSays, does_fault}
 use Rattle.drawn_points.specs.Draws.{points}
 use Rattle.drawn_points.specs.Generated.{box_hits, docs_of, documents, generate_answer, kept_docs, made_state, near_sum, summary}
 use Rattle.generate_index.specs.Generates.{IsDrawn, Makes, drawn_index, made_docs}
@@ -92,17 +92,17 @@ ends_uncreated files answer before after r is none =
 -- a fault of the commit: nothing is stored, or all
 pub ends_uncommitted : {T U : Type 0} (told : Type 0) (seed n : ℕ) (a b c : SessionMoment) (x : U) (before after : List ℕ) (fault : PageFault)
     (r : Result Bool PageFault) → r ≡ Err fault → made_state seed n ≡ Some (drawn_index seed n n)
-    → Makes told (IsDrawn seed 0 0) (IsDrawn seed n n) a b (Ok x) → IsCommitted {T = T} 2 told b c (Err fault) → told → IsCreated seed a
+    → Makes told (IsDrawn seed 0 0) (IsDrawn seed n n) a b (Ok x) → CommitSays {T = T} 2 told b c (Err fault) → told → IsCreated seed a
     → DoesWhole c.files None (generate_answer None n seed) before after r
 unfolding generate_answer
 ends_uncommitted {T = T} told seed n a b c x before after fault r is law makes commits t new =
     let at = makes.made t new.made in
     subst (DoesWhole c.files None (generate_answer None n seed) before after) (sym is)
-    (does_fault c.files None (generate_answer None n seed) before after fault (other T fault (commits.whole t (drawn_index seed n n) at))
+    (does_fault c.files None (generate_answer None n seed) before after fault (other T fault (commits.faults.whole t (drawn_index seed n n) at))
     (⊎_elim
     (λ same. inl (stored_still b.files c.files None same (still_none told seed n a b (Ok x) makes t new)))
     (λ there. inr (subst (IsStored c.files) (sym law) there))
-    (commits.stored t (drawn_index seed n n) at (makes.guards t new.guards))))
+    (commits.durable.stored t (drawn_index seed n n) at (makes.guards t new.guards))))
 
 -- all is said, and stored
 pub ends_made : {T U : Type 0} (told : Type 0) (seed n : ℕ) (a b c : SessionMoment) (x : U) (y : T) (docs live hits near : ℕ) (before after : List ℕ)
@@ -112,7 +112,7 @@ pub ends_made : {T U : Type 0} (told : Type 0) (seed n : ℕ) (a b c : SessionMo
     ++ text_line (codes "nearest sum " ++ decimal near))
     → (docs ≡ n) × (live ≡ length (made_docs seed n)) × (hits ≡ box_hits (made_docs seed n) (points seed n 64))
     × (near ≡ near_sum (made_docs seed n) (points seed (n + 64) 16))
-    → Makes told (IsDrawn seed 0 0) (IsDrawn seed n n) a b (Ok x) → IsCommitted 2 told b c (Ok y) → told → IsCreated seed a
+    → Makes told (IsDrawn seed 0 0) (IsDrawn seed n n) a b (Ok x) → CommitSays 2 told b c (Ok y) → told → IsCreated seed a
     → DoesWhole c.files None (generate_answer None n seed) before after (Ok false)
 unfolding generate_answer
 ends_made told seed n a b c x y docs live hits near before after law grew (d, l, h, m) makes commits t new = (
@@ -122,21 +122,21 @@ ends_made told seed n a b c x y docs live hits near before after law grew (d, l,
       ++ text_line (codes "nearest sum " ++ decimal (m j))))
       ∙ ap (λ (o : State). before ++ summary seed n (docs_of o)) (sym law),
   refl,
-  subst (IsStored c.files) (sym law) (commits.stored t (drawn_index seed n n) (makes.made t new.made) (makes.guards t new.guards)).0,
+  subst (IsStored c.files) (sym law) (commits.durable.stored t (drawn_index seed n n) (makes.made t new.made) (makes.guards t new.guards)).0,
 )
 
 -- each segment is canonical
 pub made_canon : {T U : Type 0} (told : Type 0) (seed n : ℕ) (a b c : SessionMoment) (x : U) (y : T)
     → Makes told (IsDrawn seed 0 0) (IsDrawn seed n n) a b (Ok x)
-    → IsCommitted 2 told b c (Ok y) → told → IsCreated seed a → HasNewCanonical a.files c.files
+    → CommitSays 2 told b c (Ok y) → told → IsCreated seed a → HasNewCanonical a.files c.files
 made_canon told seed n a b c x y makes commits t new =
     let at = makes.made t new.made in
     let guards = makes.guards t new.guards in
     new_canonical 2 a.files c.files a.session.set c.session (drawn_index seed n n)
     (λ p there apart. nil_none p ⊥ (subst (λ (ps : List LiveSegment). Contains ps p) new.bare there))
-    (brings_then 2 a.files b.files c.files a.session.set.parts b.session.set.parts c.session.set.parts (makes.canon t) (commits.brings t))
-    (commits.seen t (drawn_index seed n n) at) (commits.guards t guards) (commits.says t guards)
-    commits.unchanged
+    (brings_then 2 a.files b.files c.files a.session.set.parts b.session.set.parts c.session.set.parts (makes.canon t) (commits.canon t))
+    (commits.seen t (drawn_index seed n n) at) (commits.stays.guards t guards) (commits.durable.kept t guards)
+    commits.done.unchanged
 
 -- no call failed
 pub cause_done : {T U : Type 0} (f0 f1 f2 : ℕ) (x : T) (y : U) (is_refused : Bool) → HasPageCause f0 f1 (Ok x) → HasPageCause f1 f2 (Ok y)

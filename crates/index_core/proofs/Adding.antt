@@ -45,6 +45,7 @@ use Rattle.index_core.proofs.FaultCauses.{cause_then, fault_to, memory_cause}
 use Rattle.index_core.proofs.Bringing.{brings_same, brings_then, brings_written}
 use Rattle.index_core.proofs.Guarding.{guards_after, kept_after_calls}
 use Rattle.index_core.proofs.Tracing.{traced_by, traced_shows}
+use Rattle.segment_set.proofs.Rearranged.{empty_list}
 
 -- nothing was added
 pub adds_none : {T : Type 0} (D : ℕ) (told : Type 0) (at : SessionMoment) (x : T) → Adds D told [] at at (Ok x)
@@ -179,16 +180,11 @@ adds_one D told point old new r put = record {
       (put_shows (IsEvidentIn D old.session.set.parts (told × IsFaithful D old.files old.session.set) new.files) r put.evident);
 }
 
--- the points of a document of one point
-no_pairs : {X : Type 0} (xs : List X) → length xs ≡ 0 → xs ≡ []
-no_pairs [] none = refl
-no_pairs (x ∷ xs) none = absurd (omega (arith, none))
-
 one_in_order : {K : Type 0} (R : K → K → Ordering) (o : IsTotalOrder R) (x : K) → in_order R (x ∷ []) ≡ x ∷ []
 one_in_order {K = K} R o x =
     ap (map (λ (e : K × Unit {0}). e.0))
     (entries-insert o empty x tt
-    ∙ ap (put R x tt) (no_pairs (entries (empty {X = Unit {0}} {R = R})) (sym (len-entries (empty {X = Unit {0}} {R = R})) ∙ len-empty R (Unit {0}))))
+    ∙ ap (put R x tt) (empty_list (entries (empty {X = Unit {0}} {R = R})) (sym (len-entries (empty {X = Unit {0}} {R = R})) ∙ len-empty R (Unit {0}))))
 
 pub one_ordered : (point : List ℤ) → ordered_points (point ∷ []) ≡ point ∷ []
 one_ordered point = one_in_order (slice_cmp int_cmp) (lists_total int_cmp_total) point

@@ -79,23 +79,26 @@ applies_with : (D : ℕ) (told : Type 0) (outcome : Index → Outcome) (old new 
 applies_with D told outcome old new r calm does begins cause whole evident = record {
   does = λ is_told i seen guards. does is_told i seen;
   begins = begins;
-  guards = λ is_told. guards_after D told old.files new.files old.session new.session is_told calm.commit calm.refused calm.keeps calm.follows calm.leaf;
-  kept = λ is_told guards. kept_after_calls D told old.files new.files old.session.set new.session.set.names is_told calm.keeps guards.set;
-  stored = λ is_told i seen guards e. absurd cc;
-  cause = cause;
-  whole = λ is_told i seen guards. whole is_told i seen;
-  faithful = calm.faithful;
-  traced = λ is_told trusts.
-      traced_after D told old.files new.files old.session.set new.session.set is_told calm.keeps calm.follows (calm.brings is_told) trusts.guards.set
-      trusts.traced;
-  lasting = λ is_told trusts.
-      inl (kept_after_calls D told old.files new.files old.session.set new.session.set.names is_told calm.keeps trusts.guards.set);
-  evident = evident;
-  idle = λ is_told e unchanged. absurd cc;
-  unchanged = λ e. absurd cc;
-  anew = λ e changed. absurd cc;
-  levels = λ e changed none. absurd cc;
+  stays = record {
+    guards = λ is_told. guards_after D told old.files new.files old.session new.session is_told calm.commit calm.refused calm.keeps calm.follows calm.leaf;
+    faithful = calm.faithful;
+    traced = λ is_told trusts.
+        traced_after D told old.files new.files old.session.set new.session.set is_told calm.keeps calm.follows (calm.brings is_told) trusts.guards.set
+        trusts.traced;
+  };
+  keeps = record {
+    kept = λ is_told guards. kept_after_calls D told old.files new.files old.session.set new.session.set.names is_told calm.keeps guards.set;
+    stored = λ is_told i seen guards e. absurd cc;
+    lasting = λ is_told trusts.
+        inl (kept_after_calls D told old.files new.files old.session.set new.session.set.names is_told calm.keeps trusts.guards.set);
+  };
+  commits = λ e. absurd cc;
   canon = λ is_told i seen guards. calm.brings is_told;
+  faults = record {
+    cause = cause;
+    whole = λ is_told i seen guards. whole is_told i seen;
+    evident = evident;
+  };
 }
 
 pub applies : (D : ℕ) (told : Type 0) (outcome : Index → Outcome) (old new : StepMoment) (r : Result Applied PageFault) → IsCalm D told old new
@@ -134,20 +137,23 @@ pub applies_still : (D : ℕ) (told : Type 0) (outcome : Index → Outcome) (fil
 applies_still D told outcome files session before after faults r does begins cause whole = record {
   does = λ is_told i seen guards. does i seen;
   begins = begins;
-  guards = λ is_told guards. guards;
-  kept = λ is_told guards. kept_itself files;
-  stored = λ is_told i seen guards e. absurd cc;
-  cause = cause;
-  whole = λ is_told i seen guards. whole;
-  faithful = λ is_told faithful. faithful;
-  traced = λ is_told trusts. trusts.traced;
-  lasting = λ is_told trusts. inl (kept_itself files);
-  evident = none_evident (told × Trusts D files session) files r whole;
-  idle = λ is_told e unchanged. refl;
-  unchanged = λ e. absurd cc;
-  anew = λ e changed. absurd cc;
-  levels = λ e changed none. absurd cc;
+  stays = record {
+    guards = λ is_told guards. guards;
+    faithful = λ is_told faithful. faithful;
+    traced = λ is_told trusts. trusts.traced;
+  };
+  keeps = record {
+    kept = λ is_told guards. kept_itself files;
+    stored = λ is_told i seen guards e. absurd cc;
+    lasting = λ is_told trusts. inl (kept_itself files);
+  };
+  commits = λ e. absurd cc;
   canon = λ is_told i seen guards. brings_same D files files session.set.parts session.set.parts refl refl;
+  faults = record {
+    cause = cause;
+    whole = λ is_told i seen guards. whole;
+    evident = none_evident (told × Trusts D files session) files r whole;
+  };
 }
 
 -- there was no memory for the reply, before anything was done
@@ -231,21 +237,26 @@ pub applies_told : (D : ℕ) (told : Type 0) (outcome : Index → Outcome) (comm
 applies_told D told outcome committing old new r is = record {
   does = λ is_told. is.does tt;
   begins = is.begins;
-  guards = λ is_told. is.guards tt;
-  kept = λ is_told. is.kept tt;
-  stored = λ is_told. is.stored tt;
-  cause = is.cause;
-  whole = λ is_told. is.whole tt;
-  faithful = λ is_told. is.faithful tt;
-  traced = λ is_told. is.traced tt;
-  lasting = λ is_told. is.lasting tt;
-  evident = on_evident_less (Unit {0} × Trusts D old.files old.session) (told × Trusts D old.files old.session) new.files r (λ (is_told, trusts). (tt, trusts))
-      is.evident;
-  idle = λ is_told. is.idle tt;
-  unchanged = is.unchanged;
-  anew = is.anew;
-  levels = is.levels;
+  stays = record {
+    guards = λ is_told. is.guards tt;
+    faithful = λ is_told. is.faithful tt;
+    traced = λ is_told. is.traced tt;
+  };
+  keeps = record { kept = λ is_told. is.keeps.kept tt; stored = λ is_told. is.keeps.stored tt; lasting = λ is_told. is.keeps.lasting tt };
+  commits = λ e. record {
+    idle = λ is_told. (is.commits e).idle tt;
+    unchanged = (is.commits e).unchanged;
+    anew = (is.commits e).anew;
+    levels = (is.commits e).levels;
+  };
   canon = λ is_told. is.canon tt;
+  faults = record {
+    cause = is.faults.cause;
+    whole = λ is_told. is.faults.whole tt;
+    evident =
+        on_evident_less (Unit {0} × Trusts D old.files old.session) (told × Trusts D old.files old.session) new.files r (λ (is_told, trusts). (tt, trusts))
+        is.faults.evident;
+  };
 }
 
 -- another result, which is the same
@@ -260,18 +271,9 @@ pub applies_as : (D : ℕ) (told : Type 0) (o p : Index → Outcome) (committing
 applies_as D told o p committing old new r same is = record {
   does = λ is_told i seen guards. does_as D new.files (o i) (p i) i new.session.set old.text new.text r (same i seen) (is.does is_told i seen guards);
   begins = is.begins;
-  guards = is.guards;
-  kept = is.kept;
-  stored = is.stored;
-  cause = is.cause;
-  whole = is.whole;
-  faithful = is.faithful;
-  traced = is.traced;
-  lasting = is.lasting;
-  evident = is.evident;
-  idle = is.idle;
-  unchanged = is.unchanged;
-  anew = is.anew;
-  levels = is.levels;
+  stays = is.stays;
+  keeps = is.keeps;
+  commits = is.commits;
   canon = is.canon;
+  faults = is.faults;
 }

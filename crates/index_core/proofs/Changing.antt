@@ -29,30 +29,28 @@ use Rattle.segment_set.specs.Seen.{Sees, ShowsSnapshot}
 use Rattle.index_core.specs.Steps.{DoesOver}
 use Rattle.index_core.specs.Replies.{add_answer, begin_answer, end_answer}
 use Rattle.index_core.proofs.Answering.{does_as, does_done}
+use Rattle.segment_set.proofs.Changed.{index_with}
 
 -- ---- a document is added
-
-abbrev with_document : List (List ℤ) → Index → Index
-with_document points i = record i { next = i.next + 1; given = i.given + length points; docs = i.docs ++ record { number = i.next; points = points } ∷ [] }
 
 pub not_full : (r : Result ℕ AddFault) (given : ℕ) → nat_lt (2 ^ 24) given ≡ false → (IsErrOf r add.Full ↔ (2 ^ 24 < given)) → IsErrOf r add.Full → ⊥
 not_full r given fits full e = both_ways (nat_lt (2 ^ 24) given) fits (lt-ltb (2 ^ 24) given (full.0 e))
 
 pub does_add : (D : ℕ) (old new : Files) (s t : SetData) (i : Index) (points : List (List ℤ)) (r : Result ℕ AddFault) (before after : List ℕ) → Sees D old s i
-    → nat_lt (2 ^ 24) (s.given + length points) ≡ false → (IsErrOf r add.Full → ⊥) → OnOk r (Sees D new t (with_document points i)) → OnErr r (Sees D new t i)
+    → nat_lt (2 ^ 24) (s.given + length points) ≡ false → (IsErrOf r add.Full → ⊥) → OnOk r (Sees D new t (index_with points i)) → OnErr r (Sees D new t i)
     → after ≡ before ++ doc_text s.next
     → DoesOver D new (step_on i (asks.Add points)) i t before after (add_answer r)
 unfolding step_on
 does_add D old new s t i points r before after seen fits full done refused grew =
-    does_as D new (step_on i (asks.Add points)) (Done (Some (with_document points i)) (doc_text i.next)) i t before after (add_answer r)
-    (ap (λ b. cond b (Refused why.Full) (Done (Some (with_document points i)) (doc_text i.next)))
+    does_as D new (step_on i (asks.Add points)) (Done (Some (index_with points i)) (doc_text i.next)) i t before after (add_answer r)
+    (ap (λ b. cond b (Refused why.Full) (Done (Some (index_with points i)) (doc_text i.next)))
     (ap (λ n. nat_lt (2 ^ 24) (n + length points)) seen.given ∙ fits))
     (by r full done refused)
   where
-    by : (r : Result ℕ AddFault) → (IsErrOf r add.Full → ⊥) → OnOk r (Sees D new t (with_document points i)) → OnErr r (Sees D new t i)
-        → DoesOver D new (Done (Some (with_document points i)) (doc_text i.next)) i t before after (add_answer r)
+    by : (r : Result ℕ AddFault) → (IsErrOf r add.Full → ⊥) → OnOk r (Sees D new t (index_with points i)) → OnErr r (Sees D new t i)
+        → DoesOver D new (Done (Some (index_with points i)) (doc_text i.next)) i t before after (add_answer r)
     by (Ok n) full done refused =
-        does_done D new i (with_document points i) t (doc_text i.next) before after done (grew ∙ ap (λ n. before ++ doc_text n) (sym seen.next))
+        does_done D new i (index_with points i) t (doc_text i.next) before after done (grew ∙ ap (λ n. before ++ doc_text n) (sym seen.next))
     by (Err add.Full) full done refused = absurd (full refl)
     by (Err add.Failed) full done refused = refused
     by (Err (add.Damaged d)) full done refused = refused
@@ -64,7 +62,7 @@ pub does_full : (D : ℕ) (files : Files) (s : SetData) (i : Index) (points : Li
 unfolding step_on
 does_full D files s i points text seen full =
     does_as D files (step_on i (asks.Add points)) (Refused why.Full) i s text text (Ok (applied.Refused why.Full))
-    (ap (λ b. cond b (Refused why.Full) (Done (Some (with_document points i)) (doc_text i.next)))
+    (ap (λ b. cond b (Refused why.Full) (Done (Some (index_with points i)) (doc_text i.next)))
     (ap (λ n. nat_lt (2 ^ 24) (n + length points)) seen.given ∙ full))
     (refl, seen, refl)
 

@@ -1,6 +1,6 @@
 -- What is left in the folder by a commit, by a sweep, and by a session that is closed.
-use Rattle.std.proofs.Common.{◌≡◌, ℕ, Bool, true, false, List, [], map, length, Option, None, Some}
-use Rattle.std.proofs.Common.{Result, Ok, Err, OnOk, refl, sym, ap, subst, ◌∙◌, ◌⊎◌, inl, inr, ⊎_elim}
+use Rattle.std.proofs.Common.{◌≡◌, ℕ, Bool, true, false, List, map, length, Option, None, Some}
+use Rattle.std.proofs.Common.{Result, Ok, Err, refl, sym, ap, subst, ◌∙◌, ◌⊎◌, inl, inr, ⊎_elim}
 use Rattle.std.specs.List.{All, Contains}
 use Rattle.std.proofs.lemmas.Bool.{both_ways}
 use Rattle.outer_io.specs.declared.file_name.FileName.{FileName}
@@ -24,10 +24,7 @@ use Rattle.index_core.specs.Light.{KeepsLevels}
 use Rattle.index_core.specs.Steps.{KeepsOver, SaysCommit}
 use Rattle.index_core.proofs.Guarding.{guards_after, moved_says, names_listed}
 use Rattle.index_core.proofs.Committing.{says_still, some_same}
-
-pub on_ok_then : {T E P Q : Type 0} (r : Result T E) → (P → Q) → OnOk r P → OnOk r Q
-on_ok_then (Ok x) h p = h p
-on_ok_then (Err e) h p = tt
+use Rattle.segment_set.proofs.Snapped.{set_rested}
 
 -- ---- each file has a name in the list, or is as it was
 
@@ -151,18 +148,14 @@ renew_named s t c named same lists id there =
 
 -- ---- what a session holds goes
 
--- the set without snapshots and begun merge
-abbrev pub at_ease : SetData → SetData
-at_ease s = record s { snapshots = []; begun = None }
-
-pub guards_eased : (D : ℕ) (told : Type 0) (f : Files) (s : SessionData) (t : SetData) → told → t ≡ at_ease s.set → Guards D f s
+pub guards_eased : (D : ℕ) (told : Type 0) (f : Files) (s : SessionData) (t : SetData) → told → t ≡ set_rested s.set → Guards D f s
     → Guards D f (record s { set = t })
 guards_eased D told f s t is_told is guards = guards_after D told f f s (record s { set = t }) is_told refl refl
     (keeps_calm told s.set.names t.names f f (ap (λ (u : SetData). u.names) is) (λ _. refl))
     (follows_same s.set.names s.set.parts t.parts (ap (λ (u : SetData). u.parts) is)) (ap (λ (u : SetData). u.leaf) is) guards
 
 -- what is in the list stays
-pub names_eased : (s : SessionData) (t : SetData) → t ≡ at_ease s.set → NamesOnlyListed s → NamesOnlyListed (record s { set = t })
+pub names_eased : (s : SessionData) (t : SetData) → t ≡ set_rested s.set → NamesOnlyListed s → NamesOnlyListed (record s { set = t })
 names_eased s t is listed m there = listed m (ap (λ (u : SetData). is_named u.names.names m) (sym is) ∙ there)
 
 pub as_same : (s t : SetData) (c : CommitData) → t.next ≡ s.next → t.given ≡ s.given → t.parts ≡ s.parts → t.buffer ≡ s.buffer → IsAsCommitted s c
@@ -176,7 +169,7 @@ as_same s t c next given parts buffer same = record {
 }
 
 -- a set without snapshots that was swept, of a session since whose commit nothing changed
-module _ (s : SessionData) (t : SetData) (new : SessionData) (eased : t ≡ at_ease s.set) (alone : StaysButFiles t new.set) (commit : new.commit ≡ s.commit)
+module _ (s : SessionData) (t : SetData) (new : SessionData) (eased : t ≡ set_rested s.set) (alone : StaysButFiles t new.set) (commit : new.commit ≡ s.commit)
     (unchanged : IsUnchanged s) where
   pub unchanged_closed : new.refused ≡ false → IsUnchanged new
   unchanged_closed done = record {

@@ -8,3 +8,4 @@ pub mod Damages
 pub mod Light
 pub mod Closed
 pub mod Brought
+pub mod Calls

@@ -93,6 +93,12 @@ pub record Trusts (D : ℕ) (files : Files) (s : SessionData) : Type 0 where
   pub faithful : IsFaithful D files s.set
   pub traced : AreTraced D files s.set.parts
 
+-- what the session knows of the files is so of those of now: it guards them, and can be trusted as before
+pub record StaysTrue (D : ℕ) (told : Type 0) (old new : Files) (s t : SessionData) : Type 0 where
+  pub guards : told → Guards D old s → Guards D new t
+  pub faithful : told → IsFaithful D old s.set → IsFaithful D new t.set
+  pub traced : told → Trusts D old s → AreTraced D new t.set.parts
+
 -- nothing changed since the last commit: there is one, none was refused since, and the set is as it says
 pub record IsUnchanged (s : SessionData) : Type 0 where
   pub commit : CommitData

@@ -20,9 +20,8 @@ use Rattle.stored_index.specs.Kept.{SameKept}
 use Rattle.segment_set.specs.Sets.{SetData}
 use Rattle.segment_set.specs.Seen.{Sees}
 use Rattle.index_opening.specs.Evidence.{IsEvident}
-use Rattle.segment_set.specs.Faithful.{IsFaithful}
 use Rattle.index_core.specs.Brought.{KeepsCommit}
-use Rattle.index_core.specs.Sessions.{AreTraced, Guards, IsCommitAnew, IsUnchanged, SessionData, Trusts}
+use Rattle.index_core.specs.Sessions.{Guards, IsCommitAnew, IsUnchanged, SessionData, StaysTrue, Trusts}
 use Rattle.index_core.specs.Effects.{BringsCanonical, OnDone}
 use Rattle.index_core.specs.Light.{CommitsFewOfLevels}
 
@@ -99,28 +98,42 @@ pub record StepMoment : Type 0 where
 abbrev pub GuardsFor : (committing : Bool) → ℕ → StepMoment → Type 0
 GuardsFor committing D place = committing ≡ true → Guards D place.files place.session
 
--- from the one place to the other the session does what this outcome says, committing or not
+-- What the folder keeps changes by a commit alone, which has stored what is seen. Whatever the files hold, each listed
+-- file of a new commit is whole.
+pub record OnlyCommits (D : ℕ) (told : Type 0) (committing : Bool) (old new : StepMoment)
+    (result : Result Applied PageFault) : Type 0 where
+  pub kept : told → Guards D old.files old.session → KeepsOver committing old.files new.files new.session result
+  pub stored : told → (i : Index) → Sees D old.files old.session.set i → Guards D old.files old.session
+      → committing ≡ true → Stores old.files new.files i new.session.set result
+  pub lasting : told → Trusts D old.files old.session → KeepsCommit old.files new.files
+
+-- A request that commits: where nothing was changed no file is, and else the commit is written anew; with no merge
+-- begun it lists few segments of each level. Once it is done nothing is changed.
+pub record CommitsAnew (told : Type 0) (old new : StepMoment) (result : Result Applied PageFault) : Type 0 where
+  pub idle : told → IsUnchanged old.session → new.files ≡ old.files
+  pub unchanged : OnDone result (IsUnchanged new.session)
+  pub anew : (IsUnchanged old.session → ⊥) → OnDone result (IsCommitAnew old.session.set.names new.session)
+  pub levels : (IsUnchanged old.session → ⊥) → old.session.set.begun ≡ None
+      → OnDone result (CommitsFewOfLevels new.session.commit)
+
+-- a fault has its cause, there is no damage where the files hold what is seen, and a damage is evident
+pub record ShowsStepFault (D : ℕ) (told : Type 0) (committing : Bool) (old new : StepMoment)
+    (result : Result Applied PageFault) : Type 0 where
+  pub cause : HasPageCause old.faults new.faults result
+  pub whole : told → (i : Index) → Sees D old.files old.session.set i → GuardsFor committing D old
+      → NotDamaged result
+  pub evident : OnDamage result (IsEvident (told × Trusts D old.files old.session) new.files)
+
+-- From the one place to the other the session does what this outcome says, committing or not. Each segment that is
+-- written is canonical, whatever is answered.
 pub record Applies (D : ℕ) (told : Type 0) (outcome : Index → Outcome) (committing : Bool) (old new : StepMoment)
     (result : Result Applied PageFault) : Type 0 where
   pub does : told → (i : Index) → Sees D old.files old.session.set i → GuardsFor committing D old
       → DoesOver D new.files (outcome i) i new.session.set old.text new.text result
   pub begins : Begins old.text new.text
-  pub guards : told → Guards D old.files old.session → Guards D new.files new.session
-  pub kept : told → Guards D old.files old.session → KeepsOver committing old.files new.files new.session result
-  pub stored : told → (i : Index) → Sees D old.files old.session.set i → Guards D old.files old.session
-      → committing ≡ true → Stores old.files new.files i new.session.set result
-  pub cause : HasPageCause old.faults new.faults result
-  pub whole : told → (i : Index) → Sees D old.files old.session.set i → GuardsFor committing D old
-      → NotDamaged result
-  pub faithful : told → IsFaithful D old.files old.session.set → IsFaithful D new.files new.session.set
-  pub traced : told → Trusts D old.files old.session → AreTraced D new.files new.session.set.parts
-  pub lasting : told → Trusts D old.files old.session → KeepsCommit old.files new.files
-  pub evident : OnDamage result (IsEvident (told × Trusts D old.files old.session) new.files)
-  pub idle : told → committing ≡ true → IsUnchanged old.session → new.files ≡ old.files
-  pub unchanged : committing ≡ true → OnDone result (IsUnchanged new.session)
-  pub anew : committing ≡ true → (IsUnchanged old.session → ⊥)
-      → OnDone result (IsCommitAnew old.session.set.names new.session)
-  pub levels : committing ≡ true → (IsUnchanged old.session → ⊥) → old.session.set.begun ≡ None
-      → OnDone result (CommitsFewOfLevels new.session.commit)
+  pub stays : StaysTrue D told old.files new.files old.session new.session
+  pub keeps : OnlyCommits D told committing old new result
+  pub commits : committing ≡ true → CommitsAnew told old new result
   pub canon : told → (i : Index) → Sees D old.files old.session.set i → Guards D old.files old.session
       → BringsCanonical D old.files new.files old.session.set.parts new.session.set.parts
+  pub faults : ShowsStepFault D told committing old new result

@@ -1,15 +1,11 @@
 //! Commits, and sessions anew over one.
 
-ghost use Rattle.std.specs.Prelude.{◌≡◌, ◌↔◌, ◌⊎◌, [], None, Some, true, false, All, Contains, IsTrue, IsSome, IsOk};
+ghost use Rattle.std.specs.Prelude.{◌≡◌, ◌↔◌, ◌⊎◌, [], None, Some, true, false, All, IsTrue, IsSome, IsOk};
 ghost use Rattle.std.specs.Prelude.{OnOk};
 ghost use Rattle.std.specs.List.{AllZip};
 ghost use Rattle.outer_io.specs.Files.{Files, SameButTwo, bytes_of};
 ghost use Rattle.outer_io.specs.declared.file_name.FileName.{FileName};
 ghost use Rattle.outer_io.specs.declared.file_name.FileName.TheVariants.{Commit as CommitName, CommitNew, Live};
-ghost use Rattle.outer_io.specs.declared.file_name.FileName.TheVariants.{Segment};
-ghost use Rattle.page_cache.specs.Causes.{HasPageCause};
-ghost use Rattle.page_cache.specs.Evidence.{NotDamaged, OnDamage};
-ghost use Rattle.commit_list.specs.Commits.{CommitData};
 ghost use Rattle.commit_list.specs.CommitFiles.{IsCommitFile};
 ghost use Rattle.script_lang.specs.Requests as asks;
 ghost use Rattle.segment_file.specs.LiveFiles.{IsLiveFile};
@@ -18,20 +14,17 @@ ghost use Rattle.index_model.specs.Step.{step_on};
 ghost use Rattle.stored_index.specs.Stored.{IsStored};
 ghost use Rattle.stored_index.specs.Kept.{ListsFile, SameKept};
 ghost use Rattle.segment_set.specs.Seen.{Sees};
-ghost use Rattle.index_opening.specs.Evidence.{IsEvident};
 ghost use Rattle.segment_set.specs.Faithful.{IsFaithful};
-ghost use Rattle.segment_view.specs.LiveSegments.{LiveSegment};
 ghost use Rattle.segment_set.specs.Sets.{IsNamed, IsSettled};
-ghost use Rattle.file_names.specs.Names.{is_named};
-ghost use Rattle.segment_set.specs.Kept.{Follows, IsCommitOf, IsNeeded, StaysButFiles};
-ghost use Rattle.index_core.specs.Sessions.{AreTraced, Guards, GuardsSet, IsCommitAnew, IsSound, IsUnchanged, Trusts};
-ghost use Rattle.index_core.specs.Brought.{KeepsCommit};
-ghost use Rattle.index_core.specs.Closed.{IsSessionClosed, IsIdle, IsTracked, NamesOnlyListed};
+ghost use Rattle.segment_set.specs.Kept.{Follows, IsCommitOf, StaysButFiles};
+ghost use Rattle.index_core.specs.Sessions.{AreTraced, Guards, GuardsSet, IsSound, IsUnchanged, StaysTrue};
+ghost use Rattle.index_core.specs.Calls.{HasNoDamage, IsCommitted, IsDurable, ShowsFault, SweepsAway};
+ghost use Rattle.index_core.specs.Closed.{IsSessionClosed, IsIdle};
 ghost use Rattle.index_core.specs.Costs.{ReadsAtMost};
 ghost use Rattle.index_core.specs.Damages.{ShowsDamage, ShowsMerge};
 ghost use Rattle.index_core.specs.Effects.{BringsCanonical, OnRefused};
-ghost use Rattle.index_core.specs.Light.{CommitsFewOfLevels, KeepsLevels};
-ghost use Rattle.index_core.specs.Steps.{Applies, KeepsOver, KeepsUndone, SaysCommit, Stores};
+ghost use Rattle.index_core.specs.Light.{KeepsLevels};
+ghost use Rattle.index_core.specs.Steps.{Applies, KeepsOver, SaysCommit, Stores};
 
 use crate::session::Session;
 use bkd_build::Gate;
@@ -56,55 +49,27 @@ impl<const D: usize> Session<D> {
     ) -> Result<(), PageFault>
         ensures seen { IsTrue F.told → (i : Index) → Sees D (F.files folder.old) self.old.set i
             → Sees D (F.files folder.new) self.new.set i }
-        ensures guards { IsTrue F.told → Guards D (F.files folder.old) self.old
-            → Guards D (F.files folder.new) self.new }
-        ensures kept { IsTrue F.told → Guards D (F.files folder.old) self.old
-            → KeepsOver true (F.files folder.old) (F.files folder.new) self.new result }
+        ensures stays { StaysTrue D (IsTrue F.told) (F.files folder.old) (F.files folder.new) self.old self.new }
+        ensures durable { IsDurable D (IsTrue F.told) (F.files folder.old)
+            (F.files folder.new) self.old self.new result }
         // whatever is answered, all that is kept is the same, or the commit in flight is there
         ensures flight { IsTrue F.told → Guards D (F.files folder.old) self.old
             → SameKept (F.files folder.old) (F.files folder.new) ⊎ SaysCommit (F.files folder.new) self.new.set.saved }
-        ensures stored { IsTrue F.told → (i : Index) → Sees D (F.files folder.old) self.old.set i
-            → Guards D (F.files folder.old) self.old
-            → Stores (F.files folder.old) (F.files folder.new) i self.new.set result }
-        ensures emptied { OnOk result (self.new.set.buffer ≡ []) }
-        ensures committed { OnOk result (IsSome self.new.commit × (self.new.refused ≡ false)) }
+        ensures done { OnOk result
+            (IsCommitted D (IsTrue F.told) (F.files folder.old) (F.files folder.new) self.old self.new) }
         // where nothing changed it is done, with no call on the folder
         ensures idle { IsUnchanged self.old → IsOk result × (self.new ≡ self.old)
             × (F.files folder.new ≡ F.files folder.old) × (F.reads folder.new ≡ F.reads folder.old) }
-        // where something did, the commit is written anew; and once it is done nothing is changed
-        ensures anew { (IsUnchanged self.old → ⊥) → OnOk result (IsCommitAnew self.old.set.names self.new) }
-        ensures unchanged { OnOk result (IsUnchanged self.new) }
-        // with no merge begun it lists few segments of each level, and where none are chosen to be merged nothing is
-        // read
-        ensures levels { (IsUnchanged self.old → ⊥) → self.old.set.begun ≡ None
-            → OnOk result (CommitsFewOfLevels self.new.commit) }
-        ensures few { IsTrue F.told → Guards D (F.files folder.old) self.old → self.old.set.begun ≡ None
-            → OnOk result (KeepsLevels (F.files folder.old) (F.files folder.new)) }
+        // where no segments are chosen to be merged nothing is read
         ensures rested { IsSettled self.old.set → F.reads folder.new ≡ F.reads folder.old }
-        // what is not done loses nothing that is kept, and after a damage no commit is in flight
-        ensures undone { IsTrue F.told → Guards D (F.files folder.old) self.old
-            → KeepsUndone (F.files folder.old) (F.files folder.new) result }
         // each segment that is written is canonical, whatever is answered, and has a name that wasn't in the list
         ensures canon { IsTrue F.told
             → BringsCanonical D (F.files folder.old) (F.files folder.new) self.old.set.parts self.new.set.parts }
         ensures follows { Follows self.old.set.names self.old.set.parts self.new.set.parts }
-        ensures cause { HasPageCause (F.faults folder.old) (F.faults folder.new) result }
-        ensures whole { IsTrue F.told → (i : Index) → Sees D (F.files folder.old) self.old.set i → NotDamaged result }
-        // what a damage shows
+        ensures faults { ShowsFault D (IsTrue F.told) (F.files folder.old) (F.files folder.new) self.old
+            (F.faults folder.old)
+            (F.faults folder.new) result }
         ensures damage { ShowsMerge D (IsTrue F.told) (F.files folder.old) (F.files folder.new) self.old.set result }
-        // whatever the files hold
-        ensures faithful { IsTrue F.told → IsFaithful D (F.files folder.old) self.old.set
-            → IsFaithful D (F.files folder.new) self.new.set }
-        ensures traced { IsTrue F.told → Trusts D (F.files folder.old) self.old
-            → AreTraced D (F.files folder.new) self.new.set.parts }
-        // whatever is answered, all that is kept is the same, or a commit is there of which each listed file is whole
-        ensures lasting { IsTrue F.told → Trusts D (F.files folder.old) self.old
-            → KeepsCommit (F.files folder.old) (F.files folder.new) }
-        ensures evident { OnDamage result
-            (IsEvident (IsTrue F.told × Trusts D (F.files folder.old) self.old) (F.files folder.new)) }
-        // no file is there that the list of names doesn't have, but those that were
-        ensures tracked { IsTrue F.told → OnOk result ((m : FileName)
-            → IsTracked (F.files folder.old) (F.files folder.new) self.old.set.names self.new.set.names m) }
     {
         if !self.is_changed() {
             return Ok(());
@@ -125,15 +90,8 @@ impl<const D: usize> Session<D> {
     ) -> Result<(), PageFault>
         ensures closed { OnOk result
             (IsSessionClosed D (IsTrue F.told) (F.files folder.old) (F.files folder.new) self.old self.new) }
-        ensures stored { IsTrue F.told → (i : Index) → Sees D (F.files folder.old) self.old.set i
-            → Guards D (F.files folder.old) self.old
-            → Stores (F.files folder.old) (F.files folder.new) i self.new.set result }
-        ensures kept { IsTrue F.told → Guards D (F.files folder.old) self.old
-            → KeepsOver true (F.files folder.old) (F.files folder.new) self.new result }
-        ensures undone { IsTrue F.told → Guards D (F.files folder.old) self.old
-            → KeepsUndone (F.files folder.old) (F.files folder.new) result }
-        ensures lasting { IsTrue F.told → Trusts D (F.files folder.old) self.old
-            → KeepsCommit (F.files folder.old) (F.files folder.new) }
+        ensures durable { IsDurable D (IsTrue F.told) (F.files folder.old)
+            (F.files folder.new) self.old self.new result }
         // where nothing changed and nothing is to be removed no file is changed
         ensures idle { IsTrue F.told → IsIdle self.old → F.files folder.new ≡ F.files folder.old }
         ensures reads { IsUnchanged self.old ⊎ IsSettled self.old.set → F.reads folder.new ≡ F.reads folder.old }
@@ -141,10 +99,9 @@ impl<const D: usize> Session<D> {
             → OnOk result (KeepsLevels (F.files folder.old) (F.files folder.new)) }
         ensures canon { IsTrue F.told
             → BringsCanonical D (F.files folder.old) (F.files folder.new) self.old.set.parts self.new.set.parts }
-        ensures cause { HasPageCause (F.faults folder.old) (F.faults folder.new) result }
-        ensures whole { IsTrue F.told → (i : Index) → Sees D (F.files folder.old) self.old.set i → NotDamaged result }
-        ensures evident { OnDamage result
-            (IsEvident (IsTrue F.told × Trusts D (F.files folder.old) self.old) (F.files folder.new)) }
+        ensures faults { ShowsFault D (IsTrue F.told) (F.files folder.old) (F.files folder.new) self.old
+            (F.faults folder.old)
+            (F.faults folder.new) result }
     {
         self.commit(rt, alloc, folder, gate)?;
         self.set.rest();
@@ -201,8 +158,7 @@ impl<const D: usize> Session<D> {
             → ((m : FileName) → ListsFile commit m → files m ≡ F.files folder.old m)
             → IsStored files (Some (at_rest i)))
             → Stores (F.files folder.old) (F.files folder.new) i self.new.set result }
-        ensures cause { HasPageCause (F.faults folder.old) (F.faults folder.new) result }
-        ensures whole { NotDamaged result }
+        ensures faults { HasNoDamage (F.faults folder.old) (F.faults folder.new) result }
         ensures unread { F.reads folder.new ≡ F.reads folder.old }
     {
         let _leaf = self.set.leaf();
@@ -224,8 +180,8 @@ impl<const D: usize> Session<D> {
         requires there { IsSome self.old.commit }
         requires written { self.old.refused ≡ false }
         ensures alone { StaysButFiles self.old.set self.new.set }
-        ensures segments { IsTrue F.told → (p : LiveSegment) → Contains self.old.set.parts p
-            → F.files folder.new (Segment p.head.id) ≡ F.files folder.old (Segment p.head.id) }
+        ensures removes { SweepsAway (IsTrue F.told) (F.files folder.old)
+            (F.files folder.new) self.old self.new result }
         ensures faithful { IsTrue F.told → IsFaithful D (F.files folder.old) self.old.set
             → IsFaithful D (F.files folder.new) self.new.set }
         ensures written { (self.new.commit ≡ self.old.commit) × (self.new.refused ≡ false) }
@@ -238,14 +194,8 @@ impl<const D: usize> Session<D> {
             → AreTraced D (F.files folder.new) self.new.set.parts }
         ensures kept { IsTrue F.told → Guards D (F.files folder.old) self.old
             → SameKept (F.files folder.old) (F.files folder.new) }
-        ensures cause { HasPageCause (F.faults folder.old) (F.faults folder.new) result }
-        ensures whole { NotDamaged result }
+        ensures faults { HasNoDamage (F.faults folder.old) (F.faults folder.new) result }
         ensures unread { F.reads folder.new ≡ F.reads folder.old }
-        ensures tracked { IsTrue F.told → (m : FileName)
-            → IsTracked (F.files folder.old) (F.files folder.new) self.old.set.names self.new.set.names m }
-        ensures needed { OnOk result ((m : FileName) → is_named self.new.set.names.names m ≡ true
-            → (c : CommitData) × (self.old.commit ≡ Some c) × IsNeeded self.old.set c m) }
-        ensures idle { IsTrue F.told → NamesOnlyListed self.old → F.files folder.new ≡ F.files folder.old }
     {
         let Some(commit) = &self.commit else {
             unreachable!()

@@ -1,6 +1,6 @@
 //! Sessions anew over a commit.
 
-ghost use Rattle.std.specs.Prelude.{◌≡◌, [], Some, true, false, IsTrue, IsSome};
+ghost use Rattle.std.specs.Prelude.{◌≡◌, Some, true, false, IsTrue, IsSome};
 ghost use Rattle.std.specs.Prelude.{IfOk};
 ghost use Rattle.outer_io.specs.declared.file_name.FileName.{FileName};
 ghost use Rattle.page_cache.specs.Causes.{HasPageCause};
@@ -85,7 +85,6 @@ impl<const D: usize> Session<D> {
         ensures faithful { IsTrue F.told → IfOk result (IsFaithful D (F.files folder.old)) }
         ensures traced { IsTrue F.told → self.now.refused ≡ false → Guards D (F.files folder.old) self.now
             → IfOk result (λ s. AreTraced D (F.files folder.old) s.parts) }
-        ensures emptied { IfOk result (λ s. s.buffer ≡ []) }
         ensures names { (c : CommitData) → self.now.commit ≡ Some c
             → IfOk result (λ s. (m : FileName) → is_named s.names.names m ≡ true → ListsFile c m) }
         ensures unchanged { (c : CommitData) → self.now.commit ≡ Some c → IfOk result (λ s. IsAsCommitted s c) }

@@ -41,3 +41,8 @@ viewed_docs (Some name) i = option_map (λ s. s.docs) (snapshot_of name i.snapsh
 -- what stays when a session ends: no snapshot, and no begun merge
 abbrev pub at_rest : Index → Index
 at_rest i = record i { snapshots = []; begun = false }
+
+-- how many points were ever given
+abbrev pub given_of : State → ℕ
+given_of None = 0
+given_of (Some i) = i.given

@@ -88,3 +88,8 @@ abbrev pub step : State → Request → Outcome
 step None (asks.Create dims leaf) = done_ok (new_index dims leaf)
 step None request = Done None []
 step (Some i) request = step_on i request
+
+-- the state after a request
+abbrev pub left_by : State → Outcome → State
+left_by state (Done after text) = after
+left_by state (Refused cause) = state

@@ -263,3 +263,7 @@ commit_evident T files d truth h = record {
 pub on_commit_evident : {X : Type 0} (T : Type 0) (files : Files) (r : Result X PageFault) → (T → OnDamage r (IsCommitDamageOf files))
     → OnDamage r IsCommitDamage → OnDamage r (IsEvident T files)
 on_commit_evident T files r = on_told T r (IsCommitDamageOf files) IsCommitDamage (IsEvident T files) (λ d truth h. commit_evident T files d truth h)
+
+-- the commit that was read is that of the files after reading it
+pub says_after : (old new : Files) (c : CommitData) → new ≡ old → IsCommitFile (bytes_of (old Commit)) c → IsCommitFile (bytes_of (new Commit)) c
+says_after old new c same says = subst (λ (f : Files). IsCommitFile (bytes_of (f Commit)) c) (sym same) says

@@ -1,10 +1,10 @@
 -- What shows that files are not as the commit lists them, and what they are where an index is stored.
-use Rattle.std.proofs.Common.{◌≡◌, ◌≢◌, ℕ, ◌≤◌, ◌⊎◌, inl, inr, ⊎_elim, List, [], ◌∷◌, length, map, refl, sym, ap, subst, ◌∙◌, arith}
-use Rattle.std.specs.List.{AllZip, Contains}
+use Rattle.std.proofs.Common.{◌≡◌, ◌≢◌, ℕ, ◌≤◌, ◌⊎◌, inl, inr, ⊎_elim, List, [], ◌∷◌, length, map, refl, sym, ap, subst, ◌∙◌, arith, ◌++◌}
+use Rattle.std.specs.List.{AllZip, Contains, All, filter}
 use Rattle.outer_io.specs.declared.file_name.FileName.{FileName}
 use Rattle.outer_io.specs.declared.file_name.FileName.TheVariants.{Commit, Live, Segment}
 use Rattle.outer_io.specs.Files.{Files, bytes_of}
-use Rattle.live_bits.specs.LiveSet.{LiveSet}
+use Rattle.live_bits.specs.LiveSet.{LiveSet, is_live}
 use Rattle.documents.specs.Documents.{Document}
 use Rattle.page_cache.specs.declared.faults.Damage.{Damage}
 use Rattle.page_cache.specs.declared.faults.Damage.TheVariants.{Page, Leaf, Body, Missing, Size, Unequal, Beyond, Doubled}
@@ -20,16 +20,18 @@ use Rattle.segment_file.specs.Segments.{IsHeadOf}
 use Rattle.segment_file.specs.Damages.{IsHeadDamage, IsHeadDamageOf, IsLiveDamage, IsLiveDamageOf, IsPairDamage}
 use Rattle.segment_file.proofs.Unique.{head_of_segment, one_head}
 use Rattle.segment_file.proofs.LiveLemmas.{one_live_set}
-use Rattle.stored_index.specs.Segments.{SegmentData, live_sets, places}
+use Rattle.stored_index.specs.Segments.{SegmentData, live_sets, places, all_live_entries, live_entries}
 use Rattle.stored_index.specs.Stored.{HasHead, HasLive, HaveHeads, HaveLive, HoldAll, HoldsFiles, HoldsIndex, IsStored, IsUndefined}
 use Rattle.stored_index.proofs.Pairwise.{zip_map, zip_once}
 use Rattle.stored_index.proofs.Parts.{held_head, held_live}
 use Rattle.stored_index.proofs.Places.{none_from_next}
 use Rattle.stored_index.proofs.Whole.{held_for}
 use Rattle.index_model.specs.State.{State}
-use Rattle.segment_view.specs.LiveSegments.{LiveSegment, lives_of, live_segment}
+use Rattle.segment_view.specs.LiveSegments.{LiveSegment, lives_of, live_segment, Contents, live_in_parts}
 use Rattle.index_opening.specs.Damages.{Entries, IsAttachDamage, IsAttachDamageOf, IsListedDamage, IsListedDamageOf, IsMisplaced, IsPair, LeafSize, LiveCount}
 use Rattle.index_opening.specs.Opened.{IsOpened}
+use Rattle.point_codec.specs.Points.{Item}
+use Rattle.std.proofs.lemmas.List.Elements.{All-head, All-tail}
 
 -- ---- what shows that a file isn't as the commit says
 
@@ -236,3 +238,11 @@ pub misplaced_of : (files : Files) (c : CommitData) (sets : List LiveSet) (f : P
     → FaultShows (IsAttachDamageOf files c) f
 misplaced_of files c sets f have =
     fault_weaker f (IsMisplaced (λ doc. 1 ≤ places doc sets) (λ doc. 2 ≤ places doc sets) c.next) (IsAttachDamageOf files c) (λ d h. inr (sets, have, h))
+
+pub entries_map : (es : Contents) (held : List SegmentData) → All (λ (d : SegmentData). es d.head.id ≡ d.entries) held
+    → live_in_parts es (map as_part held) ≡ all_live_entries held
+entries_map es [] all = refl
+entries_map es (d ∷ ds) all =
+    ap (λ (xs : List Item). filter (λ (x : Item). is_live d.live x.doc) xs ++ live_in_parts es (map as_part ds))
+    (All-head (λ (e : SegmentData). es e.head.id ≡ e.entries) d ds all)
+    ∙ ap (λ (xs : List Item). live_entries d ++ xs) (entries_map es ds (All-tail (λ (e : SegmentData). es e.head.id ≡ e.entries) d ds all))

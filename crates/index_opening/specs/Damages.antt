@@ -5,8 +5,7 @@ use Rattle.outer_io.specs.declared.file_name.FileName.TheVariants.{Segment, Live
 use Rattle.outer_io.specs.Files.{Files}
 use Rattle.live_bits.specs.LiveSet.{LiveSet}
 use Rattle.page_cache.specs.declared.faults.Damage.{Damage}
-use Rattle.page_cache.specs.declared.faults.Damage.TheVariants.{Page, Leaf, Body, Missing, Size, Unequal, Beyond}
-use Rattle.page_cache.specs.declared.faults.Damage.TheVariants.{Doubled}
+use Rattle.page_cache.specs.declared.faults.Damage.TheVariants.{Unequal, Beyond, Doubled}
 use Rattle.commit_list.specs.declared.listed.Listed.{Listed}
 use Rattle.commit_list.specs.Commits.{CommitData}
 use Rattle.segment_file.specs.Heads.{Head}
@@ -18,24 +17,13 @@ use Rattle.stored_index.specs.Stored.{HasHead, HasLive, HaveLive}
 abbrev pub IsUnequal : Listed → Damage → Type 0
 IsUnequal s (Unequal file said found) = ((file ≡ Segment s.segment) ⊎ (file ≡ Live s.segment s.generation))
     × (said ≢ found)
-IsUnequal s (Page file number bytes) = ⊥
-IsUnequal s (Leaf file number offset len bytes) = ⊥
-IsUnequal s (Body file bytes) = ⊥
-IsUnequal s (Missing file) = ⊥
-IsUnequal s (Size file size needed) = ⊥
-IsUnequal s (Beyond doc next) = ⊥
-IsUnequal s (Doubled doc) = ⊥
+IsUnequal s _ = ⊥
 
 -- a number is live that isn't below the next one, or is live in two segments
 abbrev pub IsMisplaced : (beyond doubled : ℕ → Type 0) → (next : ℕ) → Damage → Type 0
 IsMisplaced beyond doubled n (Beyond doc next) = (next ≡ n) × (n ≤ doc) × beyond doc
 IsMisplaced beyond doubled n (Doubled doc) = doubled doc
-IsMisplaced beyond doubled n (Page file number bytes) = ⊥
-IsMisplaced beyond doubled n (Leaf file number offset len bytes) = ⊥
-IsMisplaced beyond doubled n (Body file bytes) = ⊥
-IsMisplaced beyond doubled n (Missing file) = ⊥
-IsMisplaced beyond doubled n (Size file size needed) = ⊥
-IsMisplaced beyond doubled n (Unequal file said found) = ⊥
+IsMisplaced beyond doubled n _ = ⊥
 
 -- reading a listed segment's head or its live bits shows one of their files to be damaged, or two numbers that must
 -- agree to differ
@@ -57,13 +45,7 @@ pub data IsPair (files : Files) (c : CommitData) (s : Listed) : FileName → (sa
 
 abbrev pub IsUnequalOf : Files → CommitData → Listed → Damage → Type 0
 IsUnequalOf files c s (Unequal file said found) = IsPair files c s file said found
-IsUnequalOf files c s (Page file number bytes) = ⊥
-IsUnequalOf files c s (Leaf file number offset len bytes) = ⊥
-IsUnequalOf files c s (Body file bytes) = ⊥
-IsUnequalOf files c s (Missing file) = ⊥
-IsUnequalOf files c s (Size file size needed) = ⊥
-IsUnequalOf files c s (Beyond doc next) = ⊥
-IsUnequalOf files c s (Doubled doc) = ⊥
+IsUnequalOf files c s _ = ⊥
 
 -- the damage of the segment's head or of its live bits is true of the files, or the two numbers are a pair of theirs
 abbrev pub IsListedDamageOf : Files → CommitData → Listed → Damage → Type 0

@@ -33,12 +33,7 @@ IsOfFile name (Doubled doc) = ⊥
 abbrev pub IsOfLeast : (next : ℕ) → List LiveSet → Damage → Type 0
 IsOfLeast n sets (Beyond doc next) = (next ≡ n) × IsLeastMisplaced n sets (misplaced.Beyond doc)
 IsOfLeast n sets (Doubled doc) = IsLeastMisplaced n sets (misplaced.Doubled doc)
-IsOfLeast n sets (Page file number bytes) = ⊥
-IsOfLeast n sets (Leaf file number offset len bytes) = ⊥
-IsOfLeast n sets (Body file bytes) = ⊥
-IsOfLeast n sets (Missing file) = ⊥
-IsOfLeast n sets (Size file size needed) = ⊥
-IsOfLeast n sets (Unequal file said found) = ⊥
+IsOfLeast n sets _ = ⊥
 
 -- the damage is one of the segment's head, or of its live bits where its head is as the commit lists it
 pub data IsFirstIn (told : Type 0) (files : Files) (c : CommitData) (s : Listed) (d : Damage) : Type 0 where

@@ -1,37 +1,27 @@
 -- Cells and keys in bytes.
-use Rattle.std.proofs.Common.{◌≡◌, ℕ, ℤ, pos, negsuc, ◌+◌, ◌*◌, ◌^◌, ◌≤◌, ◌<◌, List, [], ◌∷◌, ◌++◌, length, get_or, take, drop}
+use Rattle.std.proofs.Common.{◌≡◌, ℕ, ℤ, pos, negsuc, ◌+◌, ◌*◌, ◌<◌, List, [], ◌∷◌, ◌++◌, length, take, drop}
 use Rattle.std.proofs.Common.{set, All, FitsSigned, refl, sym, ap, ◌∙◌, arith, add-one, length-append, append_assoc, append-nil}
-use Rattle.std.proofs.Common.{take_at, drop_at, take-add, take-suc-set, Option, Some, None, MatchOption, IsSomeAnd, IfSome}
+use Rattle.std.proofs.Common.{take-add, take-suc-set, Option, Some, None, MatchOption, IsSomeAnd, IfSome}
 use Rattle.std.specs.List.{flat_map}
 use Rattle.std.specs.Int.{w32}
 use Rattle.std.proofs.lemmas.List.Elements.{All-head, All-tail}
-use Rattle.std.proofs.lemmas.List.{drop_more}
 use Rattle.std.proofs.lemmas.List.Concat.{flat_map-append}
 use Rattle.byte_cursor.proofs.Numbers.{spelling_unique}
 use Rattle.point_codec.specs.Points.{Region}
 use Rattle.point_codec.specs.Keys.{rank, key}
 use Rattle.inner_pack.specs.Trees.{IsCell}
 use Rattle.inner_pack.specs.Bodies.{cell_bytes}
+use Rattle.point_codec.proofs.KeyOrder.{rank-lt}
 
 -- of what an option holds
 pub some_and : {A : Type 0} (o : Option A) (N : Type 0) (P Q : A → Type 0) → MatchOption o N P → (N → ⊥) → ((x : A) → P x → Q x) → IsSomeAnd o Q
 some_and None N P Q m none some = absurd (none m)
 some_and (Some x) N P Q m none some = some x m
 
-pub split_same : (a b x y : List ℕ) → length a ≡ length b → a ++ x ≡ b ++ y → (a ≡ b) × (x ≡ y)
-split_same a b x y long e = (
-  sym (take_at a x (length b) long) ∙ ap (take (length b)) e ∙ take_at b y (length b) refl,
-  sym (drop_at a x (length b) long) ∙ ap (drop (length b)) e ∙ drop_at b y (length b) refl,
-)
-
 -- ---- keys
 
 abbrev pub Fit : List ℤ → Type 0
 Fit c = All (λ x. FitsSigned w32 x) c
-
-rank-lt : (x : ℤ) → FitsSigned w32 x → rank x < 2 ^ 32
-rank-lt (pos n) h = omega arith
-rank-lt (negsuc n) h = omega arith
 
 rank_one : (x y : ℤ) → FitsSigned w32 x → FitsSigned w32 y → rank x ≡ rank y → x ≡ y
 rank_one (pos a) (pos b) f g e = ap pos (omega arith)
@@ -110,21 +100,6 @@ cell_joined lo hi = refl
 pub some_if : {A : Type 0} (o : Option A) (N : Type 0) (P Q : A → Type 0) → MatchOption o N P → ((x : A) → P x → Q x) → IfSome o Q
 some_if None N P Q m some = tt
 some_if (Some x) N P Q m some = some x m
-
--- four bytes, one by one
-pub four_at : (bs : List ℕ) (at : ℕ) → at + 4 ≤ length bs
-    → take 4 (drop at bs) ≡ get_or bs at 0 ∷ get_or bs (at + 1) 0 ∷ get_or bs (at + 2) 0 ∷ get_or bs (at + 3) 0 ∷ []
-four_at bs at within =
-    let d0 = drop_more bs at 0 (omega arith) in
-    let d1 = drop_more bs (at + 1) 0 (omega arith) in
-    let d2 = drop_more bs (at + 2) 0 (omega arith) in
-    let d3 = drop_more bs (at + 3) 0 (omega arith) in
-    let e1 : at + 1 + 1 ≡ at + 2 = omega arith in
-    let e2 : at + 2 + 1 ≡ at + 3 = omega arith in
-    ap (take 4) (d0
-    ∙ ap (λ (t : List ℕ). get_or bs at 0 ∷ t)
-    (d1 ∙ ap (λ (t : List ℕ). get_or bs (at + 1) 0 ∷ t)
-    (ap (λ n. drop n bs) e1 ∙ d2 ∙ ap (λ (t : List ℕ). get_or bs (at + 2) 0 ∷ t) (ap (λ n. drop n bs) e2 ∙ d3))))
 
 pub if_map : {A : Type 0} (o : Option A) (P Q : A → Type 0) → IfSome o P → ((x : A) → P x → Q x) → IfSome o Q
 if_map None P Q h f = tt

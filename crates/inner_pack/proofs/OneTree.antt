@@ -9,10 +9,11 @@ use Rattle.inner_pack.specs.Trees.{IndexTree, Leaf, Split, IsShaped, IsCell}
 use Rattle.inner_pack.specs.Bodies.{SpellsIndex, cuts_table, places_table, cell_bytes, right_begin}
 use Rattle.inner_pack.specs.Spelled.{spelled_part, told_part, tree_bytes, IsNodeOf, IsTreeIn}
 use Rattle.inner_pack.proofs.PlaceLemmas.{first_fits}
-use Rattle.inner_pack.proofs.CellLemmas.{split_same, cell_front}
+use Rattle.inner_pack.proofs.CellLemmas.{cell_front}
 use Rattle.inner_pack.proofs.SpelledLemmas.{spelled_one, told_one, spelled_packed, told_packed, tree_one, tree_packed, body_is, cuts_long}
 use Rattle.inner_pack.proofs.SameNodes.{IsWide, wide_cell, inside_fits, left_wide, right_wide, one_leaf}
 use Rattle.inner_pack.proofs.SameNodes.{same_children, own_bytes_left, own_bytes_right, with_bytes}
+use Rattle.byte_cursor.proofs.Lists.{split_same}
 
 -- ---- the whole
 

@@ -15,11 +15,12 @@ use Rattle.inner_pack.specs.Trees.{IndexTree, Leaf, Split, IsCell, IsInCell}
 use Rattle.inner_pack.specs.Bodies.{cuts_table, places_table, place_bytes, node_bytes, cell_bytes, shared_front, right_begin}
 use Rattle.inner_pack.specs.Spelled.{spelled_part, told_part, IsNodeOf}
 use Rattle.inner_pack.proofs.PlaceLemmas.{first_fits, right_fits}
-use Rattle.inner_pack.proofs.CellLemmas.{split_same, key_front, key_one, cell_one, Fit}
+use Rattle.inner_pack.proofs.CellLemmas.{key_front, key_one, cell_one, Fit}
 use Rattle.inner_pack.proofs.KeyLemmas.{shared_take, key_again}
 use Rattle.inner_pack.proofs.SpelledLemmas.{spelled_one, told_one, spelled_packed, told_packed, leaf_bytes_is, leaf_in_table, to_packed_leaf, fields}
 use Rattle.inner_pack.proofs.NodeLemmas.{said_otherwise}
 use Rattle.inner_pack.proofs.HeadLemmas.{TableNode, table_node, packed_node, key_long, between_fits, left_lengths, right_lengths}
+use Rattle.byte_cursor.proofs.Lists.{split_same}
 
 -- a cell with so many dimensions, whatever the order of its ends
 pub record IsWide (D : ℕ) (r : Region) : Type 0 where

@@ -14,7 +14,7 @@ ghost use Rattle.inner_pack.specs.Places.{LeafSpan};
 ghost use Rattle.inner_pack.specs.Heads.{placed_of};
 
 use crate::place::LeafPlace;
-use byte_cursor::Cursor;
+use byte_cursor::{Cursor, cut};
 use point_codec::{Cell, Point, from_sortable};
 
 /// The cell of these bytes.
@@ -163,18 +163,6 @@ pub(crate) fn take_byte(b: &[u8]) -> Option<(u8, &[u8])>
         return None;
     };
     Some((*first, rest))
-}
-
-/// The first `n` bytes and the others.
-pub(crate) fn cut(b: &[u8], n: usize) -> Option<(&[u8], &[u8])>
-    ensures found { IfSome result (λ x. (length x.0.now ≡ n) × (b.now ≡ x.0.now ++ x.1.now)) }
-    ensures only { (front rest : List ℕ) → length front ≡ n → b.now ≡ front ++ rest
-        → IsSomeAnd result (λ x. (x.0.now ≡ front) × (x.1.now ≡ rest)) }
-{
-    if b.len() < n {
-        return None;
-    }
-    Some(b.split_at(n))
 }
 
 /// How many bytes the two keys share at the front.

@@ -11,7 +11,8 @@ ghost use Rattle.inner_pack.specs.Bodies.{first_length, place_bytes};
 ghost use Rattle.inner_pack.specs.Spelled.{IsNodeOf, spelled_part, told_part};
 ghost use Rattle.inner_pack.specs.Heads.{IsNodeHead, SaysSplit};
 
-use crate::fields::{cut, take_byte, take_key, take_place, take_vint};
+use crate::fields::{take_byte, take_key, take_place, take_vint};
+use byte_cursor::cut;
 use point_codec::from_sortable;
 
 /// The bytes of a node with all below it.

@@ -11,11 +11,11 @@ ghost use Rattle.inner_pack.specs.Spelled.{spelled_part, told_part, tree_bytes, 
 ghost use Rattle.inner_pack.specs.Heads.{JoinsRoot};
 
 use crate::check::check_node;
-use crate::fields::{cell_of, coordinates, cut, is_cell};
+use crate::fields::{cell_of, coordinates, is_cell};
 use crate::head::NodeBytes;
 use crate::node::NodeAt;
 use crate::place::Mark;
-use byte_cursor::{Bytes, Memory};
+use byte_cursor::{Bytes, Memory, cut};
 use point_codec::{Cell, Point, sortable};
 use std::alloc::Global;
 use std::marker::Model;

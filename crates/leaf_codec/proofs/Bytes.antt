@@ -6,11 +6,13 @@ use Rattle.std.specs.Int.{w32, to_be_bytes, from_be_bytes}
 use Rattle.std.proofs.lemmas.Bool.{cases_lt, lt-ltb, le-ltb, cond-true, cond-false}
 use Rattle.std.proofs.lemmas.List.Elements.{All-head, All-tail, All-drop, All-take}
 use Rattle.std.proofs.Common.{take-add, drop-drop, take_all}
-use Rattle.std.proofs.lemmas.List.{drop_more, get_or_past}
+use Rattle.std.proofs.lemmas.List.{get_or_past}
 use Rattle.std.proofs.lemmas.Nat.{and_mask, be_bytes_4, pow-add, mod-mul-add}
 use Rattle.std.proofs.Math.Nat.{pow-suc}
 use Rattle.point_codec.specs.Keys.{key, rank}
 use Rattle.leaf_codec.specs.Words.{number_of, coordinate, AreBytes}
+use Rattle.byte_cursor.proofs.Lists.{four_at}
+use Rattle.point_codec.proofs.KeyOrder.{rank-lt}
 
 pub number_of-append : (xs ys : List ℕ) → number_of (xs ++ ys) ≡ number_of xs * 256 ^ length ys + number_of ys
 number_of-append [] ys = omega arith
@@ -63,21 +65,6 @@ word_masked bs at w le within bytes =
 pub number_of_four : (a b c d : ℕ) → number_of (a ∷ b ∷ c ∷ d ∷ []) ≡ from_be_bytes w32 (a ∷ b ∷ c ∷ d ∷ [])
 number_of_four a b c d = omega arith
 
--- four bytes, one by one
-pub four_at : (bs : List ℕ) (at : ℕ) → at + 4 ≤ length bs
-    → take 4 (drop at bs) ≡ get_or bs at 0 ∷ get_or bs (at + 1) 0 ∷ get_or bs (at + 2) 0 ∷ get_or bs (at + 3) 0 ∷ []
-four_at bs at within =
-    let d0 = drop_more bs at 0 (omega arith) in
-    let d1 = drop_more bs (at + 1) 0 (omega arith) in
-    let d2 = drop_more bs (at + 2) 0 (omega arith) in
-    let d3 = drop_more bs (at + 3) 0 (omega arith) in
-    let e1 : at + 1 + 1 ≡ at + 2 = omega arith in
-    let e2 : at + 2 + 1 ≡ at + 3 = omega arith in
-    ap (take 4) (d0
-    ∙ ap (λ (t : List ℕ). get_or bs at 0 ∷ t)
-    (d1 ∙ ap (λ (t : List ℕ). get_or bs (at + 1) 0 ∷ t)
-    (ap (λ n. drop n bs) e1 ∙ d2 ∙ ap (λ (t : List ℕ). get_or bs (at + 2) 0 ∷ t) (ap (λ n. drop n bs) e2 ∙ d3))))
-
 -- ---- keys
 
 four_cells : (bs : List ℕ) → length bs ≡ 4 → bs ≡ get_or bs 0 0 ∷ get_or bs 1 0 ∷ get_or bs 2 0 ∷ get_or bs 3 0 ∷ []
@@ -100,10 +87,6 @@ to_be-number_of bs long h = be_bytes_4 bs (number_of bs) long (byte_at bs h) (nu
 
 pub number_of-to_be : (n : ℕ) → n < 2 ^ 32 → number_of (to_be_bytes w32 n) ≡ n
 number_of-to_be n lt = omega arith
-
-pub rank-lt : (x : ℤ) → FitsSigned w32 x → rank x < 2 ^ 32
-rank-lt (pos n) h = omega arith
-rank-lt (negsuc n) h = omega arith
 
 -- the coordinate of a rank
 abbrev pub at_rank : ℕ → ℤ

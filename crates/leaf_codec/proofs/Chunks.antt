@@ -88,11 +88,3 @@ chunks_joined m n bytes long =
   where
     place_is : (i : ℕ) → 0 + place (λ _. m) i ≡ i * m
     place_is i = omega (arith, place_const m i)
-
--- ---- two lists joined of the same lengths
-
-pub split_same : (a b x y : List ℕ) → length a ≡ length b → a ++ x ≡ b ++ y → (a ≡ b) × (x ≡ y)
-split_same a b x y long e = (
-  sym (take_at a x (length b) long) ∙ ap (take (length b)) e ∙ take_at b y (length b) refl,
-  sym (drop_at a x (length b) long) ∙ ap (drop (length b)) e ∙ drop_at b y (length b) refl,
-)

@@ -18,10 +18,11 @@ use Rattle.leaf_codec.specs.Views.{raw_keys_of, IsParts, AreSlots}
 use Rattle.leaf_codec.specs.Words.{number_of, coordinate}
 use Rattle.leaf_codec.specs.declared.read_parts.Parts.{Parts}
 use Rattle.leaf_codec.specs.declared.read_parts.Slots.{Slots}
-use Rattle.leaf_codec.proofs.Bytes.{at_rank, number_of-to_be, rank-lt}
+use Rattle.leaf_codec.proofs.Bytes.{at_rank, number_of-to_be}
 use Rattle.leaf_codec.proofs.ItemsDecoded.{raw_item_is, length-point_at}
 use Rattle.leaf_codec.proofs.KeysLemmas.{get_or-point_at}
 use Rattle.leaf_codec.proofs.ReadKeys.{rank_read}
+use Rattle.point_codec.proofs.KeyOrder.{rank-lt}
 
 -- ---- coordinates of ranks
 

@@ -15,10 +15,11 @@ use Rattle.byte_cursor.specs.Vint.{vint}
 use Rattle.leaf_codec.specs.Words.{number_of, AreBytes}
 use Rattle.leaf_codec.specs.Raw.{RawNumbers, AreRawNumbers, numbers_bytes, offset_at, raw_docs}
 use Rattle.leaf_codec.proofs.Bytes.{number_of-append, number_of-low, number_of-to_be, to_be-number_of}
-use Rattle.leaf_codec.proofs.Chunks.{chunk_at, chunks_joined, flat_map-map-range, split_same}
+use Rattle.leaf_codec.proofs.Chunks.{chunk_at, chunks_joined, flat_map-map-range}
 use Rattle.leaf_codec.proofs.Lists.{flat_map_agree}
 use Rattle.leaf_codec.proofs.NumbersLemmas.{least-le, le-greatest, form_row, form_other, row_at}
 use Rattle.byte_cursor.proofs.SpelledVints.{vint_front}
+use Rattle.byte_cursor.proofs.Lists.{split_same}
 
 -- ---- a number in its last bytes
 

@@ -23,11 +23,11 @@ use Rattle.leaf_codec.proofs.KeysAgain.{keys_again}
 use Rattle.leaf_codec.proofs.KeysLemmas.{AreKeysOf, keys_front, same_keys_of, get_or-raw_items, length-raw_items, get_or-point_at}
 use Rattle.leaf_codec.proofs.KeysOf.{raw_keys, raw_keys_are}
 use Rattle.leaf_codec.proofs.KeysOf.{raw_keys_of as keys_are}
-use Rattle.leaf_codec.proofs.Chunks.{split_same}
 use Rattle.leaf_codec.proofs.Permuted.{leads}
 use Rattle.leaf_codec.proofs.RawNumbersLemmas.{raw_numbers, docs_again, raw_numbers_are, numbers_again, numbers_front}
 use Rattle.leaf_codec.proofs.ReadKeys.{length-key_at, AreBytes-key_at}
 use Rattle.leaf_codec.proofs.ReadNumbers.{length-raw_docs, get_or-raw_docs}
+use Rattle.byte_cursor.proofs.Lists.{split_same}
 
 pub if_none : {X : Type 0} (o : Option X) (P : Type 0) → P → IfNone o P
 if_none None P h = h

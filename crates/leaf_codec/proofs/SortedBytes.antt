@@ -4,9 +4,9 @@ use Rattle.std.specs.List.{flat_map}
 use Rattle.std.proofs.lemmas.Bool.{cases_lt, lt-ltb, le-ltb, cond-true, cond-false}
 use Rattle.leaf_codec.specs.Spelling.{pieces, piece_bytes, sorted_bytes}
 use Rattle.leaf_codec.specs.Words.{pairs_expanded}
-use Rattle.leaf_codec.proofs.Chunks.{split_same}
 use Rattle.leaf_codec.proofs.Lengths.{length-pieces}
 use Rattle.leaf_codec.proofs.Pieces.{pairs_of_pieces}
+use Rattle.byte_cursor.proofs.Lists.{split_same}
 
 pub plain_is : (bs : List ℕ) → length bs ≤ 2 * length (pieces bs) → sorted_bytes bs ≡ 0 ∷ bs
 unfolding sorted_bytes

@@ -7,8 +7,8 @@ use Rattle.leaf_codec.proofs.CanonicalNumbers.{has_words}
 use Rattle.std.proofs.lemmas.Bool.{cases_lt, lt-ltb, le-ltb, cond-true, cond-false}
 use Rattle.leaf_codec.specs.Spelling.{sorted_bytes}
 use Rattle.leaf_codec.specs.Raw.{RawKeys, AreRawKeys, MaySort, start_of, sorted_raw, keys_bytes}
-use Rattle.leaf_codec.proofs.Chunks.{split_same}
 use Rattle.leaf_codec.proofs.SortedBytes.{sorted_front}
+use Rattle.byte_cursor.proofs.Lists.{split_same}
 
 pub lengths_same : (D count : ℕ) (r : RawKeys) (b lengths rest : List ℕ) → AreRawKeys D count r → length lengths ≡ D → b ≡ lengths ++ rest → b ≡ keys_bytes D r
     → (lengths ≡ r.lengths) × (rest ≡ r.prefixes ++ (sorted_raw D r.sorted r.bytes ++ r.rests))

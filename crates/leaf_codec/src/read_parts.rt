@@ -10,6 +10,7 @@ ghost use Rattle.leaf_codec.specs.Words.{number_of, coordinate, AreBytes};
 
 use crate::read_sorted::{Table, take_sorted};
 use crate::words::{mask, word};
+use byte_cursor::cut;
 use point_codec::{Point, from_sortable};
 
 /// What the bytes of a leaf say of its keys.
@@ -83,17 +84,6 @@ fn is_table(table: &Table)
 fn are_bytes(bytes: &[u8])
     ensures { AreBytes bytes.now }
 {}
-
-/// The first `n` bytes and the others.
-fn cut(b: &[u8], n: usize) -> Option<(&[u8], &[u8])>
-    ensures found { IfSome result (λ x. (length x.0.now ≡ n) × (b.now ≡ x.0.now ++ x.1.now)) }
-    ensures only { n ≤ length b.now → IsSome result }
-{
-    if b.len() < n {
-        return None;
-    }
-    Some(b.split_at(n))
-}
 
 /// The sorted dimension, or the number of dimensions where there is none, its bytes, and what follows them.
 fn sorted_at<'a>(b: &'a [u8], lengths: &[u8], count: usize) -> Option<(usize, Table, &'a [u8])>

@@ -2,15 +2,15 @@
 use Rattle.std.proofs.Common.{◌≡◌, ◌≤◌, ◌+◌, ◌^◌, ◌==◌, ℕ, true, false, not, cond, nat_lt, List}
 use Rattle.std.proofs.Common.{[], ◌∷◌, length, fold, Some, None, Ok, Err, refl, ap, ◌∙◌, arith, ℤ}
 use Rattle.std.proofs.lemmas.Bool.Decides.{nat_tests}
-use Rattle.index_model.specs.State.{Index, State, at_rest}
+use Rattle.index_model.specs.State.{Index, State, at_rest, given_of}
 use Rattle.index_model.specs.Script.{Answer}
-use Rattle.index_model.specs.Step.{Done, Refused, step_on}
+use Rattle.index_model.specs.Step.{Done, Refused, step_on, left_by}
 use Rattle.script_lang.specs.Replies.{doc_text}
 use Rattle.script_lang.specs.declared.faults.Refusal.TheVariants as why
 use Rattle.index_core.specs.Whole.{with_point, with_points}
 use Rattle.csv_load.specs.Loading.{points_of, records_of}
 use Rattle.csv_load.specs.declared.CsvFault.{CsvFault}
-use Rattle.load_points.specs.Loaded.{points_answer, dims_text, full_text, given_of, left_by, load_answer, loaded_by}
+use Rattle.load_points.specs.Loaded.{points_answer, dims_text, full_text, load_answer, loaded_by}
 use Rattle.load_points.specs.Loaded.{loaded_text, columns_answer, next_of, opened_state, refusal, with_document, with_documents}
 
 some_inj : {X : Type 0} (x y : X) → Some x ≡ Some y → x ≡ y

@@ -38,7 +38,7 @@ use Rattle.index_core.proofs.Bringing.{brings_then}
 use Rattle.index_core.proofs.Brought.{commit_after, commit_itself}
 use Rattle.index_core.proofs.Listed.{attached_listed, new_canonical}
 use Rattle.index_core.proofs.Undone.{begins_none, fault_kept, levels_after, undone_after}
-use Rattle.index_core.proofs.Wholes.{IsCommitted, does_fault}
+use Rattle.index_core.proofs.Wholes.{CommitSays, does_fault}
 
 abbrev pub Starting : Type 1
 Starting = State → Type 0
@@ -243,54 +243,53 @@ adding_stopped {T = T} D told answer points a b before after fault r is adds =
 -- a fault of the commit after them: what was stored is, or all of it
 pub commit_stopped : {T U : Type 0} (D : ℕ) (told : Type 0) (points : List (List ℤ)) (a b c : SessionMoment) (x : U) (before after : List ℕ) (fault : PageFault)
     (r : Result Bool PageFault) → r ≡ Err fault
-    → a.session.set.given + length points ≤ 2 ^ 24 → Adds D told points a b (Ok x) → IsCommitted {T = T} D told b c (Err fault)
-    → OnDamage {T = T} (Err fault) (IsEvident (told × Trusts D b.files b.session) c.files) → (told → Trusts D b.files b.session → KeepsCommit b.files c.files)
+    → a.session.set.given + length points ≤ 2 ^ 24 → Adds D told points a b (Ok x) → CommitSays {T = T} D told b c (Err fault)
     → Loads told (Trusts D a.files a.session) (IsLoading D a.files a.session) (λ stored. columns_answer D stored points)
     (record { files = a.files; faults = a.faults; text = before }) (record { files = c.files; faults = c.faults; text = after }) r
-commit_stopped {T = T} D told points a b c x before after fault r is fits adds commits evident lasting =
+commit_stopped {T = T} D told points a b c x before after fault r is fits adds commits =
     loads_fault told (Trusts D a.files a.session) (IsLoading D a.files a.session) _ _ _ fault r is
     (λ t stored l. ⊎_elim
     (λ same. inl (stored_still b.files c.files stored same (stored_still a.files b.files stored (adds.kept t l.guards) l.keeps)))
     (λ there. inr (subst (IsStored c.files) (sym (ap (λ (n : Answer). n.state) (fitting D a.files a.session stored points l fits)))
     (subst (λ (i : Index). IsStored c.files (Some i)) (rest_done l.index points (loading_rests D a.files a.session stored l)) there)))
-    (commits.stored t (with_points l.index points) (adds.seen t l.index l.seen) (adds.guards t l.guards)))
-    (λ t stored l. commits.whole t (with_points l.index points) (adds.seen t l.index l.seen))
-    (cause_then a.faults b.faults c.faults (Err fault) adds.cause.fine commits.cause)
+    (commits.durable.stored t (with_points l.index points) (adds.seen t l.index l.seen) (adds.guards t l.guards)))
+    (λ t stored l. commits.faults.whole t (with_points l.index points) (adds.seen t l.index l.seen))
+    (cause_then a.faults b.faults c.faults (Err fault) adds.cause.fine commits.faults.cause)
     (on_evident_less {X = T} (told × Trusts D b.files b.session) (told × Trusts D a.files a.session) c.files (Err fault)
-    (λ h. (h.0, adds_trusts D told points a b (Ok x) adds h.0 h.1)) evident)
-    (λ t h. undone_after {T = T} a.files b.files c.files (Err fault) (adds.kept t h.guards) (commits.undone t (adds.guards t h.guards)))
-    (λ t h. commit_after a.files b.files c.files (adds.kept t h.guards) (lasting t (adds_trusts D told points a b (Ok x) adds t h)))
+    (λ h. (h.0, adds_trusts D told points a b (Ok x) adds h.0 h.1)) commits.faults.evident)
+    (λ t h. undone_after {T = T} a.files b.files c.files (Err fault) (adds.kept t h.guards) (commits.durable.undone t (adds.guards t h.guards)))
+    (λ t h. commit_after a.files b.files c.files (adds.kept t h.guards) (commits.durable.lasting t (adds_trusts D told points a b (Ok x) adds t h)))
 
 -- all came, and are stored
 pub all_loaded : {T U : Type 0} (D : ℕ) (told : Type 0) (points : List (List ℤ)) (a b c : SessionMoment) (x : U) (y : T) (next : ℕ) (before after : List ℕ)
     → a.session.set.given + length points ≤ 2 ^ 24 → next ≡ a.session.set.next → after ≡ before ++ loaded_text (length points) (next + length points)
-    → Adds D told points a b (Ok x) → IsCommitted D told b c (Ok y) → (told → Trusts D b.files b.session → KeepsCommit b.files c.files)
+    → Adds D told points a b (Ok x) → CommitSays D told b c (Ok y)
     → Loads told (Trusts D a.files a.session) (IsLoading D a.files a.session) (λ stored. columns_answer D stored points)
     (record { files = a.files; faults = a.faults; text = before }) (record { files = c.files; faults = c.faults; text = after }) (Ok false)
-all_loaded D told points a b c x y next before after fits first grew adds commits lasting = record {
+all_loaded D told points a b c x y next before after fits first grew adds commits = record {
   does = λ t stored l.
       let at = adds.seen t l.index l.seen in
       subst (λ (n : Answer). DoesWhole c.files stored n before after (Ok false)) (sym (fitting D a.files a.session stored points l fits)) (
         grew ∙ ap (λ n. before ++ loaded_text (length points) (n + length points)) (first ∙ sym l.seen.next),
         refl,
         subst (λ (i : Index). IsStored c.files (Some i)) (rest_done l.index points (loading_rests D a.files a.session stored l))
-            (commits.stored t (with_points l.index points) at (adds.guards t l.guards)).0,
+            (commits.durable.stored t (with_points l.index points) at (adds.guards t l.guards)).0,
       );
   unchanged = λ t e. absurd cc;
   canon = λ t stored l.
       let at = adds.seen t l.index l.seen in
       let guards = adds.guards t l.guards in
       new_canonical D a.files c.files a.session.set c.session (with_points l.index points) l.listed
-      (brings_then D a.files b.files c.files a.session.set.parts b.session.set.parts c.session.set.parts (adds.canon t) (commits.brings t))
-      (commits.seen t (with_points l.index points) at) (commits.guards t guards)
-      (commits.says t guards) commits.unchanged;
+      (brings_then D a.files b.files c.files a.session.set.parts b.session.set.parts c.session.set.parts (adds.canon t) (commits.canon t))
+      (commits.seen t (with_points l.index points) at) (commits.stays.guards t guards)
+      (commits.durable.kept t guards) commits.done.unchanged;
   levels = λ t stored l.
       let begun = begins_none D b.files b.session.set (with_points l.index points) (adds.seen t l.index l.seen)
       (points_begun l.index points ∙ ap (λ (i : Index). i.begun) (sym (loading_rests D a.files a.session stored l))) in
-      levels_after a.files b.files c.files (adds.kept t l.guards) (commits.few t (adds.guards t l.guards) begun);
+      levels_after a.files b.files c.files (adds.kept t l.guards) (commits.done.few t (adds.guards t l.guards) begun);
   undone = λ t h. tt;
-  lasting = λ t h. commit_after a.files b.files c.files (adds.kept t h.guards) (lasting t (adds_trusts D told points a b (Ok x) adds t h));
-  cause = let one = adds.cause.fine in let two = commits.cause.fine in let late = adds.cause.later in let more = commits.cause.later in
+  lasting = λ t h. commit_after a.files b.files c.files (adds.kept t h.guards) (commits.durable.lasting t (adds_trusts D told points a b (Ok x) adds t h));
+  cause = let one = adds.cause.fine in let two = commits.faults.cause.fine in let late = adds.cause.later in let more = commits.faults.cause.later in
       record { later = omega arith; fine = two ∙ one; failed = λ e. absurd cc };
   evident = tt;
 }

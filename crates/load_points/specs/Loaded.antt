@@ -4,18 +4,14 @@ use Rattle.std.specs.Prelude.{slice_index_or, None, Some, Result, Ok, Err, codes
 use Rattle.script_lang.specs.Reading.{greatest_leaf}
 use Rattle.script_lang.specs.Replies.{text_line}
 use Rattle.script_lang.specs.Requests.{Add}
-use Rattle.index_model.specs.State.{State, new_index}
-use Rattle.index_model.specs.Step.{Outcome, Done, Refused, step}
+use Rattle.index_model.specs.State.{State, new_index, given_of}
+use Rattle.index_model.specs.Step.{step, left_by}
 use Rattle.index_model.specs.Script.{Answer}
 use Rattle.csv_load.specs.Loading.{points_of, records_of}
 use Rattle.csv_load.specs.declared.CsvFault.{CsvFault}
 use Rattle.csv_load.specs.declared.CsvFault.TheVariants as fault
 
 -- ---- the documents
-
-abbrev pub left_by : State → Outcome → State
-left_by state (Done after text) = after
-left_by state (Refused cause) = state
 
 -- the state with a document of one point
 abbrev pub with_document : State → List ℤ → State
@@ -33,10 +29,6 @@ with_documents dims state points = fold with_document (opened_state dims state) 
 abbrev pub next_of : State → ℕ
 next_of None = 0
 next_of (Some i) = i.next
-
-abbrev pub given_of : State → ℕ
-given_of None = 0
-given_of (Some i) = i.given
 
 -- ---- the refusals
 

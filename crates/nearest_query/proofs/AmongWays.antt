@@ -8,10 +8,10 @@ use Rattle.std.specs.declared.cmp.Ordering.TheVariants.{Less, Equal, Greater}
 use Rattle.std.specs.List.{All, AllPairs, Contains}
 use Rattle.std.specs.Ordering.{is_lt}
 use Rattle.point_codec.specs.declared.entries.Near.{Near}
-use Rattle.documents.proofs.Lists.{pairs_append, pairs_head, pairs_tail, cons_cases}
+use Rattle.documents.proofs.Lists.{pairs_append, pairs_head, pairs_tail, cons_cases, cons_tail, cons_head}
 use Rattle.documents.specs.NearestEntries.{ComesBefore, IsNearest}
 use Rattle.nearest_query.specs.Best.{near_cmp, IsInsertedAmong}
-use Rattle.nearest_query.proofs.Order.{before_from_less, before_trans, cons_head, cons_tail}
+use Rattle.nearest_query.proofs.Order.{before_from_less, before_trans}
 use Rattle.nearest_query.proofs.Among.{pairs_left, pairs_right, pairs_across, parted, last_of, put_nearest}
 
 -- ---- the three ways

@@ -16,11 +16,11 @@ use Rattle.nearest_query.specs.Best.{found_of}
 use Rattle.nearest_query.specs.Segments.{is_within, bound_of, last_of}
 use Rattle.nearest_query.specs.Fronts.{leaf_sum, sum_below}
 use Rattle.nearest_query.specs.Search.{World, IsNode, IsSought, nears_at}
-use Rattle.nearest_query.proofs.Order.{same_near, cons_head, cons_tail, nil_none}
+use Rattle.nearest_query.proofs.Order.{same_near}
 use Rattle.nearest_query.proofs.Links.{by_test}
 use Rattle.nearest_query.proofs.Distances.{zero_node}
 use Rattle.nearest_query.proofs.Unique.{pairs_head, pairs_tail, nearest_unique, nearest_wider, nearest_narrower}
-use Rattle.documents.proofs.Lists.{cons_cases}
+use Rattle.documents.proofs.Lists.{cons_cases, cons_tail, nil_none, cons_head}
 
 -- ---- membership by totals
 

@@ -4,8 +4,7 @@ use Rattle.std.proofs.lemmas.List.Elements.{All-contains, All-contains_itself, A
 use Rattle.std.specs.List.{All, AllPairs, Contains}
 use Rattle.point_codec.specs.declared.entries.Near.{Near}
 use Rattle.documents.specs.NearestEntries.{ComesBefore, HasNumber, IsNearest}
-use Rattle.nearest_query.proofs.Order.{cons_head, cons_tail, nil_none}
-use Rattle.documents.proofs.Lists.{cons_cases}
+use Rattle.documents.proofs.Lists.{cons_cases, cons_tail, nil_none, cons_head}
 
 -- no entry, and none found
 pub none_nearest : (k : ℕ) (found : List Near) → found ≡ [] → IsNearest k [] found

@@ -1,9 +1,9 @@
 -- The order by distance and number.
-use Rattle.std.proofs.Common.{◌≡◌, ℕ, ◌≤◌, ◌<◌, false, List, [], ◌∷◌, get_or, zero, suc, refl, arith}
+use Rattle.std.proofs.Common.{◌≡◌, ℕ, ◌≤◌, ◌<◌, false, List, get_or, arith}
 use Rattle.std.proofs.lemmas.Bool.Decides.{nat_tests}
 use Rattle.std.proofs.lemmas.Map.Keys.{Less-from_sorted}
 use Rattle.std.proofs.lemmas.Map.Lookups.{exact_unsigned, exact_pairs}
-use Rattle.std.specs.List.{AllPairs, Contains}
+use Rattle.std.specs.List.{AllPairs}
 use Rattle.std.specs.List.Sorted.{IsStrictlySortedBy}
 use Rattle.std.specs.declared.cmp.Ordering.TheVariants.{Less, Equal}
 use Rattle.std.specs.Ordering.{nat_cmp, ordering_then, is_lt}
@@ -57,12 +57,3 @@ before_itself a h = let s : a.dist2 ≤ a.dist2 = omega arith in h.tie s
 
 pub pairs_from_sorted : (ks : List Near) → IsStrictlySortedBy near_cmp ks → AllPairs ComesBefore ks
 pairs_from_sorted ks up = λ i j d h k. before_from_less (get_or ks i d) (get_or ks j d) (Less-from_sorted near_cmp ks i j d up h k)
-
-pub cons_head : {X : Type 0} (x : X) (xs : List X) → Contains (x ∷ xs) x
-cons_head x xs = (zero, omega arith, refl)
-
-pub cons_tail : {X : Type 0} (x : X) (xs : List X) (y : X) → Contains xs y → Contains (x ∷ xs) y
-cons_tail x xs y (k, h, e) = (suc k, omega arith, e)
-
-pub nil_none : {X : Type 0} (y : X) (P : Type 0) → Contains {X = X} [] y → P
-nil_none y P (k, h, e) = absurd (omega arith)

@@ -26,7 +26,8 @@ use Rattle.nearest_query.specs.Fronts.{Front, IsWaiting, leaf_sum, sum_below}
 use Rattle.nearest_query.specs.Search.{World, IsNode, HasLeaves, HasRoots, head_at, live_at, nears_at, one_within, no_live}
 use Rattle.nearest_query.specs.Segments.{no_head}
 use Rattle.nearest_query.proofs.Turns.{span_split, span_one, waiting_sum}
-use Rattle.nearest_query.proofs.Steps.{nodes_put, some_leaf}
+use Rattle.nearest_query.proofs.Steps.{nodes_put}
+use Rattle.segment_file.proofs.Subtrees.{some_leaf}
 
 pub shaped_count : (n : ℕ) (t : IndexTree) → IsShaped n t → n ≡ leaf_count t
 shaped_count n (Leaf len own) h = h

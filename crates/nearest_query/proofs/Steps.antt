@@ -1,5 +1,5 @@
 -- The steps of a search.
-use Rattle.std.proofs.Common.{◌≡◌, ℕ, ◌+◌, ◌≤◌, ◌<◌, true, cond, List, ◌∷◌, length, ℤ, Option, Result, refl, sym, ap, subst, ◌∙◌, arith}
+use Rattle.std.proofs.Common.{◌≡◌, ℕ, ◌+◌, ◌<◌, true, cond, List, ◌∷◌, length, ℤ, Option, Result, refl, sym, ap, subst, ◌∙◌, arith}
 use Rattle.std.proofs.lemmas.List.{length-set}
 use Rattle.std.proofs.lemmas.List.Sums.{sum_by-cons}
 use Rattle.std.proofs.lemmas.List.Sorted.{All-permutation, sum_by-IsPermutation}
@@ -29,18 +29,8 @@ use Rattle.nearest_query.specs.Best.{AreBest, AreAdded}
 use Rattle.nearest_query.specs.Segments.{live_items, least_dist2, is_within}
 use Rattle.nearest_query.specs.Fronts.{Front, IsWaiting, leaf_sum, sum_below}
 use Rattle.nearest_query.specs.Search.{World, IsNode, IsSought, HasLeaves, head_at, live_at, nears_at, one_within}
-use Rattle.nearest_query.proofs.Results.{on_ok}
 use Rattle.nearest_query.proofs.Turns.{span_split, span_one, turn_of, waiting_sum, stands_new, stands_still}
-
--- a tree has a leaf
-pub some_leaf : (t : IndexTree) → 1 ≤ leaf_count t
-some_leaf (Leaf len own) = omega arith
-some_leaf (Split d x l r) = let a = some_leaf l in omega (arith, a)
-
--- a tree of one leaf is one
-pub one_leaf_tree : (P : IndexTree → Type 0) (t : IndexTree) → leaf_count t ≡ 1 → ((len : ℕ) (own : Region) → P (Leaf len own)) → P t
-one_leaf_tree P (Leaf len own) h f = f len own
-one_leaf_tree P (Split d x l r) h f = let a = some_leaf l in let b = some_leaf r in absurd (omega (arith, a, b, h))
+use Rattle.segment_file.proofs.Subtrees.{only_leaf, on_ok}
 
 -- a node that is put is one of its segment's tree, and those that waited stay so
 pub nodes_put : {D : ℕ} (w : World) (at : List ℤ) (seg : ℕ) (node : NodeAt D) (old new : Front D) (first : ℕ) (s : Spot) (path : Region) (t : IndexTree)
@@ -179,7 +169,7 @@ pub leaf_step : {D : ℕ} {T E : Type 0} (w : World) (all : List Near) (next : W
     → Opens w.at w.files (head_at w next.segment) (live_at w next.segment) node r old new
     → OnOk r (IsSought D w all turns nodes new)
 leaf_step {D} w all next turns nodes node old new r s single node_is opens =
-    (one_leaf_tree (λ t. IsAt node next.first n.spot n.path t → HasLeaves D w next.segment next.first n.spot t → OnOk r (IsSought D w all turns nodes new))
+    (only_leaf (λ t. IsAt node next.first n.spot n.path t → HasLeaves D w next.segment next.first n.spot t → OnOk r (IsSought D w all turns nodes new))
     n.tree is_one
     (λ len own is leaves. on_ok (AreAdded s.seen (nears_at w next.segment next.first) new) (IsSought D w all turns nodes new) r after
     (opens next.first n.spot n.path len own (w.table next.segment next.first) s.seen is leaves.0 s.best)))
@@ -214,7 +204,7 @@ leaf_counts {D} w bound nodes next n single in' =
     ap (λ k. leaf_sum (one_within w bound) next.segment next.first k) (n.count ∙ sym n.node_count ∙ single)
     ∙ span_one (one_within w bound) next.segment next.first
     ∙ ap (λ b. cond b 1 0)
-    (one_leaf_tree
+    (only_leaf
     (λ t. HasLeaves D w next.segment next.first n.spot t → next.dist2.0 ≡ least_dist2 w.at (cell_of n.path t)
     → is_within bound (w.least next.segment next.first) ≡ true) n.tree (sym n.node_count ∙ single)
     (λ len own leaves dist. ap (is_within bound) (leaves.1 ∙ sym dist) ∙ in') n.leaves n.dist)
@@ -238,7 +228,7 @@ pub leaf_whole : {D : ℕ} {T : Type 0} (w : World) (next : Waiting) (nodes : Li
     → (n : IsNode D w nodes next) → node.leaves ≡ 1 → node ≡ n.node
     → OpensWhole w.files (head_at w next.segment) node r → NotDamaged r
 leaf_whole {D} w next nodes node r n single same opens =
-    (one_leaf_tree (λ t. IsAt node next.first n.spot n.path t → HasLeaves D w next.segment next.first n.spot t → NotDamaged r) n.tree
+    (only_leaf (λ t. IsAt node next.first n.spot n.path t → HasLeaves D w next.segment next.first n.spot t → NotDamaged r) n.tree
     (sym n.node_count ∙ ap (λ m. m.leaves) (sym same) ∙ single)
     (λ len own is leaves. opens next.first n.spot n.path len own (w.table next.segment next.first) is leaves.0))
     (subst (λ m. IsAt m next.first n.spot n.path n.tree) (sym same) n.is) n.leaves

@@ -14,8 +14,8 @@ use Rattle.point_codec.specs.declared.entries.Near.{Near}
 use Rattle.documents.specs.NearestEntries.{ComesBefore, HasNumber, IsNearest}
 use Rattle.nearest_query.specs.Best.{near_cmp}
 use Rattle.nearest_query.proofs.Order.{near_total, near_exact, same_near, less_from_before, before_itself}
-use Rattle.nearest_query.proofs.Order.{before_trans, cons_head, cons_tail, nil_none}
-use Rattle.documents.proofs.Lists.{cons_cases}
+use Rattle.nearest_query.proofs.Order.{before_trans}
+use Rattle.documents.proofs.Lists.{cons_cases, cons_tail, nil_none, cons_head}
 use Rattle.documents.proofs.Kept.{same_tests}
 
 no_near : Near

@@ -1,10 +1,6 @@
 -- Notes are the same where all their numbers are; a note that fits may be put beside others; a value that is written back changes nothing.
-use Rattle.std.proofs.Common.{◌≡◌, ℕ, zero, suc, ◌⊎◌, inl, inr, Bool, true, false, cond, List, [], ◌∷◌, set, Contains, Some, refl, sym, ap, ◌∙◌, subst, ℤ}
+use Rattle.std.proofs.Common.{◌≡◌, ℕ, zero, suc, ◌⊎◌, inl, inr, Bool, true, false, cond, List, [], ◌∷◌, set, Contains, Some, refl, sym, ap, ◌∙◌, subst}
 use Rattle.std.specs.Map.{lookup, set_value}
-use Rattle.std.specs.Ordering.{int_eq}
-use Rattle.std.proofs.lemmas.Bool.{and_parts}
-use Rattle.std.proofs.lemmas.Bool.Decides.{Decides-int_eq}
-use lib.Pointwise.{pointwise}
 use Rattle.std.specs.declared.boxed.Box.{Box}
 use Rattle.std.specs.declared.alloc.Global.{Global}
 use Rattle.lru.proofs.Splits.{Contains-head, Contains-tail, Contains-cons, Contains-nil}
@@ -13,16 +9,6 @@ use Rattle.page_cache.specs.Keys.{Kept, same_key}
 use Rattle.page_cache.specs.Notes.{Fits, AllFit}
 use Rattle.page_cache.specs.declared.key.PageKey.{PageKey}
 use Rattle.page_cache.specs.declared.note.LeafNote.{LeafNote}
-
-pub same_numbers : (xs ys : List ℤ) → pointwise int_eq xs ys ≡ true → xs ≡ ys
-same_numbers [] [] h = refl
-same_numbers [] (y ∷ ys) h = cc
-same_numbers (x ∷ xs) [] h = cc
-same_numbers (x ∷ xs) (y ∷ ys) h =
-    let parts = and_parts (int_eq x y) (pointwise int_eq xs ys) h in
-    let here = (Decides-int_eq x y).0 parts.0 in
-    let rest = same_numbers xs ys parts.1 in
-    λ i. here i ∷ rest i
 
 pub same_note : (a b : LeafNote) → a.dims ≡ b.dims → a.offset ≡ b.offset → a.length ≡ b.length → a.count ≡ b.count → a.lo ≡ b.lo → a.hi ≡ b.hi → a ≡ b
 same_note a b dims offset len count lo hi = λ i. record { dims = dims i; offset = offset i; length = len i; count = count i; lo = lo i; hi = hi i }

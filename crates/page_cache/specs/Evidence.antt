@@ -89,36 +89,18 @@ IsSizeOf asks files file size needed = IsShort files file size needed ⊎ HasOth
 
 -- where the damage is one of size, so many bytes were needed
 abbrev pub SizeNeeds : ℕ → Damage → Type 0
-SizeNeeds most (Page file number bytes) = Unit {0}
-SizeNeeds most (Leaf file number offset len bytes) = Unit {0}
-SizeNeeds most (Body file bytes) = Unit {0}
-SizeNeeds most (Missing file) = Unit {0}
 SizeNeeds most (Size file size needed) = needed ≡ most
-SizeNeeds most (Unequal file said found) = Unit {0}
-SizeNeeds most (Beyond doc next) = Unit {0}
-SizeNeeds most (Doubled doc) = Unit {0}
+SizeNeeds most _ = Unit {0}
 
 -- where the damage is one of size, no more than so many bytes were needed
 abbrev pub SizeWithin : ℕ → Damage → Type 0
-SizeWithin most (Page file number bytes) = Unit {0}
-SizeWithin most (Leaf file number offset len bytes) = Unit {0}
-SizeWithin most (Body file bytes) = Unit {0}
-SizeWithin most (Missing file) = Unit {0}
 SizeWithin most (Size file size needed) = needed ≤ most
-SizeWithin most (Unequal file said found) = Unit {0}
-SizeWithin most (Beyond doc next) = Unit {0}
-SizeWithin most (Doubled doc) = Unit {0}
+SizeWithin most _ = Unit {0}
 
 -- the damage is that the file has this size and needs another
 abbrev pub IsSizeDamage : FileName → ℕ → ℕ → Damage → Type 0
 IsSizeDamage name had most (Size file size needed) = (file ≡ name) × (size ≡ had) × (needed ≡ most)
-IsSizeDamage name had most (Page file number bytes) = ⊥
-IsSizeDamage name had most (Leaf file number offset len bytes) = ⊥
-IsSizeDamage name had most (Body file bytes) = ⊥
-IsSizeDamage name had most (Missing file) = ⊥
-IsSizeDamage name had most (Unequal file said found) = ⊥
-IsSizeDamage name had most (Beyond doc next) = ⊥
-IsSizeDamage name had most (Doubled doc) = ⊥
+IsSizeDamage name had most _ = ⊥
 
 -- ---- the damages of one page, and of pages of one file
 
@@ -127,23 +109,13 @@ abbrev pub IsPageDamage : FileName → ℕ → Damage → Type 0
 IsPageDamage name n (Page file number bytes) = (file ≡ name) × (number ≡ n)
     × (IsPage (kind_of file) (number_of file) number bytes.value.b → ⊥)
 IsPageDamage name n (Size file size needed) = (file ≡ name) × (needed ≡ 4096 * (n + 1)) × (size < needed)
-IsPageDamage name n (Leaf file number offset len bytes) = ⊥
-IsPageDamage name n (Body file bytes) = ⊥
-IsPageDamage name n (Missing file) = ⊥
-IsPageDamage name n (Unequal file said found) = ⊥
-IsPageDamage name n (Beyond doc next) = ⊥
-IsPageDamage name n (Doubled doc) = ⊥
+IsPageDamage name n _ = ⊥
 
 -- and it is true of the files
 abbrev pub IsPageDamageOf : Files → ℕ → Damage → Type 0
 IsPageDamageOf files n (Page file number bytes) = IsPageOf files file number bytes.value.b
 IsPageDamageOf files n (Size file size needed) = size ≡ seen_end files file n
-IsPageDamageOf files n (Leaf file number offset len bytes) = ⊥
-IsPageDamageOf files n (Body file bytes) = ⊥
-IsPageDamageOf files n (Missing file) = ⊥
-IsPageDamageOf files n (Unequal file said found) = ⊥
-IsPageDamageOf files n (Beyond doc next) = ⊥
-IsPageDamageOf files n (Doubled doc) = ⊥
+IsPageDamageOf files n _ = ⊥
 
 -- the file isn't there, or has another size than is needed, or one of its pages is none for its place
 abbrev pub IsFileDamage : FileName → Damage → Type 0
@@ -151,19 +123,11 @@ IsFileDamage name (Page file number bytes) = (file ≡ name)
     × (IsPage (kind_of file) (number_of file) number bytes.value.b → ⊥)
 IsFileDamage name (Missing file) = file ≡ name
 IsFileDamage name (Size file size needed) = (file ≡ name) × (size ≢ needed)
-IsFileDamage name (Leaf file number offset len bytes) = ⊥
-IsFileDamage name (Body file bytes) = ⊥
-IsFileDamage name (Unequal file said found) = ⊥
-IsFileDamage name (Beyond doc next) = ⊥
-IsFileDamage name (Doubled doc) = ⊥
+IsFileDamage name _ = ⊥
 
 -- and it is true of the files
 abbrev pub IsFileDamageOf : Files → Damage → Type 0
 IsFileDamageOf files (Page file number bytes) = IsPageOf files file number bytes.value.b
 IsFileDamageOf files (Missing file) = files file ≡ None
 IsFileDamageOf files (Size file size needed) = IsCut files file size needed
-IsFileDamageOf files (Leaf file number offset len bytes) = ⊥
-IsFileDamageOf files (Body file bytes) = ⊥
-IsFileDamageOf files (Unequal file said found) = ⊥
-IsFileDamageOf files (Beyond doc next) = ⊥
-IsFileDamageOf files (Doubled doc) = ⊥
+IsFileDamageOf files _ = ⊥

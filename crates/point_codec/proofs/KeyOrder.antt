@@ -68,3 +68,7 @@ rank_below (negsuc a) f = omega (arith, f.sfits)
 
 pub keys_cmp : (x y : ℤ) → FitsSigned w32 x → FitsSigned w32 y → slice_cmp nat_cmp (key x) (key y) ≡ int_cmp x y
 keys_cmp x y f g = bytes_cmp (rank x) (rank y) (rank_below x f) (rank_below y g) ∙ rank_cmp x y f g
+
+pub rank-lt : (x : ℤ) → FitsSigned w32 x → rank x < 2 ^ 32
+rank-lt (pos n) h = omega arith
+rank-lt (negsuc n) h = omega arith

@@ -3,3 +3,4 @@ pub mod Distances
 pub mod KeyOrder
 pub mod LeastCells
 pub mod Ordered
+pub mod Sizes

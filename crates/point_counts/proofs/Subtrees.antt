@@ -20,8 +20,9 @@ use Rattle.inner_pack.specs.declared.place.LeafPlace.{LeafPlace}
 use Rattle.segment_file.specs.Heads.{Head, count_of}
 use Rattle.segment_file.specs.Segments.{HoldsLeaf, HoldsTree}
 use Rattle.bkd_reader.proofs.Cells.{all_left, all_right, all_cell}
-use Rattle.bkd_reader.proofs.Trees.{count_at, only_leaf}
+use Rattle.bkd_reader.proofs.Trees.{count_at}
 use Rattle.point_counts.specs.Costs.{opened_below}
+use Rattle.segment_file.proofs.Subtrees.{only_leaf}
 
 -- ---- one leaf
 

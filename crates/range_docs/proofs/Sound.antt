@@ -1,7 +1,7 @@
 -- What a line asks is within the limits, what it names are ranges, and no line fails for want of memory.
-use Rattle.std.proofs.Common.{◌≡◌, ℕ, ◌+◌, ◌*◌, ◌/◌, ◌%◌, ◌==◌, ◌≤◌, ◌&&◌, Bool, true, false, cond, List, [], ◌∷◌, Option, Some, None, Result, Ok, Err, arith}
+use Rattle.std.proofs.Common.{◌≡◌, ℕ, ◌*◌, ◌/◌, ◌%◌, ◌==◌, ◌≤◌, ◌&&◌, Bool, true, false, cond, List, [], ◌∷◌, Some, None, Result, Ok, Err, arith}
 use Rattle.std.proofs.Common.{refl, sym, subst, ℤ}
-use Rattle.std.specs.Prelude.{◌≢◌, not, ok_or, IfOk, All, FitsSigned}
+use Rattle.std.specs.Prelude.{◌≢◌, not, IfOk, All, FitsSigned}
 use Rattle.std.proofs.Common.{length, ◌∙◌}
 use Rattle.std.specs.List.{list_all, Contains as HasElement}
 use Rattle.std.proofs.lemmas.List.Elements.{All-contains, All-contains_itself, All-weaker}
@@ -13,10 +13,11 @@ use Rattle.number_text.specs.Number.{coordinate, number}
 use Rattle.point_codec.specs.Points.{Region, ordered_points}
 use Rattle.script_lang.specs.Requests.{Request, Viewed}
 use Rattle.script_lang.specs.Requests as asks
-use Rattle.script_lang.specs.Reading.{Reading, Says, Fails, greatest_leaf, is_from_to, on_success, value_of}
-use Rattle.script_lang.specs.Reading.{values_of, onto_values, name_of, word_alone, create_reading}
+use Rattle.script_lang.specs.Reading.{Reading, Says, Fails, greatest_leaf, is_from_to, on_success}
+use Rattle.script_lang.specs.Reading.{values_of, word_alone, create_reading}
 use Rattle.script_lang.specs.Reading.{read_add, read_merge, query_of, box_of, pieces, points_of, text_of, read}
 use Rattle.script_lang.specs.Lines.{words_of}
+use Rattle.script_lang.proofs.Limits.{IsPart, value_part, values_part, name_part}
 use Rattle.script_lang.specs.Seen.{IsWithinLimits, first_request_of}
 use Rattle.script_lang.specs.declared.commands.First.{First}
 use Rattle.script_lang.specs.declared.faults.LineFault.{LineFault}
@@ -54,48 +55,9 @@ if_fine : (b : Bool) {x y : Reading} → IsFine x → IsFine y → IsFine (cond 
 if_fine true held other = held
 if_fine false held other = other
 
-abbrev Remembers : {X : Type 0} → Result X LineFault → Type 0
-Remembers (Ok x) = Unit {0}
-Remembers (Err f) = f ≢ line.Memory
-
-record IsPart {X : Type 0} (part : Result X LineFault) : Type 0 where
-  remembers : Remembers part
-
-there : {X : Type 0} (x : X) → IsPart (Ok x)
-there x = record { remembers = tt }
-
-not_there : {X : Type 0} (f : LineFault) → f ≢ line.Memory → IsPart {X = X} (Err f)
-not_there f h = record { remembers = h }
-
 given_fine : {X : Type 0} {part : Result X LineFault} {next : X → Reading} → IsPart part → ((x : X) → IsFine (next x)) → IsFine (on_success part next)
 given_fine {X} {part = Ok x} {next} p fine = fine x
 given_fine {X} {part = Err f} {next} p fine = fails f p.remembers
-
-value_part : {X : Type 0} (value : List ℕ → Option X) (place : ℕ) (word : List ℕ) → IsPart (value_of value place word)
-value_part value place word =
-    elim (value word) as (λ v. IsPart (ok_or v (line.Number place))) [
-      | Some x ↦ there x
-      | None ↦ not_there (line.Number place) (λ e. cc)
-    ]
-
-onto_part : {X : Type 0} (one : Result X LineFault) (others : Result (List X) LineFault) → IsPart one → IsPart others → IsPart (onto_values one others)
-onto_part (Err f) others first rest = not_there f first.remembers
-onto_part (Ok x) (Err f) first rest = not_there f rest.remembers
-onto_part (Ok x) (Ok xs) first rest = there (x ∷ xs)
-
-values_part : {X : Type 0} (value : List ℕ → Option X) (place : ℕ) (words : List (List ℕ)) → IsPart (values_of value place words)
-values_part value place [] = there []
-values_part value place (w ∷ ws) =
-    onto_part (value_of value place w) (values_of value (place + 1) ws) (value_part value place w) (values_part value (place + 1) ws)
-
-if_part : {X : Type 0} (b : Bool) {x y : Result X LineFault} → IsPart x → IsPart y → IsPart (cond b x y)
-if_part true held other = held
-if_part false held other = other
-
-name_part : (words : List (List ℕ)) → IsPart (name_of words)
-unfolding name_of
-name_part [] = not_there line.Words (λ e. cc)
-name_part (w ∷ ws) = if_part _ (if_part _ (there _) (not_there line.Words (λ e. cc))) (not_there line.BadName (λ e. cc))
 
 alone_fine : (words : List (List ℕ)) (request : Request) → IsFine (Says request) → IsFine (word_alone words request)
 alone_fine [] request fine = fine

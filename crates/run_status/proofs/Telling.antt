@@ -15,7 +15,7 @@ use Rattle.run_status.specs.declared.stop.Stop.{Stop}
 use Rattle.run_status.specs.declared.stop.Stop.TheVariants as stop
 use Rattle.run_status.proofs.Ending.{counted}
 
-step_length : (line : ℕ) (ls : List (List ℕ)) → line + 1 + length ls ≡ line + suc (length ls)
+pub step_length : (line : ℕ) (ls : List (List ℕ)) → line + 1 + length ls ≡ line + suc (length ls)
 step_length line ls = omega arith
 
 follow_assoc : (a b c : Told) → followed_by (followed_by a b) c ≡ followed_by a (followed_by b c)

@@ -25,13 +25,14 @@ Within (Fails f) = f ≢ fault.Memory
 record IsFine (reading : Reading) : Type 0 where
   within : Within reading
 
-abbrev Remembers : {X : Type 0} → Result X LineFault → Type 0
+-- it fails, if at all, for another reason than want of memory
+abbrev pub Remembers : {X : Type 0} → Result X LineFault → Type 0
 Remembers (Ok x) = Unit {0}
 Remembers (Err f) = f ≢ fault.Memory
 
 -- what every part of a line reads as
-record IsPart {X : Type 0} (part : Result X LineFault) : Type 0 where
-  remembers : Remembers part
+pub record IsPart {X : Type 0} (part : Result X LineFault) : Type 0 where
+  pub remembers : Remembers part
 
 says : (request : Request) → IsWithinLimits request → IsFine (Says request)
 says request h = record { within = h }
@@ -39,17 +40,17 @@ says request h = record { within = h }
 fails : (f : LineFault) → f ≢ fault.Memory → IsFine (Fails f)
 fails f h = record { within = h }
 
-there : {X : Type 0} (x : X) → IsPart (Ok x)
+pub there : {X : Type 0} (x : X) → IsPart (Ok x)
 there x = record { remembers = tt }
 
-not_there : {X : Type 0} (f : LineFault) → f ≢ fault.Memory → IsPart {X = X} (Err f)
+pub not_there : {X : Type 0} (f : LineFault) → f ≢ fault.Memory → IsPart {X = X} (Err f)
 not_there f h = record { remembers = h }
 
 if_fine : (b : Bool) {r s : Reading} → IsFine r → IsFine s → IsFine (cond b r s)
 if_fine true held other = held
 if_fine false held other = other
 
-if_part : {X : Type 0} (b : Bool) {r s : Result X LineFault} → IsPart r → IsPart s → IsPart (cond b r s)
+pub if_part : {X : Type 0} (b : Bool) {r s : Result X LineFault} → IsPart r → IsPart s → IsPart (cond b r s)
 if_part true held other = held
 if_part false held other = other
 
@@ -57,16 +58,16 @@ given_fine : {X : Type 0} {part : Result X LineFault} {next : X → Reading} →
 given_fine {X} {part = Ok x} {next} p fine = fine x
 given_fine {X} {part = Err f} {next} p fine = fails f p.remembers
 
-value_part : {X : Type 0} (value : List ℕ → Option X) (place : ℕ) (word : List ℕ) → IsPart (value_of value place word)
+pub value_part : {X : Type 0} (value : List ℕ → Option X) (place : ℕ) (word : List ℕ) → IsPart (value_of value place word)
 value_part value place word =
     elim (value word) as (λ v. IsPart (ok_or v (fault.Number place))) [ Some x ↦ there x | None ↦ not_there (fault.Number place) (λ e. cc) ]
 
-onto_part : {X : Type 0} (one : Result X LineFault) (others : Result (List X) LineFault) → IsPart one → IsPart others → IsPart (onto_values one others)
+pub onto_part : {X : Type 0} (one : Result X LineFault) (others : Result (List X) LineFault) → IsPart one → IsPart others → IsPart (onto_values one others)
 onto_part (Err f) others first rest = not_there f first.remembers
 onto_part (Ok x) (Err f) first rest = not_there f rest.remembers
 onto_part (Ok x) (Ok xs) first rest = there (x ∷ xs)
 
-values_part : {X : Type 0} (value : List ℕ → Option X) (place : ℕ) (words : List (List ℕ)) → IsPart (values_of value place words)
+pub values_part : {X : Type 0} (value : List ℕ → Option X) (place : ℕ) (words : List (List ℕ)) → IsPart (values_of value place words)
 values_part value place [] = there []
 values_part value place (w ∷ ws) =
     onto_part (value_of value place w) (values_of value (place + 1) ws) (value_part value place w) (values_part value (place + 1) ws)
@@ -91,7 +92,7 @@ unfolding query_of
 query_part [] = there _
 query_part (w ∷ ws) = if_part _ (if_part _ (there _) (not_there fault.BadName (λ e. cc))) (there _)
 
-name_part : (words : List (List ℕ)) → IsPart (name_of words)
+pub name_part : (words : List (List ℕ)) → IsPart (name_of words)
 unfolding name_of
 name_part [] = not_there fault.Words (λ e. cc)
 name_part (w ∷ ws) = if_part _ (if_part _ (there _) (not_there fault.Words (λ e. cc))) (not_there fault.BadName (λ e. cc))

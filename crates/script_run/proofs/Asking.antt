@@ -10,11 +10,11 @@ use Rattle.script_lang.specs.Requests.{Request}
 use Rattle.script_lang.specs.Requests as asks
 use Rattle.script_lang.specs.Replies.{doc_text}
 use Rattle.script_lang.specs.declared.faults.Refusal.TheVariants as why
-use Rattle.index_model.specs.State.{Index, State, snapshot_of, viewed_docs}
+use Rattle.index_model.specs.State.{Index, State, snapshot_of, viewed_docs, given_of}
 use Rattle.index_model.specs.Step.{Outcome, Done, Refused, query_outcome, done_ok, step, step_on}
 use Rattle.index_model.specs.Script.{Answer, answer_to}
 use Rattle.index_core.specs.Light.{is_light, points_in}
-use Rattle.script_run.specs.Costs.{AsksOnly, begins_no_merge, given_of, is_query}
+use Rattle.script_run.specs.Costs.{AsksOnly, begins_no_merge, is_query}
 use Rattle.script_run.specs.Languages.{LineRequest, answer, answer_of, line_request, meaning}
 use Rattle.script_run.specs.Script.{state_after}
 use Rattle.script_run.specs.declared.language.Language.{Language}

@@ -1,7 +1,6 @@
 -- How the lines of a script are joined to those before them.
-use Rattle.std.proofs.Common.{◌≡◌, ℕ, suc, ◌+◌, List, [], ◌∷◌, ◌++◌, length, Result, Ok, Err, refl, sym, ap, ◌∙◌, subst, ◌⊎◌}
+use Rattle.std.proofs.Common.{◌≡◌, ℕ, ◌+◌, List, [], ◌∷◌, ◌++◌, length, Result, Ok, Err, refl, sym, ap, ◌∙◌, subst, ◌⊎◌}
 use Rattle.std.proofs.Common.{append_assoc, append-nil, add_assoc, zero-add, add-zero, arith, length-append}
-use mir.Val.{bool_byte}
 use Rattle.outer_io.specs.Files.{Files}
 use Rattle.outer_io.specs.Parts.{WritesPart}
 use Rattle.page_cache.specs.declared.faults.PageFault.{PageFault}
@@ -17,9 +16,7 @@ use Rattle.run_status.specs.Stops.{stop_of}
 use Rattle.run_status.specs.declared.stop.Stop.{Stop}
 use Rattle.run_status.specs.declared.stop.Stop.TheVariants as stop
 use Rattle.script_run.specs.Script.{Meaning, final, refused_in, state_after, stored_after, stored_by, text_of}
-
-step_length : (line : ℕ) (ls : List (List ℕ)) → line + 1 + length ls ≡ line + suc (length ls)
-step_length line ls = omega arith
+use Rattle.run_status.proofs.Telling.{step_length}
 
 state_append : (m : Meaning) → (line : ℕ) (state : State) (xs ys : List (List ℕ))
     → state_after m line state (xs ++ ys) ≡ state_after m (line + length xs) (state_after m line state xs) ys

@@ -8,7 +8,7 @@ use Rattle.outer_io.specs.Files.{Files, bytes_of}
 use Rattle.merge_policy.specs.Choice.{free_count, is_of_level}
 use Rattle.commit_list.specs.CommitFiles.{IsCommitFile}
 use Rattle.segment_file.specs.Heads.{Head}
-use Rattle.index_model.specs.State.{Index, State, at_rest}
+use Rattle.index_model.specs.State.{Index, State, at_rest, given_of}
 use Rattle.segment_view.specs.LiveSegments.{LiveSegment, heads_of}
 use Rattle.segment_set.specs.Sets.{BegunMerge, IsSettled, SetData, pins_of, sizes_of}
 use Rattle.segment_set.specs.Seen.{Sees}
@@ -19,7 +19,7 @@ use Rattle.index_core.specs.Sessions.{Guards, IsUnchanged}
 use Rattle.index_core.specs.Whole.{HasNewCanonical}
 use Rattle.index_core.proofs.Bringing.{brings_same, brings_then}
 use Rattle.index_core.proofs.Listed.{new_canonical}
-use Rattle.script_run.specs.Costs.{AllAsk, AreLight, HasRoomInLevels, TouchesLines, begins_no_merge, given_of, is_query}
+use Rattle.script_run.specs.Costs.{AllAsk, AreLight, HasRoomInLevels, TouchesLines, begins_no_merge, is_query}
 use Rattle.script_run.specs.Leads.{AllListed, Closes, HasRoom, Leads, Passes, LineMoment}
 use Rattle.script_run.proofs.Asking.{Rested, light_begins, line_rests}
 use Rattle.script_run.proofs.AskingLines.{all_first, all_rest, all_weaker}

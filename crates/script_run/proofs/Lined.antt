@@ -17,7 +17,7 @@ use Rattle.commit_list.specs.CommitFiles.{IsCommitFile}
 use Rattle.script_run.specs.Origins.{IsFrom}
 use Rattle.script_run.specs.declared.origin.Origin.{Origin}
 use Rattle.script_run.specs.declared.origin.Origin.TheVariants as origin
-use Rattle.script_run.proofs.Opened.{none_stored, some_stored}
+use Rattle.script_run.proofs.Opened.{some_stored}
 use Rattle.run_status.specs.Sent.{IsSentPart, IsSent}
 use Rattle.script_run.specs.LineAnswers.{SendsReply, IsAnswered, Line, Replies, answer_to_line, stored_by_line}
 use Rattle.script_run.specs.Progress.{ScriptPlace, Progress, start}
@@ -31,7 +31,8 @@ use Rattle.script_run.proofs.Going.{one_more, ends_from, halts_from, halts_here,
 use Rattle.script_run.specs.Languages.{answer, meaning}
 use Rattle.script_run.specs.declared.language.Language.{Language}
 use Rattle.script_run.proofs.SoFar.{place_on}
-use Rattle.run_status.proofs.Ending.{rose_from}
+use Rattle.run_status.proofs.Ending.{rose_from, page_memory, page_none}
+use Rattle.stored_index.proofs.Whole.{no_index}
 
 -- ---- the beginning
 
@@ -54,7 +55,7 @@ module _ (lang : Language) (told : Type 0) (old files after : Files) (written : 
       → (files Commit ≡ None → EndsRead (meaning lang) told (start None lines written) after new result)
       → EndsRead (meaning lang) told (start state lines written) after new result
   from_none state same none h lines new result ends =
-      subst (λ s. EndsRead (meaning lang) told (start s lines written) after new result) (sym (none_stored old state none h))
+      subst (λ s. EndsRead (meaning lang) told (start s lines written) after new result) (sym (no_index old state none h))
       (ends (ap (λ (f : Files). f Commit) same ∙ none))
 
   -- this one was
@@ -68,21 +69,12 @@ module _ (lang : Language) (told : Type 0) (old files after : Files) (written : 
       subst (λ s. EndsRead (meaning lang) told (start s lines written) after new result) (sym some.1)
       (ends some.0 (Some some.0) (subst (λ (f : Files). IsFrom f (origin.Stored commit) some.0 (Some some.0)) (sym same) (says, some.2, refl)))
 
--- reading the commit of a folder that stores a state finds no damage
-pub not_damaged : {P : Type 0} (files : Files) (state : State) → IsStored files state → (files Commit ≡ None → P)
-    → ((c : CommitData) → IsCommitFile (bytes_of (files Commit)) c → P) → P
-not_damaged files None h absent whole = absent h
-not_damaged files (Some i) h absent whole = whole h.commit h.holds.commit
-
 -- ---- a line that was sent
 
 -- what holds of the value that was handed on holds of the result
 pub known_is : {T : Type 0} (P : T → Type 0) (known : T) (result : Result T Stop) → IfOk result (λ x. x ≡ known) → P known → IfOk result P
 known_is P known (Ok x) is h = subst P (sym is) h
 known_is P known (Err e) is h = tt
-
-pub sent_as : {T : Type 0} (text other old new : List ℕ) (result : Result T Stop) → text ≡ other → IsSent text old new result → IsSent other old new result
-sent_as text other old new result same sent = subst (λ (w : List ℕ). IsSent w old new result) same sent
 
 module _ {told : Type 0} (lang : Language) (D : ℕ) (l : Line) (files : Files) (s : SessionData) (before reply written new : List ℕ) (is_refused : Bool) where
   -- the answer was sent, or a part of it
@@ -191,13 +183,6 @@ pub page_same : {S T : Type 0} (f0 f1 : ℕ) (fault : PageFault) → HasPageCaus
 page_same f0 f1 fault h =
     record { later = h.later; fine = tt; failed = λ e. let same : fault ≡ page.Failed = cc in h.failed (ap (λ (f : PageFault). Err f) same) }
 
--- nor before
-pub page_none : {T : Type 0} (f : ℕ) (x : T) → HasPageCause f f (Ok x)
-page_none f x = record { later = omega arith; fine = refl; failed = λ e. absurd cc }
-
-pub page_memory : {T : Type 0} (f : ℕ) → HasPageCause {T = T} f f (Err page.Memory)
-page_memory f = record { later = omega arith; fine = tt; failed = λ e. absurd cc }
-
 pub page_still : {T : Type 0} (f : ℕ) (result : Result T PageFault) → OnErr result (IsErrOf result page.Memory) → HasPageCause f f result
 page_still f (Ok y) only = page_none f y
 page_still f (Err page.Memory) only = page_memory f
@@ -205,18 +190,6 @@ page_still {T = T} f (Err page.Failed) only = let e : IsErrOf {T = T} (Err page.
 page_still {T = T} f (Err (page.Damaged damage)) only = let e : IsErrOf {T = T} (Err (page.Damaged damage)) page.Memory = only in absurd cc
 
 -- of a run
-
--- what was sent after the folder was done with
-pub send_cause : {S T : Type 0} (f0 f1 k0 k1 : ℕ) (x : S) → HasPageCause f0 f1 (Ok x) → (result : Result T Stop) → OnErr result (IsErrOf result stop.SinkFault)
-    → k0 ≤ k1
-    → (IsErrOf result stop.SinkFault → Rose k0 k1) → HasStopCause f0 f1 k0 k1 result
-send_cause f0 f1 k0 k1 x h (Ok y) only later sink = record { folder_later = h.later; sink_later = later; folder = λ e. absurd cc; sink = sink }
-send_cause f0 f1 k0 k1 x h (Err stop.SinkFault) only later sink = record { folder_later = h.later; sink_later = later; folder = λ e. absurd cc; sink = sink }
-send_cause {T = T} f0 f1 k0 k1 x h (Err stop.FolderFault) only later sink = let e : IsErrOf {T = T} (Err stop.FolderFault) stop.SinkFault = only in absurd cc
-send_cause {T = T} f0 f1 k0 k1 x h (Err stop.Memory) only later sink = let e : IsErrOf {T = T} (Err stop.Memory) stop.SinkFault = only in absurd cc
-send_cause {T = T} f0 f1 k0 k1 x h (Err (stop.Damaged damage)) only later sink =
-    let e : IsErrOf {T = T} (Err (stop.Damaged damage)) stop.SinkFault = only in
-    absurd cc
 
 pub ok_cause : {S T : Type 0} (f0 f1 k : ℕ) (x : S) (y : T) → HasPageCause f0 f1 (Ok x) → HasStopCause f0 f1 k k (Ok y)
 ok_cause f0 f1 k x y h = record { folder_later = h.later; sink_later = omega arith; folder = λ e. absurd cc; sink = λ e. absurd cc }

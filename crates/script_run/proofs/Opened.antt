@@ -1,22 +1,16 @@
 -- A session on the index that a run begins with.
-use Rattle.std.proofs.Common.{◌≡◌, ℕ, Some, None, Result, Ok, Err, IfOk, refl, sym, ap, ◌∙◌, subst}
+use Rattle.std.proofs.Common.{◌≡◌, ℕ, Some, None, Result, Ok, Err, IfOk, sym, ap, ◌∙◌, subst}
 use Rattle.outer_io.specs.Files.{Files, bytes_of}
 use Rattle.outer_io.specs.declared.file_name.FileName.TheVariants.{Commit}
 use Rattle.page_cache.specs.declared.faults.PageFault.{PageFault}
 use Rattle.commit_list.specs.Commits.{CommitData}
 use Rattle.commit_list.specs.CommitFiles.{IsCommitFile}
-use Rattle.commit_list.proofs.CommitPages.{file_there}
 use Rattle.index_model.specs.State.{Index, State, new_index}
 use Rattle.stored_index.specs.Stored.{IsStored, index_of}
 use Rattle.stored_index.proofs.Whole.{held_for}
 use Rattle.segment_set.specs.Seen.{Sees}
 use Rattle.index_core.specs.Sessions.{SessionData, Guards}
 use Rattle.script_run.specs.LineAnswers.{IsSessionOf}
-
--- a folder without a Commit file stores no index
-pub none_stored : (files : Files) (state : State) → files Commit ≡ None → IsStored files state → state ≡ None
-none_stored files None none h = refl
-none_stored files (Some i) none h = absurd (let there = (file_there (files Commit) h.commit h.holds.commit).0 in cc)
 
 -- one whose Commit file says a commit stores one
 pub some_stored : (files : Files) (c : CommitData) (state : State) → IsCommitFile (bytes_of (files Commit)) c → IsStored files state

@@ -21,7 +21,7 @@ use Rattle.script_lang.specs.Requests.{Request, Viewed}
 use Rattle.script_lang.specs.Requests as asks
 use Rattle.script_lang.specs.declared.faults.Refusal.{Refusal}
 use Rattle.point_codec.specs.declared.entries.Near.{Near}
-use Rattle.index_model.specs.State.{Index, Snapshot, snapshot_of, viewed_docs}
+use Rattle.index_model.specs.State.{Index, Snapshot, snapshot_of, viewed_docs, given_of}
 use Rattle.ring_parity.specs.Rings.{all_edges}
 use Rattle.polygon_query.specs.Shape as polygons
 use Rattle.index_model.specs.Step.{in_plane_polygon, step_on}
@@ -40,7 +40,7 @@ use Rattle.explain_queries.specs.Explained.{reach}
 use Rattle.explain_queries.proofs.Explaining.{reach_is}
 use Rattle.explain_queries.proofs.There.{are_nearest, there, there_found}
 use Rattle.index_core.proofs.Undone.{begins_none}
-use Rattle.script_run.specs.Costs.{TouchesOn, TouchesHeard, TouchesView, given_of, is_query}
+use Rattle.script_run.specs.Costs.{TouchesOn, TouchesHeard, TouchesView, is_query}
 use Rattle.script_run.specs.Leads.{HasRoom, Passes, LineMoment, StaysFew}
 use Rattle.script_run.proofs.Asking.{Asks, IsRefusal, asked, begin_refused, full_of, full_or_given, light_gives, read_state, refusal_state, unread_state}
 use Rattle.script_run.specs.Languages.{LineRequest, answer, line_request}
@@ -48,6 +48,7 @@ use Rattle.script_run.specs.declared.language.Language.{Language}
 use Rattle.range_docs.specs.declared.faults.RangeFault.{RangeFault}
 use Rattle.script_run.proofs.RequestsDone.{no, IsApplied, not_done, a_refusal, refused_still, looks_still}
 use Rattle.script_run.proofs.RequestsDone.{buffer_still, levels_after, still_files, still_session}
+use Rattle.index_core.proofs.Committing.{on_ok_any}
 
 -- ---- what a query looks at
 
@@ -256,22 +257,18 @@ passes_to lang D line i bytes old new r q fine p = record {
   looks = λ heads looks rested ask room. fine_as _ r q fine (p.looks heads looks rested ask room);
 }
 
-pub on_ok : {T E P : Type 0} (r : Result T E) → P → OnOk r P
-on_ok (Ok x) p = p
-on_ok (Err e) p = tt
-
 -- a line that can't be read is refused, and nothing is done
 pub passes_unread : {T E : Type 0} (lang : Language) → (D line : ℕ) (i : Index) (bytes : List ℕ) (f : RangeFault) (old : LineMoment) (r : Result T E)
     → i.dims ≡ D
     → line_request lang (Some D) bytes ≡ Err f → Passes lang D line i bytes old old r
 passes_unread lang D line i bytes f old r dims fails = record {
   canon = brings_same D old.files old.files old.session.set.parts old.session.set.parts refl refl;
-  levels = λ rested. on_ok r (inl refl);
+  levels = λ rested. on_ok_any r (inl refl);
   still = λ rested u ask. refl;
-  idle = λ rested u ask. on_ok r u;
+  idle = λ rested u ask. on_ok_any r u;
   reads = λ heads looks rested ask room n touches. omega arith;
   looks = λ heads looks rested ask room.
-      on_ok r (record {
+      on_ok_any r (record {
         looks = looks;
         waits = let same = ap given_of (unread_state lang line i bytes f (ap (λ d. line_request lang (Some d) bytes) dims ∙ fails)) in omega (arith, same);
       });

@@ -4,13 +4,11 @@ use Rattle.std.specs.List.{Contains}
 use Rattle.documents.proofs.Lists.{nil_none}
 use Rattle.segment_view.specs.LiveSegments.{LiveSegment}
 use Rattle.outer_io.specs.declared.file_name.FileName.TheVariants.{Commit}
-use Rattle.outer_io.specs.Files.{Files, bytes_of}
+use Rattle.outer_io.specs.Files.{Files}
 use Rattle.page_cache.specs.declared.faults.Damage.{Damage}
 use Rattle.page_cache.specs.declared.faults.PageFault.{PageFault}
 use Rattle.page_cache.specs.declared.faults.PageFault.TheVariants as page
 use Rattle.page_cache.specs.Evidence.{FaultShows, OnDamage}
-use Rattle.commit_list.specs.Commits.{CommitData}
-use Rattle.commit_list.specs.CommitFiles.{IsCommitFile}
 use Rattle.index_opening.specs.Evidence.{IsEvident, IsTwice}
 use Rattle.segment_set.specs.Faithful.{IsFaithful}
 use Rattle.index_opening.proofs.Evident.{evident_at, evident_less}
@@ -60,10 +58,6 @@ stop_less S T files (Err stop.Memory) less h = tt
 stop_less S T files (Err (stop.Damaged d)) less h = evident_less S T files d less h
 
 -- ---- where the index comes from
-
--- the commit that was read is that of the files after reading it
-pub says_after : (old new : Files) (c : CommitData) → new ≡ old → IsCommitFile (bytes_of (old Commit)) c → IsCommitFile (bytes_of (new Commit)) c
-says_after old new c same says = subst (λ (f : Files). IsCommitFile (bytes_of (f Commit)) c) (sym same) says
 
 -- what is attached is trusted with the files, which stay
 pub attached_trusts : (D : ℕ) (old new : Files) (result : Result SessionData PageFault) → new ≡ old → IfOk result (Guards D old)

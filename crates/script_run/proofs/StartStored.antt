@@ -12,11 +12,12 @@ use Rattle.script_run.specs.Leads.{LeadsAll, LeadsFrom}
 use Rattle.script_run.specs.Origins.{IsFrom}
 use Rattle.script_run.specs.declared.origin.Origin.TheVariants as origin
 use Rattle.script_run.proofs.Leading.{levels_still}
-use Rattle.script_run.proofs.Passing.{on_ok}
-use Rattle.script_run.proofs.Opened.{none_stored, some_stored}
+use Rattle.script_run.proofs.Opened.{some_stored}
 use Rattle.script_run.proofs.Scoped.{commit_few, opening_is}
 use Rattle.script_run.specs.declared.language.Language.{Language}
 use Rattle.script_run.proofs.Starting.{canonical_still}
+use Rattle.stored_index.proofs.Whole.{no_index}
+use Rattle.index_core.proofs.Committing.{on_ok_any}
 
 -- ---- what the folder stores
 
@@ -26,7 +27,7 @@ module _ {T E : Type 0} (lang : Language) (state : State) (lines : List (List �
   pub leads_first : old Commit ≡ None → between ≡ before → (middle Commit ≡ None → LeadsAll lang None lines middle new between now result)
       → LeadsAll lang state lines old new before now result
   leads_first none unread leads =
-      subst (λ (s : State). LeadsAll lang s lines old new before now result) (sym (none_stored old state none stored))
+      subst (λ (s : State). LeadsAll lang s lines old new before now result) (sym (no_index old state none stored))
       (subst (λ (f : Files). LeadsAll lang None lines f new before now result) same
       (subst (λ (n : ℕ). LeadsAll lang None lines middle new n now result) unread (leads (ap (λ (f : Files). f Commit) same ∙ none))))
 
@@ -73,8 +74,8 @@ pub leads_unread : {T E : Type 0} (lang : Language) → (state : State) (lines :
     → ((c : CommitData) → IsCommitFile (bytes_of (old Commit)) c → now ≤ before + length (bytes_of (old Commit)) / 4096) → result ≡ Err e
     → LeadsAll lang state lines old new before now result
 leads_unread lang state lines old new before now result e same unread most is = record {
-  canon = on_ok result (canonical_still old new same);
-  levels = λ asks. on_ok result (levels_still old new same);
+  canon = on_ok_any result (canonical_still old new same);
+  levels = λ asks. on_ok_any result (levels_still old new same);
   still = λ asks. same;
   reads = λ s scope pages opening which n touches. let few = commit_few old s pages before now scope opening unread most in omega (arith, few);
 }

@@ -14,7 +14,7 @@ use Rattle.commit_list.specs.CommitFiles.{IsCommitFile}
 use Rattle.commit_list.proofs.CommitPages.{one_file}
 use Rattle.segment_file.specs.Heads.{Head}
 use Rattle.script_lang.specs.Requests.{Request}
-use Rattle.index_model.specs.State.{Index, Snapshot, State, new_index}
+use Rattle.index_model.specs.State.{Index, Snapshot, State, new_index, given_of}
 use Rattle.stored_index.specs.Stored.{HasHead, HaveHeads, HaveLive}
 use Rattle.stored_index.specs.Opening.{segments_pages}
 use Rattle.stored_index.proofs.Parts.{heads_once}
@@ -27,7 +27,7 @@ use Rattle.index_core.specs.Sessions.{Guards, IsLast, IsUnchanged, SessionData}
 use Rattle.index_core.specs.Whole.{HasNewCanonical}
 use Rattle.index_core.proofs.Listed.{attached_listed}
 use Rattle.explain_queries.specs.Explained.{IsScope, Scope}
-use Rattle.script_run.specs.Costs.{AllAsk, AreLight, TouchesLines, begins_no_merge, given_of, is_query}
+use Rattle.script_run.specs.Costs.{AllAsk, AreLight, TouchesLines, begins_no_merge, is_query}
 use Rattle.script_run.specs.Leads.{AllListed, Leads, LeadsAll, LeadsFrom, Opens, LineMoment}
 use Rattle.run_status.specs.Ends.{IsAnswer}
 use Rattle.script_run.specs.Origins.{IsFrom}
@@ -39,11 +39,11 @@ use Rattle.script_run.specs.declared.origin.Origin.TheVariants as origin
 use Rattle.script_run.proofs.Asking.{query_stays}
 use Rattle.script_run.proofs.AskingLines.{all_first, all_rest, state_rest, touches_parts}
 use Rattle.script_run.proofs.Leading.{levels_still}
-use Rattle.script_run.proofs.Passing.{on_ok}
 use Rattle.script_run.proofs.Scoped.{heads_zip, none_scope, scope_holds}
 use Rattle.script_run.specs.Languages.{answer, meaning}
 use Rattle.script_run.specs.Script.{state_after}
 use Rattle.script_run.specs.declared.language.Language.{Language}
+use Rattle.index_core.proofs.Committing.{on_ok_any}
 
 -- ---- nothing was done
 
@@ -244,8 +244,8 @@ leads_same lang state lines old middle new before between now result same unread
 pub leads_none : {T E : Type 0} (lang : Language) → (state : State) (lines : List (List ℕ)) (old new : Files) (before now : ℕ) (result : Result T E) → new ≡ old
     → now ≡ before → LeadsAll lang state lines old new before now result
 leads_none lang state lines old new before now result same unread = record {
-  canon = on_ok result (canonical_still old new same);
-  levels = λ asks. on_ok result (levels_still old new same);
+  canon = on_ok_any result (canonical_still old new same);
+  levels = λ asks. on_ok_any result (levels_still old new same);
   still = λ asks. same;
   reads = λ s scope pages opening which n touches. omega (arith, unread);
 }

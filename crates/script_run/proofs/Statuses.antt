@@ -19,7 +19,7 @@ use Rattle.script_run.proofs.Calling.{stop_status}
 use Rattle.script_run.proofs.Ending.{never_damaged, status_ends}
 use Rattle.script_run.proofs.Starting.{when_answered}
 use Rattle.script_run.specs.Script.{Meaning}
-use Rattle.run_status.proofs.Ending.{counted, folder_stopped, sink_stopped, status_shows}
+use Rattle.run_status.proofs.Ending.{counted, folder_stopped, sink_stopped, status_shows, does_some}
 
 -- where the source tells its bytes the lines are its lines
 pub with_lines : (told : Type 0) (left : List ℕ) (P : List (List ℕ) → Type 0) → told → OfSource told left P → P (lines_of left)
@@ -94,13 +94,9 @@ module _ (f0 f1 k0 k1 : ℕ) where
   read_sink (Err halt.Source) cause e = cc
   read_sink (Err (halt.Stopped s)) cause e = cause.sink (sink_stopped (Err s) e)
 
-other_counted : (b : Bool) (count : ℕ) → DoesNothing (counted b count) → ⊥
-other_counted true count d = d
-other_counted false count d = d
-
 -- only a fault of the source ends lines of which nothing need be done
 pub read_source : (done : Result ℕ Halt) → DoesNothing (status_of_lines done) → done ≡ Err halt.Source
-read_source (Ok count) d = absurd (other_counted (count == 0) count d)
+read_source (Ok count) d = absurd (does_some (count == 0) count d)
 read_source (Err halt.Source) d = refl
 read_source (Err (halt.Stopped stop.FolderFault)) d = absurd d
 read_source (Err (halt.Stopped stop.Memory)) d = absurd d

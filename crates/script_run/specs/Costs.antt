@@ -13,7 +13,7 @@ use Rattle.merge_policy.specs.Choice.{is_of_level}
 use Rattle.segment_file.specs.Heads.{Head}
 use Rattle.script_lang.specs.Requests.{Request}
 use Rattle.script_lang.specs.Requests as asks
-use Rattle.index_model.specs.State.{Index, State, viewed_docs}
+use Rattle.index_model.specs.State.{Index, State, viewed_docs, given_of}
 use Rattle.index_model.specs.Step.{in_plane_polygon}
 use Rattle.stored_index.specs.Opening.{IsOpening}
 use Rattle.segment_view.specs.Costs.{AreTouched}
@@ -101,11 +101,6 @@ TouchesLines lang heads line state (l ∷ ls) n =
     × TouchesLines lang heads (line + 1) (answer lang line state l).state ls rest × (n ≡ first + rest)
 
 -- ---- what they read
-
--- how many points were ever given
-abbrev pub given_of : State → ℕ
-given_of None = 0
-given_of (Some i) = i.given
 
 -- no level has ten segments
 abbrev pub HasRoomInLevels : List Head → Type 0

@@ -4,7 +4,7 @@ use Rattle.std.specs.Prelude.{ℕ, ◌+◌, ◌≡◌, ◌≤◌, ◌⊎◌, fal
 use Rattle.outer_io.specs.Files.{Files}
 use Rattle.page_cache.specs.declared.faults.PageFault.{PageFault}
 use Rattle.segment_file.specs.Heads.{Head}
-use Rattle.index_model.specs.State.{Index, State}
+use Rattle.index_model.specs.State.{Index, State, given_of}
 use Rattle.stored_index.specs.Opening.{segments_pages}
 use Rattle.segment_view.specs.LiveSegments.{LiveSegment}
 use Rattle.segment_set.specs.Sets.{IsSettled, SetData}
@@ -15,7 +15,7 @@ use Rattle.index_core.specs.Sessions.{IsUnchanged, SessionData}
 use Rattle.index_core.specs.Whole.{HasNewCanonical, IsNewSegment}
 use Rattle.explain_queries.specs.Explained.{Scope, IsScope}
 use Rattle.script_run.specs.Costs.{AllAsk, AreLight, AsksOnly, RunReadsFew, TouchesLine, TouchesLines, begins_no_merge}
-use Rattle.script_run.specs.Costs.{given_of, is_query}
+use Rattle.script_run.specs.Costs.{is_query}
 use Rattle.script_run.specs.Languages.{answer}
 use Rattle.script_run.specs.declared.language.Language.{Language}
 use Rattle.script_run.specs.declared.origin.Origin.{Origin}

@@ -1,5 +1,5 @@
 -- What is said of a node's children, said of the node.
-use Rattle.std.proofs.Common.{◌≡◌, ◌+◌, ◌-◌, ◌/◌, ℕ, List, ◌++◌, refl, sym, subst, arith, inl, inr, Result, Ok, Err}
+use Rattle.std.proofs.Common.{◌≡◌, ◌+◌, ◌-◌, ◌/◌, ℕ, List, ◌++◌, refl, sym, subst, arith, inl, inr, Result, Ok, Err, ◌≤◌}
 use Rattle.std.specs.Prelude.{OnOk, ℤ}
 use Rattle.point_codec.specs.Points.{Item, Region}
 use Rattle.inner_pack.specs.Places.{Spot}
@@ -94,3 +94,16 @@ pub page_of_leaf : (D : ℕ) (bytes : List ℕ) (head : Head) (node : NodeAt D) 
     → IsAt node first s path t → node.leaves ≡ 1
     → HoldsTree D bytes head first s t items → IsFilePage (Segment head.id) bytes (page_of head s.page)
 page_of_leaf D bytes head node first s path t items at one holds = alone D bytes head first s t items (subst (λ (n : ℕ). IsShaped n t) one at.is.shaped) holds
+
+pub some_leaf : (t : IndexTree) → 1 ≤ leaf_count t
+some_leaf (Leaf len own) = omega arith
+some_leaf (Split d x l r) = let a = some_leaf l in omega (arith, a)
+
+-- a tree of one leaf is one
+pub only_leaf : (P : IndexTree → Type 0) (t : IndexTree) → leaf_count t ≡ 1 → ((len : ℕ) (own : Region) → P (Leaf len own)) → P t
+only_leaf P (Leaf len own) h f = f len own
+only_leaf P (Split d x l r) h f = let a = some_leaf l in let b = some_leaf r in absurd (omega (arith, a, b, h))
+
+pub on_ok : {T E : Type 0} (P Q : Type 0) (r : Result T E) → (P → Q) → OnOk r P → OnOk r Q
+on_ok P Q (Ok x) f h = f h
+on_ok P Q (Err e) f h = h

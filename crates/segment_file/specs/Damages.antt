@@ -16,8 +16,7 @@ use Rattle.page_cache.specs.FilePages.{kind_of, number_of, page_at}
 use Rattle.page_cache.specs.Bodies.{padded_body, pages_for}
 use Rattle.page_cache.specs.Evidence.{IsPageOf, ArePayloadsOf, IsCut, IsSizeOf}
 use Rattle.page_cache.specs.declared.faults.Damage.{Damage}
-use Rattle.page_cache.specs.declared.faults.Damage.TheVariants.{Page, Leaf, Body, Missing, Size, Unequal, Beyond}
-use Rattle.page_cache.specs.declared.faults.Damage.TheVariants.{Doubled}
+use Rattle.page_cache.specs.declared.faults.Damage.TheVariants.{Page, Leaf, Body, Missing, Size, Unequal}
 use Rattle.segment_file.specs.Heads.{Head, Fields, AreFields, IsHead, fields_of, fields_bytes, page_of, count_of}
 use Rattle.segment_file.specs.Segments.{SpellsHead, part_of, IsLeafOf}
 
@@ -75,22 +74,14 @@ IsLeafDamage D head first s t (Size file size needed) = (file ≡ Segment head.i
 IsLeafDamage D head first s t (Leaf file number offset len bytes) =
     (file ≡ Segment head.id) × IsPage 1 head.id number bytes.value.b
     × IsNoLeaf D head first s t number offset len (part_of offset len bytes.value.b)
-IsLeafDamage D head first s t (Body file bytes) = ⊥
-IsLeafDamage D head first s t (Missing file) = ⊥
-IsLeafDamage D head first s t (Unequal file said found) = ⊥
-IsLeafDamage D head first s t (Beyond doc next) = ⊥
-IsLeafDamage D head first s t (Doubled doc) = ⊥
+IsLeafDamage D head first s t _ = ⊥
 
 -- and it is true of the files
 abbrev pub IsLeafDamageOf : Files → Damage → Type 0
 IsLeafDamageOf files (Page file number bytes) = IsPageOf files file number bytes.value.b
 IsLeafDamageOf files (Size file size needed) = IsCut files file size needed
 IsLeafDamageOf files (Leaf file number offset len bytes) = IsPageOf files file number bytes.value.b
-IsLeafDamageOf files (Body file bytes) = ⊥
-IsLeafDamageOf files (Missing file) = ⊥
-IsLeafDamageOf files (Unequal file said found) = ⊥
-IsLeafDamageOf files (Beyond doc next) = ⊥
-IsLeafDamageOf files (Doubled doc) = ⊥
+IsLeafDamageOf files _ = ⊥
 
 -- ---- the head and the index of a segment
 
@@ -116,9 +107,7 @@ IsHeadDamage id (Missing file) = file ≡ Segment id
 IsHeadDamage id (Size file size needed) = (file ≡ Segment id) × (size ≢ needed)
 IsHeadDamage id (Body file bytes) = (file ≡ Segment id) × BeginsNoHead bytes
 IsHeadDamage id (Unequal file said found) = (file ≡ Segment id) × (said ≢ found)
-IsHeadDamage id (Leaf file number offset len bytes) = ⊥
-IsHeadDamage id (Beyond doc next) = ⊥
-IsHeadDamage id (Doubled doc) = ⊥
+IsHeadDamage id _ = ⊥
 
 -- and it is true of the files
 abbrev pub IsHeadDamageOf : (D : ℕ) → Files → Damage → Type 0
@@ -127,31 +116,17 @@ IsHeadDamageOf D files (Missing file) = files file ≡ None
 IsHeadDamageOf D files (Size file size needed) = IsSizeOf (AsksFor file) files file size needed
 IsHeadDamageOf D files (Body file bytes) = ArePayloadsOf files file bytes
 IsHeadDamageOf D files (Unequal file said found) = AreHeadPair D (bytes_of (files file)) said found
-IsHeadDamageOf D files (Leaf file number offset len bytes) = ⊥
-IsHeadDamageOf D files (Beyond doc next) = ⊥
-IsHeadDamageOf D files (Doubled doc) = ⊥
+IsHeadDamageOf D files _ = ⊥
 
 -- the damage is that these payloads of the file are out of its grammar
 abbrev pub IsBodyDamage : FileName → List ℕ → Damage → Type 0
 IsBodyDamage name payloads (Body file bytes) = (file ≡ name) × (bytes ≡ payloads)
-IsBodyDamage name payloads (Page file number bytes) = ⊥
-IsBodyDamage name payloads (Leaf file number offset len bytes) = ⊥
-IsBodyDamage name payloads (Missing file) = ⊥
-IsBodyDamage name payloads (Size file size needed) = ⊥
-IsBodyDamage name payloads (Unequal file said found) = ⊥
-IsBodyDamage name payloads (Beyond doc next) = ⊥
-IsBodyDamage name payloads (Doubled doc) = ⊥
+IsBodyDamage name payloads _ = ⊥
 
 -- the damage is that these two numbers of the file differ
 abbrev pub IsPairDamage : FileName → (said found : ℕ) → Damage → Type 0
 IsPairDamage name m n (Unequal file said found) = (file ≡ name) × (said ≡ m) × (found ≡ n)
-IsPairDamage name m n (Body file bytes) = ⊥
-IsPairDamage name m n (Page file number bytes) = ⊥
-IsPairDamage name m n (Leaf file number offset len bytes) = ⊥
-IsPairDamage name m n (Missing file) = ⊥
-IsPairDamage name m n (Size file size needed) = ⊥
-IsPairDamage name m n (Beyond doc next) = ⊥
-IsPairDamage name m n (Doubled doc) = ⊥
+IsPairDamage name m n _ = ⊥
 
 -- ---- live bits
 
@@ -169,10 +144,7 @@ IsLiveDamage segment generation (Missing file) = file ≡ Live segment generatio
 IsLiveDamage segment generation (Size file size needed) = (file ≡ Live segment generation) × (size ≢ needed)
 IsLiveDamage segment generation (Body file bytes) = (file ≡ Live segment generation)
     × BeginsNoSet segment generation bytes
-IsLiveDamage segment generation (Leaf file number offset len bytes) = ⊥
-IsLiveDamage segment generation (Unequal file said found) = ⊥
-IsLiveDamage segment generation (Beyond doc next) = ⊥
-IsLiveDamage segment generation (Doubled doc) = ⊥
+IsLiveDamage segment generation _ = ⊥
 
 -- and it is true of the files
 abbrev pub IsLiveDamageOf : Files → Damage → Type 0
@@ -180,7 +152,4 @@ IsLiveDamageOf files (Page file number bytes) = IsPageOf files file number bytes
 IsLiveDamageOf files (Missing file) = files file ≡ None
 IsLiveDamageOf files (Size file size needed) = IsSizeOf (AsksFor file) files file size needed
 IsLiveDamageOf files (Body file bytes) = ArePayloadsOf files file bytes
-IsLiveDamageOf files (Leaf file number offset len bytes) = ⊥
-IsLiveDamageOf files (Unequal file said found) = ⊥
-IsLiveDamageOf files (Beyond doc next) = ⊥
-IsLiveDamageOf files (Doubled doc) = ⊥
+IsLiveDamageOf files _ = ⊥

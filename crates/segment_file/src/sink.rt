@@ -33,7 +33,10 @@ impl<const D: usize> LeafSink<D> for Vec<Entry<D>> {
 
     ghost in_turn = { appends_in_turn (λ v. items_of v.items) };
 
-    fn add_leaf(&mut self, view: &LeafView<'_, D>, live: &LiveBits) -> Result<(), Memory> {
+    fn add_leaf(&mut self, view: &LeafView<'_, D>, live: &LiveBits) -> Result<(), Memory>
+        ensures { OnOk result
+            (items_of self.new.items ≡ items_of self.old.items ++ filter (λ x. is_live live.now x.doc) view.now) }
+    {
         push_live(view, live, self)
     }
 }
@@ -44,7 +47,9 @@ impl<const D: usize> LeafSink<D> for LiveBits {
 
     ghost in_turn = { clears_in_turn };
 
-    fn add_leaf(&mut self, view: &LeafView<'_, D>, _live: &LiveBits) -> Result<(), Memory> {
+    fn add_leaf(&mut self, view: &LeafView<'_, D>, _live: &LiveBits) -> Result<(), Memory>
+        ensures { OnOk result (self.new ≡ set_without_entries view.now self.old) }
+    {
         clear_all(view, self);
         Ok(())
     }

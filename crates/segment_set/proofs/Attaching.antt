@@ -1,17 +1,16 @@
 -- What is attached of an index that is stored.
 use Rattle.std.proofs.Common.{◌≡◌, ℕ, ◌+◌, ◌≤◌, ◌<◌, ◌↔◌, ⊎_elim, true, false, List, [], ◌∷◌, ◌++◌, length}
 use Rattle.std.proofs.Common.{map, take, get_or, Some, None, refl, sym, ap, subst, ◌∙◌, append_assoc, arith}
-use Rattle.std.specs.List.{All, AllZip, Contains, filter, flat_map}
+use Rattle.std.specs.List.{All, AllZip, Contains, flat_map}
 use Rattle.std.proofs.lemmas.Bool.{false_from_ne_true}
 use Rattle.std.proofs.lemmas.Grind.{flat_map-append}
 use Rattle.std.proofs.lemmas.List.{append-nil, take_more}
-use Rattle.std.proofs.lemmas.List.Elements.{All-contains_itself, All-head, All-map, All-nil, All-tail}
+use Rattle.std.proofs.lemmas.List.Elements.{All-contains_itself, All-map, All-nil}
 use Rattle.std.proofs.lemmas.List.Sorted.{IsNonDecreasingBy-short}
 use Rattle.outer_io.specs.declared.file_name.FileName.{FileName}
 use Rattle.outer_io.specs.declared.file_name.FileName.TheVariants.{Commit, CommitNew, Live, Segment}
 use Rattle.outer_io.specs.Files.{Files, bytes_of}
 use Rattle.point_codec.specs.Points.{Item}
-use Rattle.live_bits.specs.LiveSet.{is_live}
 use Rattle.leaf_codec.specs.Leaves.{leaf_limit}
 use Rattle.leaf_codec.specs.LeafOrder.{NoneTwice}
 use Rattle.documents.specs.Documents.{Document}
@@ -24,7 +23,7 @@ use Rattle.commit_list.specs.Commits.{CommitData, IsCommit}
 use Rattle.commit_list.specs.CommitFiles.{IsCommitFile}
 use Rattle.segment_file.specs.Segments.{IsSegment}
 use Rattle.stored_index.specs.Kept.{ListsFile}
-use Rattle.stored_index.specs.Segments.{SegmentData, all_live_entries, entries_at, live_entries, places}
+use Rattle.stored_index.specs.Segments.{SegmentData, all_live_entries, entries_at, places}
 use Rattle.stored_index.specs.Stored.{HaveHeads, HaveLive, HoldsFiles, HoldsIndex, IsStored, index_of}
 use Rattle.stored_index.proofs.Pairwise.{partner_of, zip_same}
 use Rattle.stored_index.proofs.Parts.{contents}
@@ -38,7 +37,7 @@ use Rattle.segment_set.specs.Seen.{Sees}
 use Rattle.segment_set.specs.Kept.{IsAtRest}
 use Rattle.index_opening.specs.Opened.{IsOpened}
 use Rattle.segment_set.proofs.SavedSegments.{take_whole, zip_length}
-use Rattle.index_opening.proofs.Listed.{as_part, parts_held}
+use Rattle.index_opening.proofs.Listed.{as_part, parts_held, entries_map}
 use Rattle.index_opening.proofs.Ordered.{zip_right}
 
 -- ---- the names of the files that a commit lists
@@ -125,14 +124,6 @@ attached c names parts cache = record {
   cache = cache;
   saved = None;
 }
-
-entries_map : (es : Contents) (held : List SegmentData) → All (λ (d : SegmentData). es d.head.id ≡ d.entries) held
-    → live_in_parts es (map as_part held) ≡ all_live_entries held
-entries_map es [] all = refl
-entries_map es (d ∷ ds) all =
-    ap (λ (xs : List Item). filter (λ (x : Item). is_live d.live x.doc) xs ++ live_in_parts es (map as_part ds))
-    (All-head (λ (e : SegmentData). es e.head.id ≡ e.entries) d ds all)
-    ∙ ap (λ (xs : List Item). live_entries d ++ xs) (entries_map es ds (All-tail (λ (e : SegmentData). es e.head.id ≡ e.entries) d ds all))
 
 pub sees_attached : (D : ℕ) (files : Files) (c : CommitData) (names : NameList) (parts : List LiveSegment) (cache : PageCache) (i : Index) → c.dims ≡ D
     → IsCommitFile (bytes_of (files Commit)) c → IsStored files (Some i)

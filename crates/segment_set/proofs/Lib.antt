@@ -43,3 +43,4 @@ pub mod Faithful
 pub mod Viewing
 pub mod Trusted
 pub mod Settled
+pub mod Shows

@@ -81,10 +81,6 @@ pub ok_always : {T E : Type 0} (r : Result T E) (P : Type 0) → P → OnOk r P
 ok_always (Ok x) P p = p
 ok_always (Err e) P p = tt
 
-pub if_ok_map : {T E : Type 0} (r : Result T E) (P Q : T → Type 0) → ((x : T) → P x → Q x) → IfOk r P → IfOk r Q
-if_ok_map (Ok x) P Q more p = more x p
-if_ok_map (Err e) P Q more p = tt
-
 pub if_ok_both : {T E : Type 0} (r : Result T E) (P Q R : T → Type 0) → ((x : T) → P x → Q x → R x) → IfOk r P → IfOk r Q → IfOk r R
 if_ok_both (Ok x) P Q R more p q = more x p q
 if_ok_both (Err e) P Q R more p q = tt

@@ -14,18 +14,6 @@ point_fits (suc (suc (suc (suc (suc (suc (suc zero))))))) h = lit< tt
 point_fits (suc (suc (suc (suc (suc (suc (suc (suc zero)))))))) h = lit< tt
 point_fits (suc (suc (suc (suc (suc (suc (suc (suc (suc n))))))))) h = absurd (omega (arith, h))
 
-pub entry_fits : (n : ℕ) → n ≤ 8 → up 4 (4 + up 4 (0 + n * 4)) < 2 ^ 63
-entry_fits zero h = lit< tt
-entry_fits (suc zero) h = lit< tt
-entry_fits (suc (suc zero)) h = lit< tt
-entry_fits (suc (suc (suc zero))) h = lit< tt
-entry_fits (suc (suc (suc (suc zero)))) h = lit< tt
-entry_fits (suc (suc (suc (suc (suc zero))))) h = lit< tt
-entry_fits (suc (suc (suc (suc (suc (suc zero)))))) h = lit< tt
-entry_fits (suc (suc (suc (suc (suc (suc (suc zero))))))) h = lit< tt
-entry_fits (suc (suc (suc (suc (suc (suc (suc (suc zero)))))))) h = lit< tt
-entry_fits (suc (suc (suc (suc (suc (suc (suc (suc (suc n))))))))) h = absurd (omega (arith, h))
-
 pub set_fits : (n : ℕ) → n ≤ 8
     → up 8 (up 8 (up 8
     (144 + up 8 (max 1

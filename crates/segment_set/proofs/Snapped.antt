@@ -13,13 +13,7 @@ use Rattle.segment_view.specs.LiveSegments.{AreRead, Contents, LiveSegment, ids_
 use Rattle.segment_set.specs.Sets.{IsNamed, IsWell, NamedView, SetData}
 use Rattle.segment_set.specs.Faithful.{HasFileHead, IsFaithful}
 use Rattle.segment_set.specs.Seen.{Sees, ShowsSnapshot}
-
--- a pair more at the end of two lists
-pub zip_push : {A B : Type 0} (R : A → B → Type 0) (xs : List A) (ys : List B) (x : A) (y : B) → AllZip R xs ys → R x y → AllZip R (xs ++ x ∷ []) (ys ++ y ∷ [])
-zip_push R [] [] x y all r = (r, tt)
-zip_push R [] (b ∷ ys) x y all r = absurd all
-zip_push R (a ∷ xs) [] x y all r = absurd all
-zip_push R (a ∷ xs) (b ∷ ys) x y all r = (all.0, zip_push R xs ys x y all.1 r)
+use Rattle.index_opening.proofs.Ordered.{zip_pushed}
 
 -- ---- one more
 
@@ -44,7 +38,7 @@ sees_snapped D files s i name seen = record {
   begun = seen.begun;
   docs = seen.docs;
   few = seen.few;
-  snapshots = zip_push (ShowsSnapshot seen.contents s.next) s.snapshots i.snapshots (record { name = name; parts = s.parts; buffer = s.buffer })
+  snapshots = zip_pushed (ShowsSnapshot seen.contents s.next) s.snapshots i.snapshots (record { name = name; parts = s.parts; buffer = s.buffer })
       (record { name = name; docs = i.docs }) seen.snapshots
       (record { name = refl; docs = seen.docs });
 }

@@ -4,8 +4,7 @@ use Rattle.outer_io.specs.declared.file_name.FileName.TheVariants.{Commit, Segme
 use Rattle.outer_io.specs.Files.{Files}
 use Rattle.point_codec.specs.Points.{Item}
 use Rattle.page_cache.specs.declared.faults.Damage.{Damage}
-use Rattle.page_cache.specs.declared.faults.Damage.TheVariants.{Page, Leaf, Body, Missing, Size, Unequal, Beyond}
-use Rattle.page_cache.specs.declared.faults.Damage.TheVariants.{Doubled}
+use Rattle.page_cache.specs.declared.faults.Damage.TheVariants.{Unequal, Doubled}
 use Rattle.segment_file.specs.Heads.{Head}
 use Rattle.segment_file.specs.Damages.{IsLeafDamageOf}
 use Rattle.segment_view.specs.LiveSegments.{LiveSegment}
@@ -21,12 +20,7 @@ abbrev pub IsDoubt : (given : ℕ) → List Item → Damage → Type 0
 IsDoubt given items (Unequal file said found) = (file ≡ Commit) × (said ≡ given) × (given < found)
     × (found ≤ length items)
 IsDoubt given items (Doubled doc) = IsCrowded doc items
-IsDoubt given items (Page file number bytes) = ⊥
-IsDoubt given items (Leaf file number offset len bytes) = ⊥
-IsDoubt given items (Body file bytes) = ⊥
-IsDoubt given items (Missing file) = ⊥
-IsDoubt given items (Size file size needed) = ⊥
-IsDoubt given items (Beyond doc next) = ⊥
+IsDoubt given items _ = ⊥
 
 -- Merging these segments, or such as the call wrote itself under names that the list didn't have, shows a leaf to be
 -- damaged, or live entries to be none of documents.

@@ -12,3 +12,4 @@ pub mod Waiting
 pub mod Saved
 pub mod Swept
 pub mod Faithful
+pub mod Effects

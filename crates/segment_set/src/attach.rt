@@ -1,20 +1,19 @@
 //! A set over an index that is stored.
 
-ghost use Rattle.std.specs.Prelude.{◌≡◌, ◌≤◌, ◌+◌, ◌↔◌, ℕ, List, true, [], None, Some, length, IsTrue, IfOk};
-ghost use Rattle.std.specs.List.{AllZip};
+ghost use Rattle.std.specs.Prelude.{◌≡◌, ◌≤◌, ◌+◌, ◌↔◌, ℕ, List, true, [], None, Some, IsTrue, IfOk};
 ghost use Rattle.outer_io.specs.Files.{Files, bytes_of};
 ghost use Rattle.outer_io.specs.declared.file_name.FileName.{FileName};
 ghost use Rattle.outer_io.specs.declared.file_name.FileName.TheVariants.{Commit as CommitName, Segment};
 ghost use Rattle.live_bits.specs.LiveSet.{LiveSet};
 ghost use Rattle.page_cache.specs.Cache.{room_of};
 ghost use Rattle.page_cache.specs.Causes.{HasPageCause};
-ghost use Rattle.page_cache.specs.Evidence.{OnDamage, NotDamaged};
+ghost use Rattle.page_cache.specs.Evidence.{OnDamage};
 ghost use Rattle.commit_list.specs.CommitFiles.{IsCommitFile};
 ghost use Rattle.segment_file.specs.Heads.{Head};
 ghost use Rattle.stored_index.specs.Kept.{ListsFile};
 ghost use Rattle.stored_index.specs.Opening.{segments_pages};
-ghost use Rattle.stored_index.specs.Stored.{HasLive, HaveHeads, HaveLive, IsStored, IsUndefined};
-ghost use Rattle.index_model.specs.State.{Index, State};
+ghost use Rattle.stored_index.specs.Stored.{HaveHeads, HaveLive, IsStored};
+ghost use Rattle.index_model.specs.State.{Index};
 ghost use Rattle.segment_view.specs.LiveSegments.{lives_of};
 ghost use Rattle.file_names.specs.Names.{is_named};
 
@@ -29,12 +28,10 @@ use page_cache::{Memory, PageCache, PageFault};
 use std::alloc::Global;
 
 impl<const D: usize> SegmentSet<D> {
-    ghost use Rattle.segment_set.specs.Sets.{SetData};
     ghost use Rattle.segment_set.specs.Seen.{Sees};
+    ghost use Rattle.segment_set.specs.Effects.{ShowsAttachDamage};
     ghost use Rattle.segment_set.specs.Kept.{IsAtRest};
-    ghost use Rattle.index_opening.specs.Damages.{IsAttachDamage, IsAttachDamageOf};
     ghost use Rattle.segment_set.specs.Faithful.{IsFaithful};
-    ghost use Rattle.index_opening.specs.Evidence.{IsEvident};
 
     /// The set of a commit's segments. It reads their heads, indexes and live bits, no leaf, and answers Unequal,
     /// Beyond or Doubled where these show it.
@@ -61,15 +58,7 @@ impl<const D: usize> SegmentSet<D> {
             → F.reads folder.new ≤ F.reads folder.old + segments_pages (F.files folder.old) c.now.listed heads }
         // what an error says: where a state is stored there is no damage, and where there is one none is
         ensures cause { HasPageCause (F.faults folder.old) (F.faults folder.new) result }
-        ensures whole { IsTrue F.told → IsCommitFile (bytes_of (F.files folder.old CommitName)) c.now → (state : State)
-            → IsStored (F.files folder.old) state → NotDamaged result }
-        ensures undefined { IsTrue F.told → IsCommitFile (bytes_of (F.files folder.old CommitName)) c.now
-            → OnDamage result (λ _. IsUndefined (F.files folder.old)) }
-        ensures shown { OnDamage result (IsAttachDamage c.now) }
-        ensures damage { IsTrue F.told → OnDamage result (IsAttachDamageOf (F.files folder.old) c.now) }
-        ensures evident { OnDamage result
-            (IsEvident (IsTrue F.told × IsCommitFile (bytes_of (F.files folder.old CommitName)) c.now)
-            (F.files folder.old)) }
+        ensures damaged { ShowsAttachDamage (IsTrue F.told) (F.files folder.old) c.now (λ P. OnDamage result P) }
     {
         let names = names_of(alloc, c)?;
         let segments = open_all::<D, F>(alloc, folder, c)?;

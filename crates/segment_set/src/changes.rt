@@ -1,13 +1,11 @@
 //! Documents that come and go.
 
 ghost use Rattle.std.specs.Prelude.{◌≡◌, ◌≤◌, ◌<◌, ◌+◌, ◌^◌, ◌++◌, ◌∷◌, ◌↔◌, [], length};
-ghost use Rattle.std.specs.Prelude.{All, IsTrue, IsOk, IfOk, OnOk, OnErr, IsErrOf};
+ghost use Rattle.std.specs.Prelude.{All, IsTrue, IsOk, IfOk, OnOk, OnErr};
 ghost use Rattle.point_codec.specs.Points.{ArePoints};
-ghost use Rattle.page_cache.specs.Cache.{Agrees};
 ghost use Rattle.page_cache.specs.Causes.{HasPageCause};
-ghost use Rattle.page_cache.specs.Evidence.{OnDamage, NotDamaged};
+ghost use Rattle.page_cache.specs.Evidence.{OnDamage};
 ghost use Rattle.index_model.specs.State.{Index};
-ghost use Rattle.segment_view.specs.LiveSegments.{Contents, AreRead, live_in_parts};
 
 use crate::faults::AddFault;
 use crate::set::SegmentSet;
@@ -27,13 +25,13 @@ const MOST_BUFFERED: usize = 16384;
 
 impl<const D: usize> SegmentSet<D> {
     ghost use Rattle.segment_set.specs.Faults.{HasCauseOf, OnAddDamage};
+    ghost use Rattle.segment_set.specs.Effects.{AddsAlone, AddsInRoom, GivesNumber, LeavesWhole, RefusesFull};
+    ghost use Rattle.segment_set.specs.Effects.{Rewrites, ShowsMergeDamage};
+    ghost use Rattle.segment_set.specs.Merged.{Rearranges};
     ghost use Rattle.segment_set.specs.Sets.{IsNamed, IsSettled, set_with};
     ghost use Rattle.segment_set.specs.Seen.{Sees};
-    ghost use Rattle.segment_set.specs.Kept.{AreCanonical, Follows, KeepsNamed, StaysAlone};
     ghost use Rattle.segment_set.specs.Settles.{Flushes, IsLeft, Settles, SetMoment, moment};
-    ghost use Rattle.segment_set.specs.Damages.{IsDoubt, IsMergeDamage, IsMergeDamageOf};
     ghost use Rattle.segment_set.specs.Faithful.{IsFaithful};
-    ghost use Rattle.index_opening.specs.Evidence.{IsEvidentIn};
     ghost use Rattle.segment_set.specs.declared.faults.AddFault.TheVariants.{Full, Failed};
 
     /// Adds a document with these points, and answers its number. Full exactly where more than 16,777,216 points
@@ -57,52 +55,26 @@ impl<const D: usize> SegmentSet<D> {
             })) }
         ensures refused { IsTrue F.told → (i : Index) → Sees D (F.files folder.old) self.old i
             → OnErr result (Sees D (F.files folder.new) self.new i) }
-        ensures number { IfOk result (λ n. n ≡ self.old.next) }
-        ensures given { OnOk result
-            ((self.new.next ≡ self.old.next + 1) × (self.new.given ≡ self.old.given + length points.now)) }
-        ensures full { IsErrOf result Full ↔ (2 ^ 24 < self.old.given + length points.now) }
+        ensures gives { GivesNumber self.old self.new (length points.now) result }
+        ensures full { RefusesFull (IsTrue F.told) (F.files folder.old) (F.files folder.new) self.old self.new
+            (F.reads folder.old) (F.reads folder.new) (length points.now) result }
         // what stays: where it is full everything, and after a fault what whole merges of the policy left
-        ensures kept_full { IsErrOf result Full → (self.new ≡ self.old) × (F.reads folder.new ≡ F.reads folder.old) }
-        ensures files_full { IsTrue F.told → IsErrOf result Full → F.files folder.new ≡ F.files folder.old }
         ensures added { OnOk result
             ((s : SetMoment) × Flushes D (IsTrue F.told) (moment (F.files folder.old) self.old) s
             × (self.new ≡ set_with points.now s.set)) }
-        ensures left { OnErr result
-            (IsLeft (Flushes D (IsTrue F.told) (moment (F.files folder.old) self.old)) self.new) }
-        ensures stays { OnErr result (StaysAlone self.old self.new) }
-        ensures kept { KeepsNamed (IsTrue F.told) self.old.names self.new.names (F.files folder.old)
-            (F.files folder.new) }
-        ensures follows { Follows self.old.names self.old.parts self.new.parts }
-        ensures saved { self.new.saved ≡ self.old.saved }
-        ensures begun { self.new.begun ≡ self.old.begun }
-        ensures snapshots { self.new.snapshots ≡ self.old.snapshots }
-        ensures leaf { self.new.leaf ≡ self.old.leaf }
-        ensures canon { IsTrue F.told → AreCanonical D (F.files folder.new) self.old.names self.new.parts }
-        ensures faithful { IsTrue F.told → IsFaithful D (F.files folder.old) self.old
-            → IsFaithful D (F.files folder.new) self.new }
+        ensures left { LeavesWhole (Flushes D (IsTrue F.told) (moment (F.files folder.old) self.old)) self.old self.new
+            result }
+        ensures rewrites { Rewrites D (IsTrue F.told) (F.files folder.old) (F.files folder.new) self.old self.new }
+        ensures alone { AddsAlone self.old self.new }
         // where the buffer has room nothing is read or written
-        ensures unread { length self.old.buffer + length points.now ≤ 16384 → F.reads folder.new ≡ F.reads folder.old }
-        ensures files { IsTrue F.told → length self.old.buffer + length points.now ≤ 16384
-            → F.files folder.new ≡ F.files folder.old }
-        ensures room { length self.old.buffer + length points.now ≤ 16384 → OnAddDamage result (λ _. ⊥) }
-        ensures parts { length self.old.buffer + length points.now ≤ 16384
-            → (self.new.parts ≡ self.old.parts)
-            × (length self.new.buffer ≤ length self.old.buffer + length points.now) }
+        ensures in_room { AddsInRoom (IsTrue F.told) (F.files folder.old) (F.files folder.new) self.old self.new
+            (F.reads folder.old) (F.reads folder.new) (length points.now) result }
         // and where the policy chooses nothing, nothing is read
         ensures rested { IsSettled self.old → F.reads folder.new ≡ F.reads folder.old }
         // what an error says
         ensures cause { HasCauseOf Failed (F.faults folder.old) (F.faults folder.new) result }
-        ensures whole { IsTrue F.told → (i : Index) → Sees D (F.files folder.old) self.old i
-            → OnAddDamage result (λ _. ⊥) }
-        ensures shown { OnAddDamage result (IsMergeDamage D self.old.given self.old.names self.old.parts) }
-        ensures damage { IsTrue F.told → Agrees (F.files folder.old) self.old.cache
-            → OnAddDamage result (IsMergeDamageOf (F.files folder.new) self.old.given) }
-        ensures doubled { IsTrue F.told → Agrees (F.files folder.old) self.old.cache → (c : Contents)
-            → AreRead D (F.files folder.old) c self.old.parts
-            → OnAddDamage result (IsDoubt self.old.given (live_in_parts c self.old.parts)) }
-        ensures evident { OnAddDamage result
-            (IsEvidentIn D self.old.parts (IsTrue F.told × IsFaithful D (F.files folder.old) self.old)
-            (F.files folder.new)) }
+        ensures damaged { ShowsMergeDamage D (IsTrue F.told) (F.files folder.old) (F.files folder.new) self.old
+            (λ P. OnAddDamage result P) }
     {
         let count = points.as_slice().len() as u32;
         if self.is_full(count) {
@@ -144,34 +116,18 @@ impl<const D: usize> SegmentSet<D> {
         ensures files { IsTrue F.told → length self.old.buffer + count ≤ 16384
             → F.files folder.new ≡ F.files folder.old }
         ensures rested { IsSettled self.old → F.reads folder.new ≡ F.reads folder.old }
-        ensures seen { IsTrue F.told → (i : Index) → Sees D (F.files folder.old) self.old i
-            → Sees D (F.files folder.new) self.new i }
+        ensures moves { Rearranges D (IsTrue F.told) (F.files folder.old) (F.files folder.new) self.old self.new }
         // what stays
         ensures flushed { OnOk result
             (Flushes D (IsTrue F.told) (moment (F.files folder.old) self.old) (moment (F.files folder.new) self.new)) }
         ensures left { OnErr result
             (IsLeft (Settles D (IsTrue F.told) (moment (F.files folder.old) self.old)) self.new) }
-        ensures stays { StaysAlone self.old self.new }
-        ensures kept { KeepsNamed (IsTrue F.told) self.old.names self.new.names (F.files folder.old)
-            (F.files folder.new) }
-        ensures follows { Follows self.old.names self.old.parts self.new.parts }
-        ensures saved { self.new.saved ≡ self.old.saved }
-        ensures begun { self.new.begun ≡ self.old.begun }
-        ensures canon { IsTrue F.told → AreCanonical D (F.files folder.new) self.old.names self.new.parts }
         ensures faithful { IsTrue F.told → IsFaithful D (F.files folder.old) self.old
             → IsFaithful D (F.files folder.new) self.new }
         // what an error says
         ensures cause { HasPageCause (F.faults folder.old) (F.faults folder.new) result }
-        ensures whole { IsTrue F.told → (i : Index) → Sees D (F.files folder.old) self.old i → NotDamaged result }
-        ensures shown { OnDamage result (IsMergeDamage D self.old.given self.old.names self.old.parts) }
-        ensures damage { IsTrue F.told → Agrees (F.files folder.old) self.old.cache
-            → OnDamage result (IsMergeDamageOf (F.files folder.new) self.old.given) }
-        ensures doubled { IsTrue F.told → Agrees (F.files folder.old) self.old.cache → (c : Contents)
-            → AreRead D (F.files folder.old) c self.old.parts
-            → OnDamage result (IsDoubt self.old.given (live_in_parts c self.old.parts)) }
-        ensures evident { OnDamage result
-            (IsEvidentIn D self.old.parts (IsTrue F.told × IsFaithful D (F.files folder.old) self.old)
-            (F.files folder.new)) }
+        ensures damaged { ShowsMergeDamage D (IsTrue F.told) (F.files folder.old) (F.files folder.new) self.old
+            (λ P. OnDamage result P) }
     {
         if self.has_room(count) {
             return Ok(());

@@ -5,16 +5,13 @@ ghost use Rattle.std.specs.Prelude.{IsTrue, IfOk, OnOk, OnErr};
 ghost use Rattle.outer_io.specs.Files.{Files};
 ghost use Rattle.point_codec.specs.Points.{in_box};
 ghost use Rattle.cell_relate.specs.Boxes.{crosses};
-ghost use Rattle.page_cache.specs.Cache.{Agrees};
 ghost use Rattle.page_cache.specs.Causes.{HasPageCause};
-ghost use Rattle.page_cache.specs.Evidence.{OnDamage, NotDamaged};
-ghost use Rattle.segment_file.specs.Damages.{IsLeafDamageOf};
+ghost use Rattle.page_cache.specs.Evidence.{OnDamage};
 ghost use Rattle.documents.specs.Documents.{docs_without, hits, is_live, docs_failing};
 ghost use Rattle.documents.specs.Entries.{is_among};
 ghost use Rattle.index_model.specs.State.{Index};
 ghost use Rattle.segment_view.specs.LiveSegments.{heads_of};
 ghost use Rattle.segment_view.specs.Costs.{AreTouched};
-ghost use Rattle.segment_view.specs.Damages.{IsPartDamage};
 ghost use Rattle.segment_set.specs.Sets.{begun_but};
 
 use crate::set::{Begun, SegmentSet};
@@ -26,10 +23,10 @@ use std::alloc::Global;
 
 impl<const D: usize> SegmentSet<D> {
     ghost use Rattle.segment_set.specs.Sets.{is_live_in, set_but};
+    ghost use Rattle.segment_set.specs.Effects.{DeletesAlone, ShowsLeafDamage};
     ghost use Rattle.segment_set.specs.Seen.{Sees};
     ghost use Rattle.segment_set.specs.Kept.{Follows, StaysAlone, StaysButCache};
     ghost use Rattle.segment_set.specs.Faithful.{IsFaithful};
-    ghost use Rattle.index_opening.specs.Evidence.{IsEvident};
 
     /// Takes a document out. True exactly where it was live. It takes no memory and no folder.
     pub fn delete(&mut self, doc: u32) -> bool
@@ -67,10 +64,7 @@ impl<const D: usize> SegmentSet<D> {
         // what stays
         ensures files { IsTrue F.told → F.files folder.new ≡ F.files folder.old }
         ensures alone { OnErr result (StaysButCache self.old self.new) }
-        ensures stays { StaysAlone self.old self.new }
-        ensures follows { Follows self.old.names self.old.parts self.new.parts }
-        ensures names { self.new.names ≡ self.old.names }
-        ensures saved { self.new.saved ≡ self.old.saved }
+        ensures deletes { DeletesAlone self.old self.new }
         ensures faithful { IsTrue F.told → IsFaithful D (F.files folder.old) self.old
             → IsFaithful D (F.files folder.new) self.new }
         // what it costs, and what an error says
@@ -78,12 +72,8 @@ impl<const D: usize> SegmentSet<D> {
             (crosses (record { lo = lo.now.c; hi = hi.now.c })) (heads_of self.old.parts) n
             → F.reads folder.new ≤ F.reads folder.old + n }
         ensures cause { HasPageCause (F.faults folder.old) (F.faults folder.new) result }
-        ensures whole { IsTrue F.told → (i : Index) → Sees D (F.files folder.old) self.old i → NotDamaged result }
-        ensures shown { OnDamage result (IsPartDamage D self.old.parts) }
-        ensures damage { IsTrue F.told → Agrees (F.files folder.old) self.old.cache
-            → OnDamage result (IsLeafDamageOf (F.files folder.old)) }
-        ensures evident { OnDamage result
-            (IsEvident (IsTrue F.told × IsFaithful D (F.files folder.old) self.old) (F.files folder.new)) }
+        ensures damaged { ShowsLeafDamage D (IsTrue F.told) (F.files folder.old) (F.files folder.new) self.old
+            self.old.parts (λ P. OnDamage result P) }
     {
         let mut shape = BoxShape::new(*lo, *hi);
         let hits = self.visit(alloc, folder, &View::Now, &mut shape)?;

@@ -2,12 +2,10 @@
 
 ghost use Rattle.std.specs.Prelude.{◌≡◌, ◌≤◌, ◌<◌, ◌+◌, ◌⊎◌, ℕ, List, [], Some};
 ghost use Rattle.std.specs.Prelude.{length, map, slice_index, IsTrue, IfOk, IfNone, IfSome, OnOk, OnErr};
-ghost use Rattle.page_cache.specs.Cache.{Agrees};
 ghost use Rattle.page_cache.specs.Causes.{HasPageCause};
 ghost use Rattle.page_cache.specs.Evidence.{OnDamage, NotDamaged};
 ghost use Rattle.merge_policy.specs.Choice.{IsChoice, free_count};
-ghost use Rattle.index_model.specs.State.{Index};
-ghost use Rattle.segment_view.specs.LiveSegments.{Contents, AreRead, ids_of, live_in_parts, parts_among};
+ghost use Rattle.segment_view.specs.LiveSegments.{ids_of, parts_among};
 
 use crate::choosing::{chosen, inputs_of};
 use crate::rewriting::write_buffer;
@@ -21,13 +19,11 @@ use std::thread::Threads;
 
 impl<const D: usize> SegmentSet<D> {
     ghost use Rattle.segment_set.specs.Sets.{IsSettled, IsWell, inputs_of, pins_of, sizes_of};
-    ghost use Rattle.segment_set.specs.Seen.{Sees};
-    ghost use Rattle.segment_set.specs.Kept.{AreCanonical, Follows, IsAsBefore, KeepsNamed, StaysAlone};
+    ghost use Rattle.segment_set.specs.Effects.{ShowsMergeDamage};
+    ghost use Rattle.segment_set.specs.Kept.{IsAsBefore};
     ghost use Rattle.segment_set.specs.Merged.{IsApart, Rearranges};
     ghost use Rattle.segment_set.specs.Settles.{Flushes, IsLeft, Settles, WritesBuffer, moment};
-    ghost use Rattle.segment_set.specs.Damages.{IsDoubt, IsMergeDamage, IsMergeDamageOf};
     ghost use Rattle.segment_set.specs.Faithful.{IsFaithful};
-    ghost use Rattle.index_opening.specs.Evidence.{IsEvidentIn};
 
     /// Settles, then writes the buffer as a new segment unless it is empty.
     pub fn flush<R: Threads + Sync, F: Folder, G: Gate>(
@@ -37,8 +33,7 @@ impl<const D: usize> SegmentSet<D> {
         folder: &mut F,
         gate: &G,
     ) -> Result<(), PageFault>
-        ensures seen { IsTrue F.told → (i : Index) → Sees D (F.files folder.old) self.old i
-            → Sees D (F.files folder.new) self.new i }
+        ensures moves { Rearranges D (IsTrue F.told) (F.files folder.old) (F.files folder.new) self.old self.new }
         ensures emptied { OnOk result (self.new.buffer ≡ []) }
         ensures levels { OnOk result
             ((level : ℕ) → free_count level (sizes_of self.new.parts) (pins_of self.new.begun self.new.parts) ≤ 10) }
@@ -48,29 +43,14 @@ impl<const D: usize> SegmentSet<D> {
         ensures left { OnErr result
             (IsLeft (Settles D (IsTrue F.told) (moment (F.files folder.old) self.old)) self.new) }
         // what stays
-        ensures stays { StaysAlone self.old self.new }
-        ensures kept { KeepsNamed (IsTrue F.told) self.old.names self.new.names (F.files folder.old)
-            (F.files folder.new) }
-        ensures follows { Follows self.old.names self.old.parts self.new.parts }
-        ensures saved { self.new.saved ≡ self.old.saved }
-        ensures begun { self.new.begun ≡ self.old.begun }
-        ensures canon { IsTrue F.told → AreCanonical D (F.files folder.new) self.old.names self.new.parts }
         ensures faithful { IsTrue F.told → IsFaithful D (F.files folder.old) self.old
             → IsFaithful D (F.files folder.new) self.new }
         // where the policy chooses nothing, nothing is read
         ensures rested { IsSettled self.old → F.reads folder.new ≡ F.reads folder.old }
         // what an error says
         ensures cause { HasPageCause (F.faults folder.old) (F.faults folder.new) result }
-        ensures whole { IsTrue F.told → (i : Index) → Sees D (F.files folder.old) self.old i → NotDamaged result }
-        ensures shown { OnDamage result (IsMergeDamage D self.old.given self.old.names self.old.parts) }
-        ensures damage { IsTrue F.told → Agrees (F.files folder.old) self.old.cache
-            → OnDamage result (IsMergeDamageOf (F.files folder.new) self.old.given) }
-        ensures doubled { IsTrue F.told → Agrees (F.files folder.old) self.old.cache → (c : Contents)
-            → AreRead D (F.files folder.old) c self.old.parts
-            → OnDamage result (IsDoubt self.old.given (live_in_parts c self.old.parts)) }
-        ensures evident { OnDamage result
-            (IsEvidentIn D self.old.parts (IsTrue F.told × IsFaithful D (F.files folder.old) self.old)
-            (F.files folder.new)) }
+        ensures damaged { ShowsMergeDamage D (IsTrue F.told) (F.files folder.old) (F.files folder.new) self.old
+            (λ P. OnDamage result P) }
     {
         self.merge_settle(rt, alloc, folder, gate)?;
         self.write_buffer(rt, alloc, folder, gate)
@@ -84,8 +64,7 @@ impl<const D: usize> SegmentSet<D> {
         folder: &mut F,
         gate: &G,
     ) -> Result<(), PageFault>
-        ensures seen { IsTrue F.told → (i : Index) → Sees D (F.files folder.old) self.old i
-            → Sees D (F.files folder.new) self.new i }
+        ensures moves { Rearranges D (IsTrue F.told) (F.files folder.old) (F.files folder.new) self.old self.new }
         ensures buffer { self.new.buffer ≡ self.old.buffer }
         ensures levels { OnOk result
             ((level : ℕ) → free_count level (sizes_of self.new.parts) (pins_of self.new.begun self.new.parts) < 10) }
@@ -96,13 +75,6 @@ impl<const D: usize> SegmentSet<D> {
         ensures left { OnErr result
             (IsLeft (Settles D (IsTrue F.told) (moment (F.files folder.old) self.old)) self.new) }
         // what stays
-        ensures stays { StaysAlone self.old self.new }
-        ensures kept { KeepsNamed (IsTrue F.told) self.old.names self.new.names (F.files folder.old)
-            (F.files folder.new) }
-        ensures follows { Follows self.old.names self.old.parts self.new.parts }
-        ensures saved { self.new.saved ≡ self.old.saved }
-        ensures begun { self.new.begun ≡ self.old.begun }
-        ensures canon { IsTrue F.told → AreCanonical D (F.files folder.new) self.old.names self.new.parts }
         ensures faithful { IsTrue F.told → IsFaithful D (F.files folder.old) self.old
             → IsFaithful D (F.files folder.new) self.new }
         // where the policy chooses nothing, nothing is done
@@ -110,16 +82,8 @@ impl<const D: usize> SegmentSet<D> {
         ensures still { IsSettled self.old → self.new ≡ self.old }
         // what an error says
         ensures cause { HasPageCause (F.faults folder.old) (F.faults folder.new) result }
-        ensures whole { IsTrue F.told → (i : Index) → Sees D (F.files folder.old) self.old i → NotDamaged result }
-        ensures shown { OnDamage result (IsMergeDamage D self.old.given self.old.names self.old.parts) }
-        ensures damage { IsTrue F.told → Agrees (F.files folder.old) self.old.cache
-            → OnDamage result (IsMergeDamageOf (F.files folder.new) self.old.given) }
-        ensures doubled { IsTrue F.told → Agrees (F.files folder.old) self.old.cache → (c : Contents)
-            → AreRead D (F.files folder.old) c self.old.parts
-            → OnDamage result (IsDoubt self.old.given (live_in_parts c self.old.parts)) }
-        ensures evident { OnDamage result
-            (IsEvidentIn D self.old.parts (IsTrue F.told × IsFaithful D (F.files folder.old) self.old)
-            (F.files folder.new)) }
+        ensures damaged { ShowsMergeDamage D (IsTrue F.told) (F.files folder.old) (F.files folder.new) self.old
+            (λ P. OnDamage result P) }
     {
         while let Some(ids) = self.next_merge(alloc)? {
             self.merge(rt, alloc, folder, ids.as_slice(), gate)?;

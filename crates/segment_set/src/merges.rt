@@ -3,12 +3,11 @@
 ghost use Rattle.std.specs.Prelude.{◌≡◌, ◌≤◌, ◌<◌, ◌+◌, ◌↔◌, ◌⊎◌, true, false, None, Some, is_some};
 ghost use Rattle.std.specs.Prelude.{length, All, IsTrue, IfOk, OnOk, OnErr, IsErrOf};
 ghost use Rattle.live_bits.specs.LiveSet.{is_live};
-ghost use Rattle.page_cache.specs.Cache.{Agrees};
 ghost use Rattle.page_cache.specs.Causes.{HasPageCause};
-ghost use Rattle.page_cache.specs.Evidence.{OnDamage, NotDamaged};
+ghost use Rattle.page_cache.specs.Evidence.{OnDamage};
 ghost use Rattle.index_model.specs.State.{Index};
 ghost use Rattle.segment_build.specs.NewSegments.{NewSegmentData};
-ghost use Rattle.segment_view.specs.LiveSegments.{Contents, AreRead, ids_of, live_in_parts, parts_among};
+ghost use Rattle.segment_view.specs.LiveSegments.{Contents, ids_of, parts_among};
 
 use crate::build_plan::BuildPlan;
 use crate::choosing::{first_places, ids_at, inputs_of, is_settled, unpinned};
@@ -24,17 +23,16 @@ use std::thread::Threads;
 
 impl<const D: usize> SegmentSet<D> {
     ghost use Rattle.segment_set.specs.Faults.{HasCauseOf, OnBeginDamage, OnEndDamage};
+    ghost use Rattle.segment_set.specs.Effects.{EndsMerge, Rewrites, ShowsMergeDamage};
     ghost use Rattle.segment_set.specs.Sets.{BegunMerge, IsWell, inputs_of};
     ghost use Rattle.segment_set.specs.Seen.{Sees, StandsOver};
-    ghost use Rattle.segment_set.specs.Kept.{AreCanonical, Follows, IsAsBefore, KeepsNamed, StaysAlone, StaysButCache};
+    ghost use Rattle.segment_set.specs.Kept.{IsAsBefore, StaysAlone, StaysButCache};
     ghost use Rattle.segment_set.specs.Kept.{StaysButMerge, StaysButParts};
-    ghost use Rattle.segment_set.specs.Merged.{IsApart, IsEnded, IsTidy, IsWhole, KeepsEntries, Rearranges, chosen_ids};
+    ghost use Rattle.segment_set.specs.Merged.{IsApart, IsTidy, IsWhole, KeepsEntries, Rearranges, chosen_ids};
     ghost use Rattle.segment_set.specs.Merged.{free_ids, free_parts};
-    ghost use Rattle.segment_set.specs.Merges.{IsGathered, IsMerged, Replaces, living};
+    ghost use Rattle.segment_set.specs.Merges.{IsGathered, IsMerged};
     ghost use Rattle.segment_set.specs.Settles.{MergesParts, moment};
-    ghost use Rattle.segment_set.specs.Damages.{IsDoubt, IsMergeDamage, IsMergeDamageOf};
     ghost use Rattle.segment_set.specs.Faithful.{IsFaithful};
-    ghost use Rattle.index_opening.specs.Evidence.{IsEvidentIn};
     ghost use Rattle.segment_set.specs.declared.faults.BeginFault.TheVariants as begin;
     ghost use Rattle.segment_set.specs.declared.faults.EndFault.TheVariants as end;
 
@@ -48,8 +46,7 @@ impl<const D: usize> SegmentSet<D> {
         folder: &mut F,
         gate: &G,
     ) -> Result<(), PageFault>
-        ensures seen { IsTrue F.told → (i : Index) → Sees D (F.files folder.old) self.old i
-            → Sees D (F.files folder.new) self.new i }
+        ensures moves { Rearranges D (IsTrue F.told) (F.files folder.old) (F.files folder.new) self.old self.new }
         ensures buffer { self.new.buffer ≡ self.old.buffer }
         // of the segments that are no inputs one is left at most, without dead entries
         ensures one { OnOk result
@@ -66,27 +63,12 @@ impl<const D: usize> SegmentSet<D> {
         ensures unwritten { IsTrue F.told → IsTidy self.old → F.files folder.new ≡ F.files folder.old }
         ensures refused { OnErr result (IsAsBefore self.old self.new) }
         // what stays
-        ensures stays { StaysAlone self.old self.new }
-        ensures kept { KeepsNamed (IsTrue F.told) self.old.names self.new.names (F.files folder.old)
-            (F.files folder.new) }
-        ensures follows { Follows self.old.names self.old.parts self.new.parts }
-        ensures saved { self.new.saved ≡ self.old.saved }
-        ensures begun { self.new.begun ≡ self.old.begun }
-        ensures canon { IsTrue F.told → AreCanonical D (F.files folder.new) self.old.names self.new.parts }
         ensures faithful { IsTrue F.told → IsFaithful D (F.files folder.old) self.old
             → IsFaithful D (F.files folder.new) self.new }
         // what an error says
         ensures cause { HasPageCause (F.faults folder.old) (F.faults folder.new) result }
-        ensures whole { IsTrue F.told → (i : Index) → Sees D (F.files folder.old) self.old i → NotDamaged result }
-        ensures shown { OnDamage result (IsMergeDamage D self.old.given self.old.names self.old.parts) }
-        ensures damage { IsTrue F.told → Agrees (F.files folder.old) self.old.cache
-            → OnDamage result (IsMergeDamageOf (F.files folder.new) self.old.given) }
-        ensures doubled { IsTrue F.told → Agrees (F.files folder.old) self.old.cache → (c : Contents)
-            → AreRead D (F.files folder.old) c self.old.parts
-            → OnDamage result (IsDoubt self.old.given (live_in_parts c self.old.parts)) }
-        ensures evident { OnDamage result
-            (IsEvidentIn D self.old.parts (IsTrue F.told × IsFaithful D (F.files folder.old) self.old)
-            (F.files folder.new)) }
+        ensures damaged { ShowsMergeDamage D (IsTrue F.told) (F.files folder.old) (F.files folder.new) self.old
+            (λ P. OnDamage result P) }
     {
         let ids = self.unpinned(alloc)?;
         if self.is_settled(ids.as_slice()) {
@@ -125,17 +107,8 @@ impl<const D: usize> SegmentSet<D> {
             → IsFaithful D (F.files folder.new) self.new }
         // what an error says
         ensures cause { HasCauseOf begin.Failed (F.faults folder.old) (F.faults folder.new) result }
-        ensures whole { IsTrue F.told → (i : Index) → Sees D (F.files folder.old) self.old i
-            → OnBeginDamage result (λ _. ⊥) }
-        ensures shown { OnBeginDamage result (IsMergeDamage D self.old.given self.old.names self.old.parts) }
-        ensures damage { IsTrue F.told → Agrees (F.files folder.old) self.old.cache
-            → OnBeginDamage result (IsMergeDamageOf (F.files folder.new) self.old.given) }
-        ensures doubled { IsTrue F.told → Agrees (F.files folder.old) self.old.cache → (c : Contents)
-            → AreRead D (F.files folder.old) c self.old.parts
-            → OnBeginDamage result (IsDoubt self.old.given (live_in_parts c self.old.parts)) }
-        ensures evident { OnBeginDamage result
-            (IsEvidentIn D self.old.parts (IsTrue F.told × IsFaithful D (F.files folder.old) self.old)
-            (F.files folder.new)) }
+        ensures damaged { ShowsMergeDamage D (IsTrue F.told) (F.files folder.old) (F.files folder.new) self.old
+            (λ P. OnBeginDamage result P) }
     {
         if self.begun.is_some() {
             return Err(BeginFault::Begun);
@@ -166,25 +139,13 @@ impl<const D: usize> SegmentSet<D> {
         ensures refused { IsTrue F.told → (i : Index) → Sees D (F.files folder.old) self.old i
             → OnErr result (Sees D (F.files folder.new) self.new i) }
         ensures not_begun { IsErrOf result end.NotBegun ↔ (is_some self.old.begun ≡ false) }
-        ensures ended { OnOk result (self.new.begun ≡ None) }
-        ensures parts { (b : BegunMerge) → self.old.begun ≡ Some b
-            → OnOk result (IsEnded b self.old.parts self.new.parts) }
-        ensures replaced { (b : BegunMerge) → self.old.begun ≡ Some b
-            → OnOk result
-            (Replaces D (IsTrue F.told) self.old.names self.new.names (F.files folder.new) b.inputs
-            (living b.built) self.old.parts self.new.parts) }
+        ensures ends { EndsMerge D (IsTrue F.told) (F.files folder.new) self.old self.new result }
         ensures alone { OnErr result (IsAsBefore self.old self.new) }
         ensures buffer { self.new.buffer ≡ self.old.buffer }
         // what stays
         ensures stays { StaysAlone self.old (record self.new { begun = self.old.begun }) }
-        ensures begun { OnErr result (self.new.begun ≡ self.old.begun) }
-        ensures kept { KeepsNamed (IsTrue F.told) self.old.names self.new.names (F.files folder.old)
-            (F.files folder.new) }
-        ensures follows { Follows self.old.names self.old.parts self.new.parts }
+        ensures rewrites { Rewrites D (IsTrue F.told) (F.files folder.old) (F.files folder.new) self.old self.new }
         ensures saved { self.new.saved ≡ self.old.saved }
-        ensures canon { IsTrue F.told → AreCanonical D (F.files folder.new) self.old.names self.new.parts }
-        ensures faithful { IsTrue F.told → IsFaithful D (F.files folder.old) self.old
-            → IsFaithful D (F.files folder.new) self.new }
         ensures unread { F.reads folder.new ≡ F.reads folder.old }
         // what an error says
         ensures cause { HasCauseOf end.Failed (F.faults folder.old) (F.faults folder.new) result }
@@ -257,16 +218,8 @@ impl<const D: usize> SegmentSet<D> {
         ensures alone { StaysButParts self.old self.new }
         ensures refused { OnErr result (IsAsBefore self.old self.new) }
         ensures cause { HasPageCause (F.faults folder.old) (F.faults folder.new) result }
-        ensures whole { IsTrue F.told → (i : Index) → Sees D (F.files folder.old) self.old i → NotDamaged result }
-        ensures shown { OnDamage result (IsMergeDamage D self.old.given self.old.names self.old.parts) }
-        ensures damage { IsTrue F.told → Agrees (F.files folder.old) self.old.cache
-            → OnDamage result (IsMergeDamageOf (F.files folder.new) self.old.given) }
-        ensures doubled { IsTrue F.told → Agrees (F.files folder.old) self.old.cache → (c : Contents)
-            → AreRead D (F.files folder.old) c self.old.parts
-            → OnDamage result (IsDoubt self.old.given (live_in_parts c self.old.parts)) }
-        ensures evident { OnDamage result
-            (IsEvidentIn D self.old.parts (IsTrue F.told × IsFaithful D (F.files folder.old) self.old)
-            (F.files folder.new)) }
+        ensures damaged { ShowsMergeDamage D (IsTrue F.told) (F.files folder.old) (F.files folder.new) self.old
+            (λ P. OnDamage result P) }
     {
         let plan = self.plan();
         merge(

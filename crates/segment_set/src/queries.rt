@@ -3,10 +3,8 @@
 ghost use Rattle.std.specs.Prelude.{◌≡◌, ◌≤◌, ◌+◌, ◌*◌, ℕ, List, None, Some, length, IsTrue, IfOk};
 ghost use Rattle.point_codec.specs.Seen.{items_of};
 ghost use Rattle.point_codec.specs.declared.entries.Near.{Near};
-ghost use Rattle.page_cache.specs.Cache.{Agrees};
 ghost use Rattle.page_cache.specs.Causes.{HasPageCause};
-ghost use Rattle.page_cache.specs.Evidence.{OnDamage, NotDamaged};
-ghost use Rattle.segment_file.specs.Damages.{IsLeafDamageOf};
+ghost use Rattle.page_cache.specs.Evidence.{OnDamage};
 ghost use Rattle.documents.specs.Documents.{Document, hits};
 ghost use Rattle.documents.specs.Nearest.{found_of, nearest};
 ghost use Rattle.documents.specs.NearestEntries.{IsNearest, nears_of};
@@ -15,7 +13,6 @@ ghost use Rattle.script_lang.specs.Seen.{view_name};
 ghost use Rattle.index_model.specs.State.{Index, viewed_docs};
 ghost use Rattle.segment_view.specs.LiveSegments.{Contents, heads_of};
 ghost use Rattle.segment_view.specs.Costs.{AreTested, AreTouched, leaves_in};
-ghost use Rattle.segment_view.specs.Damages.{IsPartDamage};
 
 use crate::buffer::Buffer;
 use crate::set::SegmentSet;
@@ -30,10 +27,10 @@ use std::alloc::Global;
 
 impl<const D: usize> SegmentSet<D> {
     ghost use Rattle.segment_set.specs.Sets.{HasView, viewed_buffer, viewed_parts};
+    ghost use Rattle.segment_set.specs.Effects.{ShowsLeafDamage};
     ghost use Rattle.segment_set.specs.Seen.{Sees, StandsOver, entries_seen};
     ghost use Rattle.segment_set.specs.Kept.{StaysButCache};
     ghost use Rattle.segment_set.specs.Faithful.{IsFaithful};
-    ghost use Rattle.index_opening.specs.Evidence.{IsEvident};
 
     /// The numbers of the view's documents that the shape has, ascending. Only leaves whose own cell is not outside
     /// are read, and only entries of the buffer and of leaves whose own cell the shape crosses are tested.
@@ -68,12 +65,8 @@ impl<const D: usize> SegmentSet<D> {
             → F.reads folder.new ≤ F.reads folder.old + n }
         // what an error says
         ensures cause { HasPageCause (F.faults folder.old) (F.faults folder.new) result }
-        ensures whole { IsTrue F.told → (i : Index) → Sees D (F.files folder.old) self.old i → NotDamaged result }
-        ensures shown { OnDamage result (IsPartDamage D (viewed_parts (view_name view.now) self.old)) }
-        ensures damage { IsTrue F.told → Agrees (F.files folder.old) self.old.cache
-            → OnDamage result (IsLeafDamageOf (F.files folder.old)) }
-        ensures evident { OnDamage result
-            (IsEvident (IsTrue F.told × IsFaithful D (F.files folder.old) self.old) (F.files folder.new)) }
+        ensures damaged { ShowsLeafDamage D (IsTrue F.told) (F.files folder.old) (F.files folder.new) self.old
+            (viewed_parts (view_name view.now) self.old) (λ P. OnDamage result P) }
     {
         settle_for(&mut self.buffer, view);
         let (segments, buffer) = view_of(
@@ -121,12 +114,8 @@ impl<const D: usize> SegmentSet<D> {
             → F.reads folder.new ≤ F.reads folder.old + leaves }
         // what an error says
         ensures cause { HasPageCause (F.faults folder.old) (F.faults folder.new) result }
-        ensures whole { IsTrue F.told → (i : Index) → Sees D (F.files folder.old) self.old i → NotDamaged result }
-        ensures shown { OnDamage result (IsPartDamage D (viewed_parts (view_name view.now) self.old)) }
-        ensures damage { IsTrue F.told → Agrees (F.files folder.old) self.old.cache
-            → OnDamage result (IsLeafDamageOf (F.files folder.old)) }
-        ensures evident { OnDamage result
-            (IsEvident (IsTrue F.told × IsFaithful D (F.files folder.old) self.old) (F.files folder.new)) }
+        ensures damaged { ShowsLeafDamage D (IsTrue F.told) (F.files folder.old) (F.files folder.new) self.old
+            (viewed_parts (view_name view.now) self.old) (λ P. OnDamage result P) }
     {
         settle_for(&mut self.buffer, view);
         let (segments, buffer) = view_of(

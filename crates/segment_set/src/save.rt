@@ -1,22 +1,15 @@
 //! What is saved.
 
-ghost use Rattle.std.specs.Prelude.{◌≡◌, ◌≤◌, ◌++◌, ◌∷◌, ℕ, true, false, [], Some, length, All, IsTrue, IfOk, OnOk};
+ghost use Rattle.std.specs.Prelude.{◌≡◌, ◌≤◌, ◌++◌, ◌∷◌, ℕ, true, [], Some, length, All, IsTrue, IfOk, OnOk};
 ghost use Rattle.std.specs.Prelude.{OnErr};
 ghost use Rattle.std.specs.List.{AllZip};
 ghost use Rattle.std.specs.List.Sorted.{IsStrictlyIncreasing};
-ghost use Rattle.outer_io.specs.Files.{Files, bytes_of};
-ghost use Rattle.outer_io.specs.declared.file_name.FileName.{FileName};
-ghost use Rattle.outer_io.specs.declared.file_name.FileName.TheVariants.{Commit as CommitName, Live, Segment};
-ghost use Rattle.page_cache.specs.Cache.{Agrees};
+ghost use Rattle.outer_io.specs.declared.file_name.FileName.TheVariants.{Live, Segment};
 ghost use Rattle.page_cache.specs.Causes.{HasPageCause};
 ghost use Rattle.page_cache.specs.Evidence.{OnDamage, NotDamaged};
-ghost use Rattle.commit_list.specs.CommitFiles.{IsCommitFile};
-ghost use Rattle.segment_file.specs.LiveFiles.{IsLiveFile};
 ghost use Rattle.merge_policy.specs.Choice.{free_count};
-ghost use Rattle.stored_index.specs.Kept.{ListsFile};
-ghost use Rattle.stored_index.specs.Stored.{IsStored};
-ghost use Rattle.index_model.specs.State.{Index, at_rest};
-ghost use Rattle.segment_view.specs.LiveSegments.{Contents, AreRead, ids_of, live_in_parts, live_segment};
+ghost use Rattle.index_model.specs.State.{Index};
+ghost use Rattle.segment_view.specs.LiveSegments.{ids_of, live_segment};
 ghost use Rattle.file_names.specs.Names.{is_named};
 ghost use Rattle.segment_set.specs.Sets.{IsNamed};
 ghost use Rattle.segment_set.specs.Kept.{KeepsNamed};
@@ -37,12 +30,11 @@ use std::thread::Threads;
 
 impl<const D: usize> SegmentSet<D> {
     ghost use Rattle.segment_set.specs.Sets.{IsSettled, IsWell, pins_of, sizes_of};
+    ghost use Rattle.segment_set.specs.Effects.{Rewrites, Saves, ShowsMergeDamage};
     ghost use Rattle.segment_set.specs.Seen.{Sees};
-    ghost use Rattle.segment_set.specs.Kept.{AreCanonical, Follows, IsAsBefore, IsCommitOf, StaysAlone};
+    ghost use Rattle.segment_set.specs.Kept.{IsAsBefore, IsCommitOf, StaysAlone};
     ghost use Rattle.segment_set.specs.Settles.{Flushes, IsLeft, SetMoment, moment};
-    ghost use Rattle.segment_set.specs.Damages.{IsDoubt, IsMergeDamage, IsMergeDamageOf};
     ghost use Rattle.segment_set.specs.Faithful.{IsFaithful};
-    ghost use Rattle.index_opening.specs.Evidence.{IsEvidentIn};
 
     /// Flushes, writes the live bits of each segment under a generation that the list of names doesn't have, and
     /// answers the commit that lists the segments of now with them.
@@ -59,15 +51,7 @@ impl<const D: usize> SegmentSet<D> {
         ensures levels { OnOk result
             ((level : ℕ) → free_count level (sizes_of self.new.parts) (pins_of self.new.begun self.new.parts) ≤ 10) }
         // the commit: its files are named, and those of its live bits are new and hold what is live
-        ensures saved { IfOk result (λ c. self.new.saved ≡ Some c) }
-        ensures commit { IfOk result (IsCommitOf D self.new) }
-        ensures fresh { IfOk result
-            (λ c. All (λ l. is_named self.old.names.names (Live l.segment l.generation) ≡ false) c.listed) }
-        ensures live { IsTrue F.told → IfOk result (λ c. AllZip (λ l p. IsLiveFile l.segment l.generation
-            (bytes_of (F.files folder.new (Live l.segment l.generation))) p.live) c.listed self.new.parts) }
-        ensures stored { IsTrue F.told → (i : Index) → Sees D (F.files folder.old) self.old i
-            → IfOk result (λ c. (files : Files) → IsCommitFile (bytes_of (files CommitName)) c
-            → ((m : FileName) → ListsFile c m → files m ≡ F.files folder.new m) → IsStored files (Some (at_rest i))) }
+        ensures saves { Saves D (IsTrue F.told) (F.files folder.old) (F.files folder.new) self.old self.new result }
         // what is done, and after a fault what was done before: merges of the policy and a flush, each whole
         ensures flushed { IfOk result
             (λ c. (s : SetMoment) × Flushes D (IsTrue F.told) (moment (F.files folder.old) self.old) s
@@ -76,27 +60,14 @@ impl<const D: usize> SegmentSet<D> {
             (IsLeft (Flushes D (IsTrue F.told) (moment (F.files folder.old) self.old)) self.new) }
         // what stays
         ensures stays { StaysAlone self.old self.new }
-        ensures kept { KeepsNamed (IsTrue F.told) self.old.names self.new.names (F.files folder.old)
-            (F.files folder.new) }
-        ensures follows { Follows self.old.names self.old.parts self.new.parts }
+        ensures rewrites { Rewrites D (IsTrue F.told) (F.files folder.old) (F.files folder.new) self.old self.new }
         ensures begun { self.new.begun ≡ self.old.begun }
-        ensures canon { IsTrue F.told → AreCanonical D (F.files folder.new) self.old.names self.new.parts }
-        ensures faithful { IsTrue F.told → IsFaithful D (F.files folder.old) self.old
-            → IsFaithful D (F.files folder.new) self.new }
         // where the policy chooses nothing, nothing is read
         ensures rested { IsSettled self.old → F.reads folder.new ≡ F.reads folder.old }
         // what an error says
         ensures cause { HasPageCause (F.faults folder.old) (F.faults folder.new) result }
-        ensures whole { IsTrue F.told → (i : Index) → Sees D (F.files folder.old) self.old i → NotDamaged result }
-        ensures shown { OnDamage result (IsMergeDamage D self.old.given self.old.names self.old.parts) }
-        ensures damage { IsTrue F.told → Agrees (F.files folder.old) self.old.cache
-            → OnDamage result (IsMergeDamageOf (F.files folder.new) self.old.given) }
-        ensures doubled { IsTrue F.told → Agrees (F.files folder.old) self.old.cache → (c : Contents)
-            → AreRead D (F.files folder.old) c self.old.parts
-            → OnDamage result (IsDoubt self.old.given (live_in_parts c self.old.parts)) }
-        ensures evident { OnDamage result
-            (IsEvidentIn D self.old.parts (IsTrue F.told × IsFaithful D (F.files folder.old) self.old)
-            (F.files folder.new)) }
+        ensures damaged { ShowsMergeDamage D (IsTrue F.told) (F.files folder.old) (F.files folder.new) self.old
+            (λ P. OnDamage result P) }
     {
         self.flush(rt, alloc, folder, gate)?;
         self.list_segments(alloc, folder)

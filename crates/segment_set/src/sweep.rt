@@ -1,14 +1,13 @@
 //! What is swept away.
 
-ghost use Rattle.std.specs.Prelude.{◌≡◌, ◌≢◌, ◌≤◌, ◌<◌, ◌+◌, ◌-◌, ◌^◌, ◌↔◌, ◌⊎◌, ◌&&◌, ℕ, Bool, true, false, nat_eq};
-ghost use Rattle.std.specs.Prelude.{take, length, slice_get, All, Contains, Some, None, IsTrue, IfOk, OnOk};
+ghost use Rattle.std.specs.Prelude.{◌≡◌, ◌<◌, ◌+◌, ◌-◌, ◌^◌, ◌↔◌, ◌&&◌, ℕ, true, false};
+ghost use Rattle.std.specs.Prelude.{take, length, slice_get, All, Some, None, IsTrue, IfOk, OnOk};
 ghost use Rattle.std.specs.List.{list_any};
 ghost use Rattle.outer_io.specs.Faults.{HasCause};
 ghost use Rattle.outer_io.specs.Files.{Files};
 ghost use Rattle.outer_io.specs.declared.file_name.FileName.{FileName};
-ghost use Rattle.outer_io.specs.declared.file_name.FileName.TheVariants.{Commit as CommitName, Segment};
+ghost use Rattle.outer_io.specs.declared.file_name.FileName.TheVariants.{Segment};
 ghost use Rattle.page_cache.specs.Cache.{Agrees, KeepsFile};
-ghost use Rattle.commit_list.specs.Commits.{CommitData};
 ghost use Rattle.documents.specs.Entries.{is_among};
 ghost use Rattle.stored_index.specs.Kept.{ListsFile};
 ghost use Rattle.index_model.specs.State.{Index};
@@ -23,7 +22,7 @@ use page_cache::PageCache;
 
 impl<const D: usize> SegmentSet<D> {
     ghost use Rattle.segment_set.specs.Seen.{Sees};
-    ghost use Rattle.segment_set.specs.Kept.{IsNeeded, StaysButFiles};
+    ghost use Rattle.segment_set.specs.Kept.{IsNeeded};
     ghost use Rattle.segment_set.specs.Faithful.{IsFaithful};
     ghost use Rattle.segment_set.specs.Swept.{IsSwept, IsUnneeded, shows_file};
 
@@ -32,23 +31,12 @@ impl<const D: usize> SegmentSet<D> {
     pub fn sweep<F: Folder>(&mut self, folder: &mut F, c: &Commit) -> Result<(), Failed>
         ensures seen { IsTrue F.told → (i : Index) → Sees D (F.files folder.old) self.old i
             → Sees D (F.files folder.new) self.new i }
-        ensures needed { IsTrue F.told → (m : FileName) → IsNeeded self.old c.now m
-            → F.files folder.new m ≡ F.files folder.old m }
-        ensures others { IsTrue F.told → (m : FileName) → is_named self.old.names.names m ≡ false
-            → F.files folder.new m ≡ F.files folder.old m }
-        ensures commit { IsTrue F.told → F.files folder.new CommitName ≡ F.files folder.old CommitName }
-        ensures fewer { (m : FileName) → is_named self.new.names.names m ≡ true
-            → is_named self.old.names.names m ≡ true }
-        ensures named { (m : FileName) → IsNeeded self.old c.now m → is_named self.old.names.names m ≡ true
-            → is_named self.new.names.names m ≡ true }
-        ensures swept { OnOk result ((m : FileName) → is_named self.new.names.names m ≡ true
+        ensures swept { IsSwept (IsTrue F.told) c.now self.old self.new (F.files folder.old) (F.files folder.new) }
+        ensures only { OnOk result ((m : FileName) → is_named self.new.names.names m ≡ true
             → IsNeeded self.old c.now m) }
         ensures gone { IsTrue F.told → OnOk result ((m : FileName) → is_named self.old.names.names m ≡ true
             → (IsNeeded self.old c.now m → ⊥) → F.files folder.new m ≡ None) }
         // whatever is answered: what left the list is gone
-        ensures left { IsTrue F.told → (m : FileName) → is_named self.old.names.names m ≡ true
-            → is_named self.new.names.names m ≡ false → F.files folder.new m ≡ None }
-        ensures alone { StaysButFiles self.old self.new }
         ensures faithful { IsTrue F.told → IsFaithful D (F.files folder.old) self.old
             → IsFaithful D (F.files folder.new) self.new }
         ensures unread { F.reads folder.new ≡ F.reads folder.old }

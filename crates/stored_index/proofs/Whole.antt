@@ -64,3 +64,14 @@ pub none_stored : (files : Files) (c : CommitData) → IsCommitFile (bytes_of (f
 none_stored files c says none =
     stored_from files c [] [] says (subst (λ (listed : List Listed). AllZip (HoldsFiles files c) listed []) (sym none) tt) (λ number. omega arith)
     (no_docs c.next) (omega arith)
+
+-- what is damage neither without a Commit file nor with a commit in it is none where a state is stored
+pub not_damaged : {P : Type 0} (files : Files) (state : State) → IsStored files state → (files Commit ≡ None → P)
+    → ((c : CommitData) → IsCommitFile (bytes_of (files Commit)) c → P) → P
+not_damaged files None h absent whole = absent h
+not_damaged files (Some i) h absent whole = whole h.commit h.holds.commit
+
+-- a folder without a Commit file stores no index
+pub no_index : (files : Files) (state : State) → files Commit ≡ None → IsStored files state → state ≡ None
+no_index files None none h = refl
+no_index files (Some i) none h = absurd (let there = (file_there (files Commit) h.commit h.holds.commit).0 in cc)

@@ -3,7 +3,7 @@ use Rattle.std.proofs.Common.{Err, ap, refl, ◌∙◌}
 use Rattle.std.proofs.lemmas.Result.{err_from_is_err_and}
 use Rattle.page_cache.specs.declared.faults.PageFault.{PageFault}
 use Rattle.index_core.proofs.Sizes.{session_fits}
-use Rattle.batch_queries.proofs.Ended.{end_stopped, ended_committed, says_done}
+use Rattle.batch_queries.proofs.Ended.{end_stopped, ended_committed}
 use Rattle.batch_queries.proofs.Sizes.{command_fits}
 use Rattle.batch_queries.proofs.begun.end_merge.Goals as goal
 
@@ -23,14 +23,9 @@ returns g c = λ ids i.
     ended_committed g.row.D _ ids i _ _ c.in_ok-apply.field-0 c.in_ok-apply.ensures.applies _ c.commit.result c.in_ok-apply.ensures.leaves
     (record {
       seen = c.commit.ensures.seen;
-      guards = c.commit.ensures.guards;
-      says = λ told guards. says_done (g.F.Pages.files c.apply.new.folder) (g.F.Pages.files c.commit.new.folder) c.commit.new.self c.commit.result
-          (c.commit.ensures.kept told guards);
-      stored = c.commit.ensures.stored;
-      unchanged = c.commit.ensures.unchanged;
-      few = c.commit.ensures.few;
-      undone = c.commit.ensures.undone;
-      brings = c.commit.ensures.canon;
-      cause = c.commit.ensures.cause;
-      whole = c.commit.ensures.whole;
-    }) c.commit.ensures.follows c.commit.ensures.lasting c.commit.ensures.evident
+      stays = c.commit.ensures.stays;
+      durable = c.commit.ensures.durable;
+      done = c.commit.ensures.done;
+      canon = c.commit.ensures.canon;
+      faults = c.commit.ensures.faults;
+    }) c.commit.ensures.follows

@@ -7,8 +7,9 @@ use Rattle.run_status.specs.Told.{TellsAll}
 use Rattle.batch_queries.specs.Batched.{TellsBatch}
 use Rattle.outer_io.specs.Files.{Files}
 use Rattle.batch_run.specs.Copies.{copied_pages}
-use Rattle.batch_queries.proofs.Tells.{none_stored, not_damaged, on_ok_weaker, reads_once}
+use Rattle.batch_queries.proofs.Tells.{on_ok_weaker, reads_once}
 use Rattle.batch_queries.proofs.run.answer.Goals as goal
+use Rattle.stored_index.proofs.Whole.{not_damaged, no_index}
 
 pub returns-in_err-read_commit-clause-whole : goal.returns-in_err-read_commit-clause-whole
 returns-in_err-read_commit-clause-whole g c = λ told state stored.
@@ -20,7 +21,7 @@ pub returns-in_ok-tell_bare-in-None-clause-text : goal.returns-in_ok-tell_bare-i
 returns-in_ok-tell_bare-in-None-clause-text g c = λ told state stored.
     subst (λ (s : State). TellsAll (Unit {0}) (TellsBatch s) 1 (lines_of c.args.lines.now) [] c.in_ok-tell_bare-in-None.field-0.bytes.items
     c.in_ok-tell_bare-in-None.field-0.refused)
-    (sym (none_stored (g.F.Pages.files c.args.folder.now) state (rw c.in-None.is at (c.in_ok-read_commit.ensures.found told)) stored))
+    (sym (no_index (g.F.Pages.files c.args.folder.now) state (rw c.in-None.is at (c.in_ok-read_commit.ensures.found told)) stored))
     c.in_ok-tell_bare-in-None.ensures
 
 pub returns-in-Some-clause-reads : goal.returns-in-Some-clause-reads

@@ -9,8 +9,8 @@ use Rattle.segment_view.specs.Found.{AreFound}
 use Rattle.batch_run.specs.Held.{HoldsDocs}
 use Rattle.batch_run.specs.declared.queries.Reply.TheVariants.{Hits}
 use Rattle.batch_run.proofs.Replied.{undamaged}
-use Rattle.batch_run.proofs.Sizes.{entry_fits}
 use Rattle.batch_run.proofs.answers.find.Goals as goal
+use Rattle.point_codec.proofs.Sizes.{entry_fits}
 
 pub visit-found-requires : goal.visit-found-requires
 visit-found-requires g c = (omega arith, entry_fits g.row.D c.len-parts.ensures.dims)

@@ -4,8 +4,9 @@ use Rattle.inner_pack.specs.Bodies.{right_begin}
 use Rattle.inner_pack.specs.Nodes.{IsAt}
 use Rattle.segment_file.specs.Heads.{count_of}
 use Rattle.bkd_reader.specs.Counts.{tested_entries, touched_leaves}
-use Rattle.bkd_reader.proofs.Trees.{count_at, only_leaf}
+use Rattle.bkd_reader.proofs.Trees.{count_at}
 use Rattle.bkd_reader.proofs.costs.+cost.Goals as goal
+use Rattle.segment_file.proofs.Subtrees.{only_leaf}
 
 pub returns-in-Some-clause-tested : goal.returns-in-Some-clause-tested
 returns-in-Some-clause-tested g t c = λ first s path t' is.

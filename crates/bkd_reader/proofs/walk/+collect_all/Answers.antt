@@ -8,8 +8,9 @@ use Rattle.page_cache.specs.Cache.{Agrees}
 use Rattle.segment_file.specs.Segments.{HoldsTree}
 use Rattle.segment_file.specs.Damages.{IsLeafDamage}
 use Rattle.bkd_reader.specs.Hits.{AreHits, Appends}
-use Rattle.bkd_reader.proofs.Trees.{handed_on, on_ok, left_damage, right_damage, held, left_root, right_root, children_all, children_hits}
+use Rattle.bkd_reader.proofs.Trees.{handed_on, left_damage, right_damage, held, left_root, right_root, children_all, children_hits}
 use Rattle.bkd_reader.proofs.walk.+collect_all.Goals as goal
+use Rattle.segment_file.proofs.Subtrees.{on_ok}
 
 pub returns-in_err-collect_all-in-Some-clause-shown : goal.returns-in_err-collect_all-in-Some-clause-shown
 returns-in_err-collect_all-in-Some-clause-shown g t c = λ first s path t' is.

@@ -13,9 +13,10 @@ use Rattle.bkd_reader.specs.Counts.{tested_entries, touched_leaves}
 use Rattle.bkd_reader.specs.Hits.{AreHits, Appends}
 use Rattle.bkd_reader.proofs.HitLemmas.{begins_on}
 use Rattle.bkd_reader.proofs.Cells.{touched_all, crossed_touched}
-use Rattle.bkd_reader.proofs.Trees.{handed_on, on_ok, some_leaf, count_at, only_leaf, none_below}
+use Rattle.bkd_reader.proofs.Trees.{handed_on, count_at, none_below}
 use Rattle.bkd_reader.proofs.Trees.{left_damage, right_damage, held, left_root, right_root, children_hits}
 use Rattle.bkd_reader.proofs.walk.+visit.Goals as goal
+use Rattle.segment_file.proofs.Subtrees.{some_leaf, only_leaf, on_ok}
 
 -- ---- the cell is not crossed
 

@@ -4,8 +4,9 @@ use Rattle.outer_io.specs.declared.file_name.FileName.TheVariants.{Segment}
 use Rattle.inner_pack.specs.Places.{front}
 use Rattle.inner_pack.specs.Bodies.{HasTree}
 use Rattle.bkd_reader.specs.Hits.{AreHits, Appends, hits_in}
-use Rattle.bkd_reader.proofs.Trees.{on_ok, root_of, parts_of, tree_hits}
+use Rattle.bkd_reader.proofs.Trees.{root_of, parts_of, tree_hits}
 use Rattle.bkd_reader.proofs.walk.intersect.Goals as goal
+use Rattle.segment_file.proofs.Subtrees.{on_ok}
 
 pub returns-clause-found : goal.returns-clause-found
 returns-clause-found g c = λ told agrees items is.

@@ -3,7 +3,8 @@ use Rattle.std.proofs.Common.{◌≡◌, Bool, ℕ, IsTrue, length, arith, refl,
 use Rattle.std.proofs.lemmas.Bool.Decides.{nat_tests}
 use Rattle.segment_set.specs.Faithful.{IsFaithful}
 use Rattle.segment_set.proofs.Sizes.{set_fits}
-use Rattle.bkd_top.proofs.Telling.{left_end, left_here, left_on, line_stops, stage_all, stage_here, stage_sent}
+use Rattle.run_status.proofs.Telling.{left_end, left_here, left_on, line_stops, stage_all, stage_here, stage_sent}
+use Rattle.explain_queries.specs.Explained.{TellsLine}
 use Rattle.script_run.proofs.Shown.{stop_less}
 use Rattle.bkd_top.proofs.explain.explain_all.Goals as goal
 use Rattle.run_status.proofs.Ending.{cause_from, same_stop, cause_to, refused_more, at_most_one}
@@ -14,8 +15,8 @@ tell_line-requires g c = (set_fits g.row.D c.requires.few, (c.requires.some, c.r
 
 pub lines-init : goal.lines-init
 lines-init g c = record {
-  going = λ told s e. (stage_here _ s _, e);
-  left = λ told s e t tells. left_here s _ _ _ t tells;
+  going = λ told s e. (stage_here _ (TellsLine s) _, e);
+  left = λ told s e t tells. left_here (TellsLine s) _ _ _ t tells;
   files = λ told. refl;
   faithful = λ told h. h;
   room = omega (arith, c.requires.lines);
@@ -28,13 +29,13 @@ pub lines-preserved : goal.lines-preserved
 lines-preserved g c = record {
   going = λ told s e.
       let so_far = c.lines.invariant.going told s e in (
-        stage_sent _ s _ _ _ _ c.in-Ok.is_refused so_far.0 c.first_line.ensures.line refl
+        stage_sent _ (TellsLine s) _ _ _ _ c.in-Ok.is_refused so_far.0 c.first_line.ensures.line refl
             (refused_more c.lines.refused c.in-Ok.is_refused _ _ refl c.from-refused.ensures) (c.in-Ok.ensures.ends told s so_far.1),
         c.in-Ok.ensures.stays told s so_far.1,
       );
   left = λ told s e t tells.
       let so_far = c.lines.invariant.going told s e in
-      left_on s _ _ _ _ _ _ _ _ c.first_line.ensures.line (c.lines.invariant.left told s e t tells) (c.in-Ok.ensures.reads told s so_far.1);
+      left_on (TellsLine s) _ _ _ _ _ _ _ _ c.first_line.ensures.line (c.lines.invariant.left told s e t tells) (c.in-Ok.ensures.reads told s so_far.1);
   files = λ told. c.in-Ok.ensures.files told ∙ c.lines.invariant.files told;
   faithful = λ told h. c.in-Ok.ensures.faithful told (c.lines.invariant.faithful told h);
   room = omega (arith, c.lines.invariant.room, c.first_line.ensures.shorter);
@@ -46,7 +47,7 @@ lines-preserved g c = record {
 pub returns-in-Err-clause-ends : goal.returns-in-Err-clause-ends
 returns-in-Err-clause-ends g c = λ told s e.
     let so_far = c.lines.invariant.going told s e in
-    line_stops _ s _ _ _ _ _ c.in-Err.stop so_far.0 c.first_line.ensures.line (c.in-Err.ensures.ends told s so_far.1)
+    line_stops _ (TellsLine s) _ _ _ _ _ c.in-Err.stop so_far.0 c.first_line.ensures.line (c.in-Err.ensures.ends told s so_far.1)
 
 pub returns-in-Err-clause-files : goal.returns-in-Err-clause-files
 returns-in-Err-clause-files g c = λ told. c.in-Err.ensures.files told ∙ c.lines.invariant.files told
@@ -54,7 +55,7 @@ returns-in-Err-clause-files g c = λ told. c.in-Err.ensures.files told ∙ c.lin
 pub returns-in-Err-clause-reads : goal.returns-in-Err-clause-reads
 returns-in-Err-clause-reads g c = λ told s e t tells.
     let so_far = c.lines.invariant.going told s e in
-    left_end s _ _ _ _ _ (left_on s _ _ _ _ _ _ _ _ c.first_line.ensures.line (c.lines.invariant.left told s e t tells)
+    left_end (TellsLine s) _ _ _ _ _ (left_on (TellsLine s) _ _ _ _ _ _ _ _ c.first_line.ensures.line (c.lines.invariant.left told s e t tells)
     (c.in-Err.ensures.reads told s so_far.1))
 
 pub returns-in-Err-clause-cause : goal.returns-in-Err-clause-cause
@@ -64,13 +65,13 @@ returns-in-Err-clause-cause g c =
 pub returns-clause-ends : goal.returns-clause-ends
 returns-clause-ends g c = λ told s e.
     let none : length c.lines.rest.now ≡ 0 = grind (arith, nat_tests) in
-    stage_all _ s _ _ _ (c.lines.invariant.going told s e).0 (no_lines _ none) (λ sink. refl)
+    stage_all _ (TellsLine s) _ _ _ (c.lines.invariant.going told s e).0 (no_lines _ none) (λ sink. refl)
 
 pub returns-clause-files : goal.returns-clause-files
 returns-clause-files g c = c.lines.invariant.files
 
 pub returns-clause-reads : goal.returns-clause-reads
-returns-clause-reads g c = λ told s e t tells. left_end s _ _ _ _ _ (c.lines.invariant.left told s e t tells)
+returns-clause-reads g c = λ told s e t tells. left_end (TellsLine s) _ _ _ _ _ (c.lines.invariant.left told s e t tells)
 
 pub returns-clause-cause : goal.returns-clause-cause
 returns-clause-cause g c = record {

@@ -6,19 +6,19 @@ use Rattle.commit_list.specs.Commits.{CommitData}
 use Rattle.commit_list.specs.CommitFiles.{IsCommitFile}
 use Rattle.script_lang.specs.Lines.{lines_of}
 use Rattle.stored_index.specs.Opening.{segments_pages}
-use Rattle.explain_queries.specs.Explained.{IsScope, Scope}
-use Rattle.bkd_top.specs.Commands.{EndsTold}
-use Rattle.script_run.proofs.Lined.{not_damaged}
+use Rattle.explain_queries.specs.Explained.{IsScope, Scope, TellsLine}
+use Rattle.run_status.specs.Told.{EndsLines}
 use Rattle.script_run.proofs.Scoped.{commit_few, none_scope, opening_is}
-use Rattle.bkd_top.proofs.Telling.{unread_ends}
-use Rattle.index_opening.proofs.Evident.{on_commit_evident}
-use Rattle.script_run.proofs.Shown.{fault_at, says_after, stop_less}
+use Rattle.run_status.proofs.Telling.{unread_ends}
+use Rattle.index_opening.proofs.Evident.{on_commit_evident, says_after}
+use Rattle.script_run.proofs.Shown.{fault_at, stop_less}
 use Rattle.bkd_top.proofs.explain.explain_lines.Goals as goal
 use Rattle.run_status.proofs.Ending.{cause_from, none_shows, fault_shows, fault_cause}
+use Rattle.stored_index.proofs.Whole.{not_damaged}
 
 pub returns-in-Ok-None-clause-ends : goal.returns-in-Ok-None-clause-ends
 returns-in-Ok-None-clause-ends g c = λ told s scope.
-    subst (λ (q : Scope). EndsTold (IsTrue g.K.Sink.told) q 1 0 (lines_of c.args.lines.now) (g.K.Sink.written c.args.out.now)
+    subst (λ (q : Scope). EndsLines (IsTrue g.K.Sink.told) (TellsLine q) 1 0 (lines_of c.args.lines.now) (g.K.Sink.written c.args.out.now)
     (g.K.Sink.written c.explain_none.new.out) c.explain_none.result)
     (sym (none_scope (g.F.Pages.files c.args.folder.now) s (rw c.in-Ok-None.field-0-is at (c.in-Ok-None.ensures.found told)) scope)) c.explain_none.ensures.ends
 
@@ -60,7 +60,7 @@ returns-in-Ok-Some-clause-cause g c = cause_from _ _ _ _ _ _ _ c.in-Ok-Some.ensu
 
 pub returns-in-Err-clause-ends : goal.returns-in-Err-clause-ends
 returns-in-Err-clause-ends g c = λ told s scope.
-    unread_ends (IsTrue g.K.Sink.told) s 1 0 _ _ _ c.in-Err.fault
+    unread_ends (IsTrue g.K.Sink.told) (TellsLine s) 1 0 _ _ _ c.in-Err.fault
     (not_damaged (g.F.Pages.files c.args.folder.now) s.state scope.stored (c.in-Err.ensures.absent told) (c.in-Err.ensures.whole told)) c.stopped.result
     c.stopped.ensures refl
 

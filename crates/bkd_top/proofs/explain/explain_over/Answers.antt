@@ -4,7 +4,8 @@ use Rattle.outer_io.specs.Files.{Files}
 use Rattle.segment_set.proofs.Sizes.{set_fits}
 use Rattle.explain_queries.specs.Explains.{IsExplaining}
 use Rattle.script_run.proofs.Scoped.{attached_explains, scope_holds}
-use Rattle.bkd_top.proofs.Telling.{unread_ends}
+use Rattle.run_status.proofs.Telling.{unread_ends}
+use Rattle.explain_queries.specs.Explained.{TellsLine}
 use Rattle.script_run.proofs.Shown.{fault_at, stop_less}
 use Rattle.segment_set.specs.Faithful.{IsFaithful}
 use Rattle.bkd_top.proofs.explain.explain_over.Goals as goal
@@ -41,7 +42,8 @@ returns-in-Ok-clause-cause g c = cause_from _ _ _ _ _ _ _ c.in-Ok.ensures.cause.
 
 pub returns-clause-ends : goal.returns-clause-ends
 returns-clause-ends g c = λ told says s scope.
-    unread_ends (IsTrue g.K.Sink.told) s 1 0 _ _ _ c.in-Err.fault (c.in-Err.ensures.whole told says s.state scope.stored) c.stopped.result c.stopped.ensures
+    unread_ends (IsTrue g.K.Sink.told) (TellsLine s) 1 0 _ _ _ c.in-Err.fault (c.in-Err.ensures.whole told says s.state scope.stored) c.stopped.result
+    c.stopped.ensures
     refl
 
 pub returns-clause-files : goal.returns-clause-files

@@ -2,7 +2,8 @@
 use Rattle.std.proofs.Common.{refl, sym, subst, ◌∙◌, ◌≤◌, ◌^◌, ℕ, List, length}
 use Rattle.run_status.specs.Ends.{DoesNothing, IsDamaged}
 use Rattle.script_run.proofs.Scoped.{scope_of}
-use Rattle.bkd_top.proofs.Telling.{none_told, told_ends, told_undamaged}
+use Rattle.run_status.proofs.Telling.{none_told, told_ends, told_undamaged}
+use Rattle.explain_queries.specs.Explained.{TellsLine}
 use Rattle.bkd_top.proofs.explain.run_explain.Goals as goal
 use Rattle.run_status.proofs.Ending.{does_lines, folder_stopped, sink_stopped, status_shows}
 
@@ -12,7 +13,8 @@ returns-in-Ok-clause-never_usage g c = λ e. does_lines c.explain_lines.result (
 pub returns-in-Ok-clause-ends : goal.returns-in-Ok-clause-ends
 returns-in-Ok-clause-ends g c = λ source told s scope.
     rw c.status_of.ensures
-    (told_ends _ s _ _ _ c.explain_lines.result (rw (c.as_slice.ensures.value ∙ c.in-Ok.ensures.whole source) at (c.explain_lines.ensures.ends told s scope)))
+    (told_ends _ (TellsLine s) _ _ _ c.explain_lines.result
+    (rw (c.as_slice.ensures.value ∙ c.in-Ok.ensures.whole source) at (c.explain_lines.ensures.ends told s scope)))
 
 pub returns-in-Ok-clause-files : goal.returns-in-Ok-clause-files
 returns-in-Ok-clause-files g c = c.explain_lines.ensures.files
@@ -30,7 +32,7 @@ pub returns-in-Err-TooLarge-clause-ends : goal.returns-in-Err-TooLarge-clause-en
 returns-in-Err-TooLarge-clause-ends g c = λ source told s scope sink. refl
 
 pub returns-in-Err-Memory-clause-ends : goal.returns-in-Err-Memory-clause-ends
-returns-in-Err-Memory-clause-ends g c = λ source told s scope. none_told _ s _ _ _ _ refl
+returns-in-Err-Memory-clause-ends g c = λ source told s scope. none_told _ (TellsLine s) _ _ _ _ refl
 
 pub returns-in-Ok-clause-input : goal.returns-in-Ok-clause-input
 returns-in-Ok-clause-input g c = λ told. record {
@@ -43,7 +45,8 @@ pub returns-in-Ok-clause-damage : goal.returns-in-Ok-clause-damage
 returns-in-Ok-clause-damage g c = record {
   never = λ told state h d.
       let scope = scope_of _ state h in
-      told_undamaged _ scope.0 _ _ _ _ _ c.explain_lines.result (c.explain_lines.ensures.ends told scope.0 scope.1) (subst IsDamaged c.status_of.ensures d);
+      told_undamaged _ (TellsLine scope.0) _ _ _ _ _ c.explain_lines.result (c.explain_lines.ensures.ends told scope.0 scope.1)
+      (subst IsDamaged c.status_of.ensures d);
   evident = rw c.status_of.ensures (status_shows _ c.explain_lines.result c.explain_lines.ensures.evident);
 }
 

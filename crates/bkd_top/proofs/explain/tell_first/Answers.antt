@@ -2,14 +2,14 @@
 use Rattle.std.proofs.Common.{Bool, IsTrue, refl}
 use Rattle.page_cache.specs.declared.faults.PageFault.TheVariants as page
 use Rattle.index_core.proofs.Answering.{no_cause}
-use Rattle.script_run.proofs.Lined.{page_memory, send_cause, sent_as}
-use Rattle.bkd_top.proofs.Telling.{sent_line}
+use Rattle.run_status.proofs.Telling.{sent_line}
+use Rattle.explain_queries.specs.Explained.{TellsLine, bare}
 use Rattle.bkd_top.proofs.explain.tell_first.Goals as goal
-use Rattle.run_status.proofs.Ending.{sink_shows, fault_cause}
+use Rattle.run_status.proofs.Ending.{sink_shows, fault_cause, page_memory, send_cause, sent_as}
 
 pub returns-in-Ok-clause-ends : goal.returns-in-Ok-clause-ends
 returns-in-Ok-clause-ends g c =
-    sent_line (IsTrue g.K.Sink.told) _ c.args.number c.args.line.now _ _ _ _ c.in-Ok.refused c.clear.ensures.items c.in-Ok.ensures c.send.result
+    sent_line (IsTrue g.K.Sink.told) (TellsLine bare) c.args.number c.args.line.now _ _ _ _ c.in-Ok.refused c.clear.ensures.items c.in-Ok.ensures c.send.result
     c.send.ensures.known c.send.ensures.cause
     (λ sink. sent_as _ _ _ _ c.send.result c.as_slice.ensures.value (c.send.ensures.text sink))
 

@@ -1,17 +1,18 @@
 -- What is told of a line is sent.
 use Rattle.std.proofs.Common.{IsTrue, refl}
 use Rattle.segment_set.proofs.Sizes.{set_fits}
-use Rattle.script_run.proofs.Lined.{send_cause, sent_as}
-use Rattle.bkd_top.proofs.Telling.{left_line, sent_line}
+use Rattle.run_status.proofs.Telling.{left_line, sent_line}
+use Rattle.explain_queries.specs.Explained.{TellsLine}
 use Rattle.bkd_top.proofs.explain.tell_line.Goals as goal
-use Rattle.run_status.proofs.Ending.{sink_shows, fault_shows, fault_cause}
+use Rattle.run_status.proofs.Ending.{sink_shows, fault_shows, fault_cause, send_cause, sent_as}
 
 pub explain_line-requires : goal.explain_line-requires
 explain_line-requires g c = (set_fits g.row.D c.requires.few, (c.requires.some, c.requires.few))
 
 pub returns-in-Ok-clause-ends : goal.returns-in-Ok-clause-ends
 returns-in-Ok-clause-ends g c = λ told s e.
-    sent_line (IsTrue g.K.Sink.told) s c.args.number c.args.line.now _ _ _ _ c.in-Ok.refused c.clear.ensures.items (c.in-Ok.ensures.does told s e) c.send.result
+    sent_line (IsTrue g.K.Sink.told) (TellsLine s) c.args.number c.args.line.now _ _ _ _ c.in-Ok.refused c.clear.ensures.items (c.in-Ok.ensures.does told s e)
+    c.send.result
     c.send.ensures.known c.send.ensures.cause
     (λ sink. sent_as _ _ _ _ c.send.result c.as_slice.ensures.value (c.send.ensures.text sink))
 
@@ -30,7 +31,8 @@ returns-in-Ok-clause-cause g c =
 
 pub returns-in-Err-clause-ends : goal.returns-in-Err-clause-ends
 returns-in-Err-clause-ends g c = λ told s e.
-    left_line (IsTrue g.K.Sink.told) s c.args.number c.args.line.now _ _ c.in-Err.fault (c.in-Err.ensures.whole told s e) c.stopped.result c.stopped.ensures
+    left_line (IsTrue g.K.Sink.told) (TellsLine s) c.args.number c.args.line.now _ _ c.in-Err.fault (c.in-Err.ensures.whole told s e) c.stopped.result
+    c.stopped.ensures
     refl
 
 pub returns-in-Err-clause-stays : goal.returns-in-Err-clause-stays

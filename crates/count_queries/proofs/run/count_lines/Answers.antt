@@ -7,14 +7,15 @@ use Rattle.commit_list.specs.CommitFiles.{IsCommitFile}
 use Rattle.script_lang.specs.Lines.{lines_of}
 use Rattle.stored_index.specs.Opening.{segments_pages}
 use Rattle.segment_view.specs.LiveSegments.{heads_of}
-use Rattle.index_opening.proofs.Evident.{on_commit_evident}
+use Rattle.index_opening.proofs.Evident.{on_commit_evident, says_after}
 use Rattle.run_status.specs.Told.{EndsLines}
 use Rattle.run_status.proofs.Ending.{cause_from, fault_cause, fault_shows, none_shows}
 use Rattle.run_status.proofs.Telling.{unread_ends}
 use Rattle.count_queries.specs.Counted.{IsScope, Scope, TellsCount}
-use Rattle.count_queries.proofs.Scoped.{commit_few, none_scope, not_damaged, opening_is, says_after}
+use Rattle.count_queries.proofs.Scoped.{commit_few, none_scope, opening_is}
 use Rattle.count_queries.proofs.Stopping.{fault_at, stop_evident}
 use Rattle.count_queries.proofs.run.count_lines.Goals as goal
+use Rattle.stored_index.proofs.Whole.{not_damaged}
 
 pub returns-in-Ok-None-clause-ends : goal.returns-in-Ok-None-clause-ends
 returns-in-Ok-None-clause-ends g c = λ told s scope.

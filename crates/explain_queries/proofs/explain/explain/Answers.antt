@@ -2,7 +2,7 @@
 use Rattle.std.proofs.Common.{Some, refl, sym}
 use Rattle.std.proofs.lemmas.List.{append-nil}
 use Rattle.script_lang.specs.Requests as asks
-use Rattle.explain_queries.specs.Explained.{silence}
+use Rattle.run_status.specs.Told.{silence}
 use Rattle.explain_queries.proofs.Explaining.{explains_as, explains_refused, explains_text, tells_to}
 use Rattle.explain_queries.proofs.Asking.{box_from, box_to, in_polygon_from, in_polygon_to, near_from, near_to, other_told}
 use Rattle.explain_queries.proofs.explain.explain.Goals as goal

@@ -7,7 +7,7 @@ use Rattle.script_lang.specs.Requests as asks
 use Rattle.script_lang.specs.Seen.{first_request_of}
 use Rattle.script_lang.specs.declared.faults.LineFault.TheVariants as fault
 use Rattle.script_lang.specs.declared.faults.Refusal.TheVariants as why
-use Rattle.explain_queries.specs.Explained.{refusal, silence}
+use Rattle.run_status.specs.Told.{refusal, silence}
 use Rattle.explain_queries.proofs.Asking.{first_told}
 use Rattle.explain_queries.proofs.Explaining.{fault_read}
 use Rattle.explain_queries.proofs.explain.explain_first.Goals as goal

@@ -23,9 +23,9 @@ returns-in_err-found g c =
           c.nearest.ensures.reads told e.seen.contents e.seen.stands (nearby g.row.D c.args.k _ _ c.args.at.now.c s e)
           (nearby_is g.row.D c.args.k _ _ c.args.at.now.c s e) t.touched (near_touches g.row.D c.args.k _ _ c.args.at.now.c s e t tells);
       cause = c.in_err-found.ensures.cause;
-      whole = c.in_err-found.ensures.whole;
+      whole = c.in_err-found.ensures.damaged.whole;
       faithful = c.nearest.ensures.faithful;
-      evident = c.in_err-found.ensures.evident;
+      evident = c.in_err-found.ensures.damaged.evident;
     })
 
 pub returns-in_err-put_near : goal.returns-in_err-put_near
@@ -39,9 +39,9 @@ returns-in_err-put_near g c =
           c.nearest.ensures.reads told e.seen.contents e.seen.stands (nearby g.row.D c.args.k _ _ c.args.at.now.c s e)
           (nearby_is g.row.D c.args.k _ _ c.args.at.now.c s e) t.touched (near_touches g.row.D c.args.k _ _ c.args.at.now.c s e t tells);
       cause = c.in_ok-found.ensures.cause;
-      whole = c.in_ok-found.ensures.whole;
+      whole = c.in_ok-found.ensures.damaged.whole;
       faithful = c.nearest.ensures.faithful;
-      evident = c.in_ok-found.ensures.evident;
+      evident = c.in_ok-found.ensures.damaged.evident;
     })
 
 pub returns : goal.returns
@@ -54,9 +54,9 @@ returns g c =
           c.nearest.ensures.reads told e.seen.contents e.seen.stands (nearby g.row.D c.args.k _ _ c.args.at.now.c s e)
           (nearby_is g.row.D c.args.k _ _ c.args.at.now.c s e) t.touched (near_touches g.row.D c.args.k _ _ c.args.at.now.c s e t tells);
       cause = c.in_ok-found.ensures.cause;
-      whole = c.in_ok-found.ensures.whole;
+      whole = c.in_ok-found.ensures.damaged.whole;
       faithful = c.nearest.ensures.faithful;
-      evident = c.in_ok-found.ensures.evident;
+      evident = c.in_ok-found.ensures.damaged.evident;
     })
     (λ told s e. near_told g.row.D c.args.k _ _ c.args.at.now.c s e _ _ c.in_ok-found.found.items c.survey_near-touched.result c.len.result
     _ _ c.survey_near-touched.ensures

@@ -18,9 +18,9 @@ returns-in_err-hits g c =
           c.visit.ensures.reads t.touched
           (touched_as g.row.D _ _ _ _ _ t.touched c.survey-tally.ensures.has c.survey-tally.ensures.crosses (shape_touches g.row.D _ _ _ _ s t e tells));
       cause = c.in_err-hits.ensures.cause;
-      whole = c.in_err-hits.ensures.whole;
+      whole = c.in_err-hits.ensures.damaged.whole;
       faithful = c.visit.ensures.faithful;
-      evident = c.in_err-hits.ensures.evident;
+      evident = c.in_err-hits.ensures.damaged.evident;
     })
 
 pub returns-in_err-put_shape : goal.returns-in_err-put_shape
@@ -34,9 +34,9 @@ returns-in_err-put_shape g c =
           c.visit.ensures.reads t.touched
           (touched_as g.row.D _ _ _ _ _ t.touched c.survey-tally.ensures.has c.survey-tally.ensures.crosses (shape_touches g.row.D _ _ _ _ s t e tells));
       cause = c.in_ok-hits.ensures.cause;
-      whole = c.in_ok-hits.ensures.whole;
+      whole = c.in_ok-hits.ensures.damaged.whole;
       faithful = c.visit.ensures.faithful;
-      evident = c.in_ok-hits.ensures.evident;
+      evident = c.in_ok-hits.ensures.damaged.evident;
     })
 
 pub returns : goal.returns
@@ -49,9 +49,9 @@ returns g c =
           c.visit.ensures.reads t.touched
           (touched_as g.row.D _ _ _ _ _ t.touched c.survey-tally.ensures.has c.survey-tally.ensures.crosses (shape_touches g.row.D _ _ _ _ s t e tells));
       cause = c.in_ok-hits.ensures.cause;
-      whole = c.in_ok-hits.ensures.whole;
+      whole = c.in_ok-hits.ensures.damaged.whole;
       faithful = c.visit.ensures.faithful;
-      evident = c.in_ok-hits.ensures.evident;
+      evident = c.in_ok-hits.ensures.damaged.evident;
     })
     (λ told s e. shape_told g.row.D _ _ _ _ c.survey-tally.result.tested c.survey-tally.result.touched c.len.result _ _ s e c.survey-tally.ensures.tested
     c.survey-tally.ensures.touched

@@ -11,12 +11,12 @@ use Rattle.index_core.specs.Whole.{DoesWhole, HasNewCanonical}
 use Rattle.index_core.proofs.Brought.{commit_equal, commit_then}
 use Rattle.index_core.proofs.Undone.{fault_kept, kept_equal, undone_kept}
 use Rattle.index_core.proofs.FaultCauses.{cause_then, done_cause, fault_to, memory_cause}
-use Rattle.index_core.proofs.Wholes.{state_undamaged}
 use Rattle.index_model.specs.State.{State}
 use Rattle.stored_index.specs.Stored.{IsStored}
 use Rattle.drawn_points.specs.Generated.{generate_answer}
 use Rattle.generate_index.proofs.Ended.{commit_there, ends_there, ends_unread, ends_untold, memory_evident, none_anew, none_there, unread_evident}
 use Rattle.generate_index.proofs.generator.generate.Goals as goal
+use Rattle.stored_index.proofs.Whole.{not_damaged}
 
 pub returns-in-Ok-Some-clause-generates : goal.returns-in-Ok-Some-clause-generates
 returns-in-Ok-Some-clause-generates g c = λ told state h.
@@ -44,7 +44,7 @@ pub returns-clause-generates : goal.returns-clause-generates
 returns-clause-generates g c = λ told state h.
     ends_unread Bool (g.F.Pages.files c.args.folder.now) (g.F.Pages.files c.read_commit.new.folder) state (generate_answer state c.args.docs c.args.seed)
     c.args.text.now.items c.args.text.now.items c.in-Err.fault _ refl
-    (state_undamaged (g.F.Pages.files c.args.folder.now) state h (c.in-Err.ensures.absent told) (c.in-Err.ensures.whole told)) (c.in-Err.ensures.files told) h
+    (not_damaged (g.F.Pages.files c.args.folder.now) state h (c.in-Err.ensures.absent told) (c.in-Err.ensures.whole told)) (c.in-Err.ensures.files told) h
 
 pub returns-clause-evident : goal.returns-clause-evident
 returns-clause-evident g c =

@@ -58,15 +58,11 @@ returns-in_err-commit-clause-generates g c told none =
     _ (p.1 ∙ ap (λ (e : PageFault). Err e) p.2) (c.index_made.ensures c.args.seed c.args.docs (omega (arith, c.requires))) c.in_ok-summary.ensures.makes
     (record {
       seen = c.in_err-commit.ensures.seen;
-      guards = c.in_err-commit.ensures.guards;
-      says = λ told guards. tt;
-      stored = c.in_err-commit.ensures.stored;
-      unchanged = tt;
-      few = λ told guards none. tt;
-      undone = c.in_err-commit.ensures.undone;
-      brings = c.in_err-commit.ensures.canon;
-      cause = c.in_err-commit.ensures.cause;
-      whole = c.in_err-commit.ensures.whole;
+      stays = c.in_err-commit.ensures.stays;
+      durable = c.in_err-commit.ensures.durable;
+      done = tt;
+      canon = c.in_err-commit.ensures.canon;
+      faults = c.in_err-commit.ensures.faults;
     })
     told (created c.args.seed c.greatest_leaf.result (g.F.Pages.files c.args.folder.now) c.in_ok-session.session (g.F.Pages.faults c.args.folder.now)
     c.greatest_leaf.ensures (c.documents_deleted.ensures.none c.args.seed 0) (c.documents_added.ensures.none c.args.seed) none
@@ -84,15 +80,11 @@ returns-clause-generates g c told none =
     (c.in_ok-session.ensures.guards (g.F.Pages.files c.args.folder.now) none) c.in_ok-session.ensures.bare).made) c.in_ok-summary.ensures.makes
     (record {
       seen = c.in_ok-commit.ensures.seen;
-      guards = c.in_ok-commit.ensures.guards;
-      says = c.in_ok-commit.ensures.kept;
-      stored = c.in_ok-commit.ensures.stored;
-      unchanged = c.in_ok-commit.ensures.unchanged;
-      few = c.in_ok-commit.ensures.few;
-      undone = λ told guards. tt;
-      brings = c.in_ok-commit.ensures.canon;
-      cause = c.in_ok-commit.ensures.cause;
-      whole = c.in_ok-commit.ensures.whole;
+      stays = c.in_ok-commit.ensures.stays;
+      durable = c.in_ok-commit.ensures.durable;
+      done = c.in_ok-commit.ensures.done;
+      canon = c.in_ok-commit.ensures.canon;
+      faults = c.in_ok-commit.ensures.faults;
     })
     told (created c.args.seed c.greatest_leaf.result (g.F.Pages.files c.args.folder.now) c.in_ok-session.session (g.F.Pages.faults c.args.folder.now)
     c.greatest_leaf.ensures (c.documents_deleted.ensures.none c.args.seed 0) (c.documents_added.ensures.none c.args.seed) none
@@ -104,15 +96,11 @@ returns-clause-canon g c told none =
     made_canon _ c.args.seed c.args.docs _ _ _ c.in_ok-summary.summary tt c.in_ok-summary.ensures.makes
     (record {
       seen = c.in_ok-commit.ensures.seen;
-      guards = c.in_ok-commit.ensures.guards;
-      says = c.in_ok-commit.ensures.kept;
-      stored = c.in_ok-commit.ensures.stored;
-      unchanged = c.in_ok-commit.ensures.unchanged;
-      few = c.in_ok-commit.ensures.few;
-      undone = λ told guards. tt;
-      brings = c.in_ok-commit.ensures.canon;
-      cause = c.in_ok-commit.ensures.cause;
-      whole = c.in_ok-commit.ensures.whole;
+      stays = c.in_ok-commit.ensures.stays;
+      durable = c.in_ok-commit.ensures.durable;
+      done = c.in_ok-commit.ensures.done;
+      canon = c.in_ok-commit.ensures.canon;
+      faults = c.in_ok-commit.ensures.faults;
     })
     told (created c.args.seed c.greatest_leaf.result (g.F.Pages.files c.args.folder.now) c.in_ok-session.session (g.F.Pages.faults c.args.folder.now)
     c.greatest_leaf.ensures (c.documents_deleted.ensures.none c.args.seed 0) (c.documents_added.ensures.none c.args.seed) none
@@ -149,7 +137,7 @@ returns-in_err-commit-clause-evident g c =
     (λ told none. makes_trusts _ _ _ _ _ _ c.in_ok-summary.ensures.makes told
     (created_trusts (g.F.Pages.files c.args.folder.now) c.in_ok-session.session (c.in_ok-session.ensures.guards (g.F.Pages.files c.args.folder.now) none)
     (c.in_ok-session.ensures.faithful (g.F.Pages.files c.args.folder.now)) c.in_ok-session.ensures.bare))
-    c.in_err-commit.ensures.evident
+    c.in_err-commit.ensures.faults.evident
 
 -- the folder's faults
 pub returns-in_err-session-clause-cause : goal.returns-in_err-session-clause-cause
@@ -171,10 +159,10 @@ pub returns-in_err-commit-clause-cause : goal.returns-in_err-commit-clause-cause
 returns-in_err-commit-clause-cause g c =
     let p = err_from_is_err_and c.from_residual-in_err-commit.result c.from_residual-in_err-commit.ensures.1 in
     rw (p.1 ∙ ap (λ (e : PageFault). Err e) p.2)
-    (cause_then _ _ _ _ c.in_ok-summary.ensures.makes.cause.fine (fault_to _ _ c.in_err-commit.field-0.0 c.in_err-commit.ensures.cause))
+    (cause_then _ _ _ _ c.in_ok-summary.ensures.makes.cause.fine (fault_to _ _ c.in_err-commit.field-0.0 c.in_err-commit.ensures.faults.cause))
 
 pub returns-clause-cause : goal.returns-clause-cause
-returns-clause-cause g c = cause_done _ _ _ c.in_ok-summary.summary tt false c.in_ok-summary.ensures.makes.cause c.in_ok-commit.ensures.cause
+returns-clause-cause g c = cause_done _ _ _ c.in_ok-summary.summary tt false c.in_ok-summary.ensures.makes.cause c.in_ok-commit.ensures.faults.cause
 
 -- what is kept, and how few are listed
 pub returns-in_err-session-clause-undone : goal.returns-in_err-session-clause-undone
@@ -202,7 +190,7 @@ returns-in_err-commit-clause-undone g c told none =
     rw (p.1 ∙ ap (λ (e : PageFault). Err e) p.2)
     (undone_after {T = Bool} (g.F.Pages.files c.args.folder.now) (g.F.Pages.files c.fill.new.folder) (g.F.Pages.files c.commit.new.folder)
     (Err c.in_err-commit.field-0.0) (c.in_ok-summary.ensures.makes.kept told guards)
-    (c.in_err-commit.ensures.undone told (c.in_ok-summary.ensures.makes.guards told guards)))
+    (c.in_err-commit.ensures.durable.undone told (c.in_ok-summary.ensures.makes.guards told guards)))
 
 pub returns-clause-undone : goal.returns-clause-undone
 returns-clause-undone g c told none = tt
@@ -217,7 +205,7 @@ returns-clause-levels g c told none =
     (c.in_ok-session.ensures.guards (g.F.Pages.files c.args.folder.now) none) c.in_ok-session.ensures.bare).made in
     levels_after (g.F.Pages.files c.args.folder.now) (g.F.Pages.files c.fill.new.folder) (g.F.Pages.files c.commit.new.folder)
     (c.in_ok-summary.ensures.makes.kept told guards)
-    (c.in_ok-commit.ensures.few told (c.in_ok-summary.ensures.makes.guards told guards)
+    (c.in_ok-commit.ensures.done.few told (c.in_ok-summary.ensures.makes.guards told guards)
     (begins_none 2 (g.F.Pages.files c.fill.new.folder) c.fill.new.session.set (drawn_index c.args.seed c.args.docs c.args.docs) seen refl))
 
 pub returns-in_err-session-clause-lasting : goal.returns-in_err-session-clause-lasting
@@ -235,7 +223,7 @@ pub returns-in_err-commit-clause-lasting : goal.returns-in_err-commit-clause-las
 returns-in_err-commit-clause-lasting g c told none =
     commit_after (g.F.Pages.files c.args.folder.now) (g.F.Pages.files c.fill.new.folder) (g.F.Pages.files c.commit.new.folder)
     (c.in_ok-summary.ensures.makes.kept told (c.in_ok-session.ensures.guards (g.F.Pages.files c.args.folder.now) none))
-    (c.in_err-commit.ensures.lasting told (makes_trusts _ _ _ _ _ _ c.in_ok-summary.ensures.makes told
+    (c.in_err-commit.ensures.durable.lasting told (makes_trusts _ _ _ _ _ _ c.in_ok-summary.ensures.makes told
     (created_trusts (g.F.Pages.files c.args.folder.now) c.in_ok-session.session (c.in_ok-session.ensures.guards (g.F.Pages.files c.args.folder.now) none)
     (c.in_ok-session.ensures.faithful (g.F.Pages.files c.args.folder.now)) c.in_ok-session.ensures.bare)))
 
@@ -243,6 +231,6 @@ pub returns-clause-lasting : goal.returns-clause-lasting
 returns-clause-lasting g c told none =
     commit_after (g.F.Pages.files c.args.folder.now) (g.F.Pages.files c.fill.new.folder) (g.F.Pages.files c.commit.new.folder)
     (c.in_ok-summary.ensures.makes.kept told (c.in_ok-session.ensures.guards (g.F.Pages.files c.args.folder.now) none))
-    (c.in_ok-commit.ensures.lasting told (makes_trusts _ _ _ _ _ _ c.in_ok-summary.ensures.makes told
+    (c.in_ok-commit.ensures.durable.lasting told (makes_trusts _ _ _ _ _ _ c.in_ok-summary.ensures.makes told
     (created_trusts (g.F.Pages.files c.args.folder.now) c.in_ok-session.session (c.in_ok-session.ensures.guards (g.F.Pages.files c.args.folder.now) none)
     (c.in_ok-session.ensures.faithful (g.F.Pages.files c.args.folder.now)) c.in_ok-session.ensures.bare)))

@@ -1,8 +1,9 @@
 use Rattle.std.proofs.Common.{◌∙◌, ◌*◌, sym, ap, take_all, arith, rules, to_z-of_z, FitsSigned, w32}
 use Rattle.std.specs.List.{flat_map}
 use Rattle.point_codec.specs.Keys.{key}
-use Rattle.inner_pack.proofs.CellLemmas.{key_more, four_at}
+use Rattle.inner_pack.proofs.CellLemmas.{key_more}
 use Rattle.inner_pack.proofs.fields.point_of.Goals as goal
+use Rattle.byte_cursor.proofs.Lists.{four_at}
 
 pub loop-d-preserved : goal.loop-d-preserved
 loop-d-preserved g c =

@@ -39,16 +39,12 @@ returns-in_err-commit g c =
     (omega (arith, c.requires.fits, long)) c.in_ok-add_points.ensures
     (record {
       seen = c.in_err-commit.ensures.seen;
-      guards = c.in_err-commit.ensures.guards;
-      says = λ told guards. tt;
-      stored = c.in_err-commit.ensures.stored;
-      unchanged = tt;
-      few = λ told guards none. tt;
-      undone = c.in_err-commit.ensures.undone;
-      brings = c.in_err-commit.ensures.canon;
-      cause = c.in_err-commit.ensures.cause;
-      whole = c.in_err-commit.ensures.whole;
-    }) c.in_err-commit.ensures.evident c.in_err-commit.ensures.lasting
+      stays = c.in_err-commit.ensures.stays;
+      durable = c.in_err-commit.ensures.durable;
+      done = tt;
+      canon = c.in_err-commit.ensures.canon;
+      faults = c.in_err-commit.ensures.faults;
+    })
 
 pub returns : goal.returns
 returns g c =
@@ -57,13 +53,9 @@ returns g c =
     (told_count _ _ c.args.count _ _ c.in_ok-put_loaded.ensures (c.requires.counted ∙ sym long)) c.in_ok-add_points.ensures
     (record {
       seen = c.in_ok-commit.ensures.seen;
-      guards = c.in_ok-commit.ensures.guards;
-      says = c.in_ok-commit.ensures.kept;
-      stored = c.in_ok-commit.ensures.stored;
-      unchanged = c.in_ok-commit.ensures.unchanged;
-      few = c.in_ok-commit.ensures.few;
-      undone = λ told guards. tt;
-      brings = c.in_ok-commit.ensures.canon;
-      cause = c.in_ok-commit.ensures.cause;
-      whole = c.in_ok-commit.ensures.whole;
-    }) c.in_ok-commit.ensures.lasting
+      stays = c.in_ok-commit.ensures.stays;
+      durable = c.in_ok-commit.ensures.durable;
+      done = c.in_ok-commit.ensures.done;
+      canon = c.in_ok-commit.ensures.canon;
+      faults = c.in_ok-commit.ensures.faults;
+    })

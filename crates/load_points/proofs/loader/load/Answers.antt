@@ -5,10 +5,10 @@ use Rattle.outer_io.specs.Files.{Files, bytes_of}
 use Rattle.commit_list.specs.CommitFiles.{IsCommitFile}
 use Rattle.stored_index.specs.Stored.{IsStored}
 use Rattle.load_points.specs.Loaded.{load_answer}
-use Rattle.index_core.proofs.Wholes.{state_undamaged}
 use Rattle.load_points.proofs.Loading.{loads_after, none_stored, some_stored}
 use Rattle.load_points.proofs.LoadAnswers.{evident_all, stored_still_there, unread_commit}
 use Rattle.load_points.proofs.loader.load.Goals as goal
+use Rattle.stored_index.proofs.Whole.{not_damaged}
 
 -- the clauses are those of one record
 pub returns-in-Ok-Some : goal.returns-in-Ok-Some
@@ -57,7 +57,7 @@ returns-in-Err g c =
     (record { files = g.F.Pages.files c.args.folder.now; faults = g.F.Pages.faults c.args.folder.now; text = c.args.text.now.items })
     (record { files = g.F.Pages.files c.read_commit.new.folder; faults = g.F.Pages.faults c.read_commit.new.folder; text = c.args.text.now.items })
     c.in-Err.fault _ refl c.in-Err.ensures.files
-    (λ told stored h. state_undamaged (g.F.Pages.files c.args.folder.now) stored h (c.in-Err.ensures.absent told) (c.in-Err.ensures.whole told))
+    (λ told stored h. not_damaged (g.F.Pages.files c.args.folder.now) stored h (c.in-Err.ensures.absent told) (c.in-Err.ensures.whole told))
     c.in-Err.ensures.cause c.in-Err.ensures.damage c.in-Err.ensures.shown in
     record {
       loads = whole.does;

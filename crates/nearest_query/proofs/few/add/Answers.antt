@@ -2,8 +2,8 @@ use Rattle.std.proofs.Common.{◌≡◌, ◌<◌, ◌-◌, ◌∷◌, length, ta
 use Rattle.documents.specs.NearestEntries.{IsNearest}
 use Rattle.nearest_query.specs.Best.{IsInsertedAmong}
 use Rattle.nearest_query.proofs.AmongWays.{add_few, replace_few}
-use Rattle.nearest_query.proofs.Results.{on_ok}
 use Rattle.nearest_query.proofs.few.add.Goals as goal
+use Rattle.segment_file.proofs.Subtrees.{on_ok}
 
 pub returns-then-len-room : goal.returns-then-len-room
 returns-then-len-room c = λ entries some was none lead.

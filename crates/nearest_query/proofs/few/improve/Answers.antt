@@ -5,8 +5,8 @@ use Rattle.documents.specs.NearestEntries.{IsNearest}
 use Rattle.nearest_query.specs.Best.{IsInsertedAmong}
 use Rattle.nearest_query.proofs.Among.{stay_few}
 use Rattle.nearest_query.proofs.AmongWays.{improve_few, same_place}
-use Rattle.nearest_query.proofs.Results.{on_ok}
 use Rattle.nearest_query.proofs.few.improve.Goals as goal
+use Rattle.segment_file.proofs.Subtrees.{on_ok}
 
 pub returns-then-index-near : goal.returns-then-index-near
 returns-then-index-near c = λ entries room was e lead.

@@ -6,8 +6,8 @@ use Rattle.documents.specs.NearestEntries.{nears_of}
 use Rattle.nearest_query.specs.Best.{AreAdded}
 use Rattle.nearest_query.specs.Segments.{live_items}
 use Rattle.nearest_query.proofs.LeftOut.{added_both, sum_halves}
-use Rattle.nearest_query.proofs.Results.{on_ok}
 use Rattle.nearest_query.proofs.leaves.offer_leaf.Goals as goal
+use Rattle.segment_file.proofs.Subtrees.{on_ok}
 
 pub coordinates-requires : goal.coordinates-requires
 coordinates-requires g c = (search rules, c.args.at.now.high)

@@ -2,8 +2,8 @@ use Rattle.std.proofs.Common.{◌≡◌, ◌+◌, ℕ, List, ℤ, Option, cond, 
 use Rattle.point_codec.specs.Points.{Region}
 use Rattle.inner_pack.specs.Trees.{IndexTree, Leaf, Split, cell_of}
 use Rattle.nearest_query.specs.Segments.{is_within, near_leaves, least_dist2}
-use Rattle.nearest_query.proofs.Steps.{one_leaf_tree}
 use Rattle.nearest_query.proofs.survey.+near_below.Goals as goal
+use Rattle.segment_file.proofs.Subtrees.{only_leaf}
 
 near_split : (at : List ℤ) (bound : Option ℕ) (t : IndexTree) (d : ℕ) (x : ℤ) (l r : IndexTree) → t ≡ Split d x l r
     → near_leaves at bound l + near_leaves at bound r ≡ near_leaves at bound t
@@ -20,7 +20,7 @@ returns-then-leaf_count-eq1-clause-value g t c = λ first s path tree is.
     c.one_within.ensures.value
     ∙ ap (λ d. cond (is_within c.args.bound d) 1 0)
     (c.least_dist2.ensures.value ∙ ap (λ r. least_dist2 c.args.at.now.c r) (c.cell.ensures first s path tree is))
-    ∙ one_leaf_tree (λ u. cond (is_within c.args.bound (least_dist2 c.args.at.now.c (cell_of path u))) 1 0 ≡ near_leaves c.args.at.now.c c.args.bound u) tree
+    ∙ only_leaf (λ u. cond (is_within c.args.bound (least_dist2 c.args.at.now.c (cell_of path u))) 1 0 ≡ near_leaves c.args.at.now.c c.args.bound u) tree
     (sym (c.leaf_count.ensures.count first s path tree is) ∙ c.if-leaf_count-eq1.true)
     (λ len own. near_leaf c.args.at.now.c c.args.bound path len own)
 

@@ -2,7 +2,7 @@ use Rattle.std.proofs.Common.{◌∙◌, List, [], ◌∷◌, ap, sym, subst, ar
 use Rattle.point_codec.specs.Points.{Item}
 use Rattle.inner_pack.specs.Places.{front}
 use Rattle.inner_pack.specs.Bodies.{HasTree}
-use Rattle.bkd_reader.proofs.Trees.{on_ok, root_of, parts_of}
+use Rattle.bkd_reader.proofs.Trees.{root_of, parts_of}
 use Rattle.segment_view.specs.LiveSegments.{live_segment, live_in_parts}
 use Rattle.segment_view.proofs.Living.{live_one, nothing_live}
 use Rattle.segment_view.proofs.Reading.{calm_alone}
@@ -14,6 +14,7 @@ use Rattle.point_counts.proofs.Counts.{adds_none, adds_as, live_kept}
 use Rattle.point_counts.proofs.Clean.{all_live, clean_is}
 use Rattle.point_counts.proofs.Segments.{one_segment}
 use Rattle.point_counts.proofs.tallies.count_one.Goals as goal
+use Rattle.segment_file.proofs.Subtrees.{on_ok}
 
 pub returns-then-count-eq0-clause-counts : goal.returns-then-count-eq0-clause-counts
 returns-then-count-eq0-clause-counts g c = λ told agrees es r.

@@ -10,12 +10,13 @@ use Rattle.inner_pack.specs.Bodies.{right_begin}
 use Rattle.page_cache.specs.Cache.{Agrees}
 use Rattle.segment_file.specs.Segments.{HoldsTree}
 use Rattle.segment_file.specs.Damages.{IsLeafDamage}
-use Rattle.bkd_reader.proofs.Trees.{handed_on, on_ok, left_damage, right_damage, held, left_root, right_root}
+use Rattle.bkd_reader.proofs.Trees.{handed_on, left_damage, right_damage, held, left_root, right_root}
 use Rattle.point_counts.specs.Tables.{AddsCounts, live_at}
 use Rattle.point_counts.specs.Costs.{opened_below}
 use Rattle.point_counts.proofs.Counts.{adds_then, live_join, all_left, all_right}
 use Rattle.point_counts.proofs.Subtrees.{opened_split, one_opened, on_true, on_false}
 use Rattle.point_counts.proofs.walk.+count_below.Goals as goal
+use Rattle.segment_file.proofs.Subtrees.{on_ok}
 
 -- ---- nothing is to be read
 

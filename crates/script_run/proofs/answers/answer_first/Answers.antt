@@ -2,9 +2,10 @@
 use Rattle.std.proofs.Common.{ℕ, List, ◌++◌, None, ap, ◌∙◌, inr, refl}
 use Rattle.std.proofs.lemmas.Result.{err_from_is_err_and}
 use Rattle.script_run.specs.LineAnswers.{IsFirstAnswer, IsNewWithin}
-use Rattle.script_run.proofs.Lined.{known_is, only_sink, sent_as}
+use Rattle.script_run.proofs.Lined.{known_is, only_sink}
 use Rattle.script_run.proofs.answers.answer_first.Goals as goal
 use Rattle.script_run.specs.Languages.{answer}
+use Rattle.run_status.proofs.Ending.{sent_as}
 
 pub returns-clause-opening : goal.returns-clause-opening
 returns-clause-opening g c =

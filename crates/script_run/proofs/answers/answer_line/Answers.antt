@@ -2,11 +2,11 @@
 use Rattle.std.proofs.Common.{Bool, Err, IsTrue, Ok, ap, refl, sym, ◌∙◌}
 use Rattle.std.specs.Prelude.{is_ok}
 use Rattle.index_core.proofs.Sizes.{session_fits}
-use Rattle.script_run.proofs.Lined.{sent_answers, sent_as, left_answers, send_cause}
+use Rattle.script_run.proofs.Lined.{sent_answers, left_answers}
 use Rattle.script_run.proofs.SoFar.{line_at}
 use Rattle.script_run.proofs.Passing.{passes_to}
 use Rattle.script_run.proofs.answers.answer_line.Goals as goal
-use Rattle.run_status.proofs.Ending.{sink_shows, fault_shows, fault_cause}
+use Rattle.run_status.proofs.Ending.{sink_shows, fault_shows, fault_cause, send_cause, sent_as}
 
 pub reply_to-requires-after_bounds : goal.reply_to-requires-after_bounds
 reply_to-requires-after_bounds g c κs = λ _. (session_fits g.row.D c.requires.few, (c.requires.some, c.requires.few))

@@ -7,11 +7,12 @@ use Rattle.stored_index.proofs.KeptFiles.{kept_itself}
 use Rattle.index_core.proofs.Brought.{commit_itself}
 use Rattle.script_run.specs.Costs.{asks_commit}
 use Rattle.script_run.proofs.Answered.{unread_replies, fault_read}
-use Rattle.script_run.proofs.Lined.{page_memory, page_still}
+use Rattle.script_run.proofs.Lined.{page_still}
 use Rattle.script_run.proofs.Passing.{passes_none, passes_unread}
 use Rattle.script_run.proofs.Shown.{memory_shows}
 use Rattle.script_run.proofs.answers.reply_to.Goals as goal
 use Rattle.explain_queries.proofs.Sizes.{command_fits}
+use Rattle.run_status.proofs.Ending.{page_memory}
 
 pub obey-requires-after_bounds : goal.obey-requires-after_bounds
 obey-requires-after_bounds g c κs = λ _. (session_fits g.row.D c.requires.few, (command_fits g.row.D c.requires.few, c.in-Ok.ensures.limits))

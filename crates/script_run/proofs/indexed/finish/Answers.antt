@@ -9,18 +9,19 @@ use Rattle.script_run.proofs.indexed.finish.Goals as goal
 use Rattle.run_status.proofs.Ending.{fault_shows, fault_cause}
 
 pub returns-in-Ok-clause-ends : goal.returns-in-Ok-clause-ends
-returns-in-Ok-clause-ends g c = λ told i stored h. (refl, (c.in-Ok.ensures.stored told i h.seen h.guards).0)
+returns-in-Ok-clause-ends g c = λ told i stored h. (refl, (c.in-Ok.ensures.durable.stored told i h.seen h.guards).0)
 
 pub returns-in-Ok-clause-cause : goal.returns-in-Ok-clause-cause
-returns-in-Ok-clause-cause g c = λ sink. ok_cause _ _ sink _ c.args.refused c.in-Ok.ensures.cause
+returns-in-Ok-clause-cause g c = λ sink. ok_cause _ _ sink _ c.args.refused c.in-Ok.ensures.faults.cause
 
 pub returns-in-Err-clause-ends : goal.returns-in-Err-clause-ends
 returns-in-Err-clause-ends g c = λ told i stored h.
-    stops_end _ _ i stored c.args.refused c.in-Err.fault (c.in-Err.ensures.whole told i h.seen) h.keeps (c.in-Err.ensures.stored told i h.seen h.guards)
+    stops_end _ _ i stored c.args.refused c.in-Err.fault (c.in-Err.ensures.faults.whole told i h.seen) h.keeps
+    (c.in-Err.ensures.durable.stored told i h.seen h.guards)
     c.stopped.result c.stopped.ensures
 
 pub returns-in-Err-clause-cause : goal.returns-in-Err-clause-cause
-returns-in-Err-clause-cause g c = λ sink. fault_cause _ _ sink c.in-Err.fault c.in-Err.ensures.cause c.stopped.result c.stopped.ensures
+returns-in-Err-clause-cause g c = λ sink. fault_cause _ _ sink c.in-Err.fault c.in-Err.ensures.faults.cause c.stopped.result c.stopped.ensures
 
 pub returns-in-Ok-clause-closes : goal.returns-in-Ok-clause-closes
 returns-in-Ok-clause-closes g c = λ told i stored h.
@@ -48,17 +49,17 @@ returns-in-Err-clause-closes g c = λ told i stored h.
 
 pub returns-in-Err-clause-evident : goal.returns-in-Err-clause-evident
 returns-in-Err-clause-evident g c =
-    fault_shows _ c.in-Err.fault (fault_at _ _ _ _ c.in-Err.fault (λ p. p) (λ p. refl) c.in-Err.ensures.evident) c.stopped.result c.stopped.ensures
+    fault_shows _ c.in-Err.fault (fault_at _ _ _ _ c.in-Err.fault (λ p. p) (λ p. refl) c.in-Err.ensures.faults.evident) c.stopped.result c.stopped.ensures
 
 pub returns-in-Ok-clause-undone : goal.returns-in-Ok-clause-undone
 returns-in-Ok-clause-undone g c = λ told h. tt
 
 pub returns-in-Err-clause-undone : goal.returns-in-Err-clause-undone
 returns-in-Err-clause-undone g c = λ told h. rw c.stopped.ensures
-    (fault_stops ℕ (g.F.Pages.files c.args.folder.now) (g.F.Pages.files c.close.new.folder) c.in-Err.fault (c.in-Err.ensures.undone told h.guards))
+    (fault_stops ℕ (g.F.Pages.files c.args.folder.now) (g.F.Pages.files c.close.new.folder) c.in-Err.fault (c.in-Err.ensures.durable.undone told h.guards))
 
 pub returns-in-Ok-clause-lasting : goal.returns-in-Ok-clause-lasting
-returns-in-Ok-clause-lasting g c = c.in-Ok.ensures.lasting
+returns-in-Ok-clause-lasting g c = c.in-Ok.ensures.durable.lasting
 
 pub returns-in-Err-clause-lasting : goal.returns-in-Err-clause-lasting
-returns-in-Err-clause-lasting g c = c.in-Err.ensures.lasting
+returns-in-Err-clause-lasting g c = c.in-Err.ensures.durable.lasting

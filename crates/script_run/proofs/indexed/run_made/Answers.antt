@@ -8,13 +8,13 @@ use Rattle.stored_index.proofs.KeptFiles.{kept_after}
 use Rattle.script_run.specs.Costs.{asks_commit}
 use Rattle.script_run.proofs.Calling.{stop_after, stop_kept}
 use Rattle.script_run.proofs.Halting.{halted_no_source, memory_cause, no_source, halted_cause, halted_ends, halted_keeps, halted_shows}
-use Rattle.script_run.proofs.Passing.{on_ok}
 use Rattle.script_run.proofs.Reading.{closes_halted, gives_line, gives_none, going_ends, going_first, going_halts, going_on, going_stops}
 use Rattle.script_run.proofs.Reading.{going_wants, none_read, of_all, of_left, of_line, one_read, quiet_first, quiet_on, reads_alike}
 use Rattle.script_run.proofs.Shown.{stop_less}
 use Rattle.script_run.proofs.indexed.run_made.Goals as goal
 use Rattle.script_run.specs.Languages.{meaning}
 use Rattle.run_status.proofs.Ending.{rose_from, cause_from, same_stop, cause_to, refused_more, at_most_one}
+use Rattle.index_core.proofs.Committing.{on_ok_any}
 
 pub answer_line-requires-after_bounds : goal.answer_line-requires-after_bounds
 answer_line-requires-after_bounds g c κs = λ _. (session_fits g.row.D c.requires.few, (c.requires.some, c.requires.few))
@@ -131,7 +131,7 @@ returns-in-Ok-false-clause-read g c =
     let no : c.in-Ok-false.field-0 ≡ false = search rules in
     let none = gives_none (IsTrue g.S.Source.told) c.lines.reader (g.S.Source.left c.lines.input) c.next_line.new.self (g.S.Source.left c.next_line.new.source)
     c.next_line.new.line.items c.in-Ok-false.field-0 no c.in-Ok-false.ensures.gives in
-    λ source knows. on_ok c.halt_result.result (none source (c.lines.invariant.so_far.0.ended source knows)).1
+    λ source knows. on_ok_any c.halt_result.result (none source (c.lines.invariant.so_far.0.ended source knows)).1
 
 pub returns-in-Ok-false-clause-cause : goal.returns-in-Ok-false-clause-cause
 returns-in-Ok-false-clause-cause g c =

@@ -5,19 +5,20 @@ use Rattle.index_core.proofs.Undone.{fault_kept, kept_equal}
 use Rattle.outer_io.specs.declared.file_name.FileName.TheVariants.{Commit}
 use Rattle.outer_io.specs.Files.{Files}
 use Rattle.commit_list.specs.Commits.{CommitData}
-use Rattle.index_opening.proofs.Evident.{on_commit_evident}
+use Rattle.index_opening.proofs.Evident.{on_commit_evident, says_after}
 use Rattle.script_run.specs.Halted.{halt_result}
 use Rattle.script_run.specs.Kept.{HaltKeeps}
 use Rattle.script_run.specs.Progress.{start}
 use Rattle.script_run.proofs.Calling.{fault_stops}
 use Rattle.script_run.proofs.Halting.{halt_cause_from, halt_less, halted_no_source, no_source, halted_cause, halted_ends, halted_keeps, halted_shows}
-use Rattle.script_run.proofs.Lined.{unopened, from_none, from_some, not_damaged}
+use Rattle.script_run.proofs.Lined.{unopened, from_none, from_some}
 use Rattle.script_run.proofs.Reading.{of_any, of_same}
-use Rattle.script_run.proofs.Shown.{fault_at, says_after}
+use Rattle.script_run.proofs.Shown.{fault_at}
 use Rattle.script_run.proofs.StartStored.{leads_first, leads_some, leads_unread}
 use Rattle.script_run.proofs.lines.run_read.Goals as goal
 use Rattle.script_run.specs.Languages.{meaning}
 use Rattle.run_status.proofs.Ending.{fault_shows, fault_cause}
+use Rattle.stored_index.proofs.Whole.{not_damaged}
 
 pub returns-in-Ok-None-clause-does : goal.returns-in-Ok-None-clause-does
 returns-in-Ok-None-clause-does g c = λ told.

@@ -3,13 +3,13 @@ use Rattle.std.proofs.Common.{ℕ, ◌≤◌, Some, subst}
 use Rattle.std.proofs.lemmas.Result.{err_from_is_err_and}
 use Rattle.script_lang.specs.Reading.{greatest_leaf}
 use Rattle.index_core.proofs.Sizes.{session_fits}
-use Rattle.script_run.proofs.Lined.{page_memory, page_none}
 use Rattle.script_run.proofs.Opened.{made_stands, attached_stands}
 use Rattle.script_run.proofs.Starting.{opens_new, opens_none, opens_stored}
 use Rattle.index_opening.specs.Evidence.{IsTwice}
 use Rattle.index_opening.proofs.Evident.{on_evident_at}
 use Rattle.script_run.proofs.Shown.{attached_trusts, bare_trusts}
 use Rattle.script_run.proofs.origin.open.Goals as goal
+use Rattle.run_status.proofs.Ending.{page_memory, page_none}
 
 pub create-requires : goal.create-requires
 create-requires g c =
@@ -42,13 +42,13 @@ returns-in_err-create-in-New-clause-whole g c = λ told i stored h.
 pub returns-in-Stored-clause-stands : goal.returns-in-Stored-clause-stands
 returns-in-Stored-clause-stands g c = λ told i stored h.
     let from = rw c.in-Stored.is at h in
-    attached_stands g.row.D _ _ i stored c.attach.result (c.attach.ensures.seen told from.0 i from.1) (c.attach.ensures.guards told from.0)
+    attached_stands g.row.D _ _ i stored c.attach.result (c.attach.ensures.attaches.seen told from.0 i from.1) (c.attach.ensures.attaches.guards told from.0)
     (c.attach.ensures.files told) from.1 from.2
 
 pub returns-in-Stored-clause-whole : goal.returns-in-Stored-clause-whole
 returns-in-Stored-clause-whole g c = λ told i stored h.
     let from = rw c.in-Stored.is at h in
-    c.attach.ensures.whole told from.0 (Some i) from.1
+    c.attach.ensures.damaged.whole told from.0 (Some i) from.1
 
 pub returns-in_ok-create-in-New-clause-opens : goal.returns-in_ok-create-in-New-clause-opens
 returns-in_ok-create-in-New-clause-opens g c = λ told i stored h.
@@ -67,7 +67,8 @@ returns-in-Stored-clause-opens g c = λ told i stored h.
     rw c.in-Stored.is
     (opens_stored g.row.D _ _ _ _ c.in-Stored.commit i stored (rw c.in-Stored.is at c.requires.dims) (c.attach.ensures.files told) from
     (c.attach.ensures.reads told) c.attach.result
-    (c.attach.ensures.seen told from.0 i from.1) (c.attach.ensures.guards told from.0) c.attach.ensures.unchanged c.attach.ensures.listed)
+    (c.attach.ensures.attaches.seen told from.0 i from.1) (c.attach.ensures.attaches.guards told from.0) c.attach.ensures.attaches.unchanged
+    c.attach.ensures.attaches.listed)
 
 pub returns-in_ok-create-in-New-clause-trusts : goal.returns-in_ok-create-in-New-clause-trusts
 returns-in_ok-create-in-New-clause-trusts g c = λ told there.
@@ -86,9 +87,9 @@ returns-in_err-create-in-New-clause-evident g c =
 
 pub returns-in-Stored-clause-trusts : goal.returns-in-Stored-clause-trusts
 returns-in-Stored-clause-trusts g c = λ told there.
-    attached_trusts g.row.D _ _ c.attach.result (c.attach.ensures.files told) (c.attach.ensures.guards told (rw c.in-Stored.is at there))
-    (c.attach.ensures.faithful told) (c.attach.ensures.traced told (rw c.in-Stored.is at there))
+    attached_trusts g.row.D _ _ c.attach.result (c.attach.ensures.files told) (c.attach.ensures.attaches.guards told (rw c.in-Stored.is at there))
+    (c.attach.ensures.attaches.faithful told) (c.attach.ensures.attaches.traced told (rw c.in-Stored.is at there))
 
 pub returns-in-Stored-clause-evident : goal.returns-in-Stored-clause-evident
 returns-in-Stored-clause-evident g c =
-    on_evident_at IsTwice _ _ _ _ c.attach.result (λ p. (p.0, rw c.in-Stored.is at p.1)) (λ p. c.attach.ensures.files p.0) c.attach.ensures.evident
+    on_evident_at IsTwice _ _ _ _ c.attach.result (λ p. (p.0, rw c.in-Stored.is at p.1)) (λ p. c.attach.ensures.files p.0) c.attach.ensures.damaged.evident

@@ -23,9 +23,10 @@ use Rattle.segment_set.proofs.Doubted.{doubt_among, part_shown, whole_shows}
 use Rattle.index_opening.proofs.Evident.{on_evident_at, on_part_evident}
 use Rattle.segment_set.proofs.Evident.{doubt_evident, gathered_of_files}
 use Rattle.segment_set.proofs.Fresh.{gathered_of, holds_live, items_length}
-use Rattle.segment_set.proofs.Sizes.{built_fits, entry_fits}
+use Rattle.segment_set.proofs.Sizes.{built_fits}
 use Rattle.segment_set.proofs.Spilled.{some_is}
 use Rattle.segment_set.proofs.rewriting.gathered.Goals as goal
+use Rattle.point_codec.proofs.Sizes.{entry_fits}
 
 pub returns-in_err-entries-clause-whole : goal.returns-in_err-entries-clause-whole
 returns-in_err-entries-clause-whole g c =

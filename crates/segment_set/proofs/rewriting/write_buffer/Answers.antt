@@ -11,8 +11,9 @@ use Rattle.segment_set.proofs.Counted.{uncrowded}
 use Rattle.segment_set.proofs.Fresh.{all_live, holds_live, items_length, made}
 use Rattle.segment_set.proofs.Held.{few_entries}
 use Rattle.segment_set.proofs.Rearranged.{entries_below}
-use Rattle.segment_set.proofs.Sizes.{built_fits, entry_fits}
+use Rattle.segment_set.proofs.Sizes.{built_fits}
 use Rattle.segment_set.proofs.rewriting.write_buffer.Goals as goal
+use Rattle.point_codec.proofs.Sizes.{entry_fits}
 
 pub build_segment-requires-after_bounds : goal.build_segment-requires-after_bounds
 build_segment-requires-after_bounds g c κs = λ _.

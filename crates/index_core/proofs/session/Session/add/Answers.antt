@@ -36,26 +36,26 @@ pub returns-clause-applies : goal.returns-clause-applies
 returns-clause-applies g c =
     let fits : nat_lt (2 ^ 24) (c.self.inside.set.given + length c.args.points.now) ≡ false =
     ap (λ (u : SessionData). nat_lt (2 ^ 24) (u.set.given + length c.args.points.now)) c.self.view_is ∙ sym c.is_full.ensures.full ∙ c.if-is_full.false in
-    let full = not_full c.add.result (c.self.inside.set.given + length c.args.points.now) fits c.add.ensures.full in
+    let full = not_full c.add.result (c.self.inside.set.given + length c.args.points.now) fits c.add.ensures.full.full in
     applies_is _ _ _ _ _ _ _ _ c.add_answer.ensures
     (applies_seen _ _ _ _ _ _ _ _ _ _ _ c.self.view_is
     (applies_merging _ _ _ _ _ _
     (record {
       commit = refl;
       refused = refl;
-      leaf = c.add.ensures.leaf;
-      keeps = c.add.ensures.kept;
-      follows = c.add.ensures.follows;
-      brings = λ told. brings_written _ _ _ _ _ _ _ _ told c.add.ensures.kept c.add.ensures.follows (c.add.ensures.canon told);
-      faithful = c.add.ensures.faithful;
+      leaf = c.add.ensures.alone.leaf;
+      keeps = c.add.ensures.rewrites.kept;
+      follows = c.add.ensures.rewrites.follows;
+      brings = λ told. brings_written _ _ _ _ _ _ _ _ told c.add.ensures.rewrites.kept c.add.ensures.rewrites.follows (c.add.ensures.rewrites.canon told);
+      faithful = c.add.ensures.rewrites.faithful;
     })
     (subst (λ (u : SessionData). All (IsNamed u.set.names) u.set.parts) (sym c.self.view_is) c.is_full.ensures.named)
     (λ told i seen. does_add _ _ _ _ _ i _ c.add.result _ _ seen fits full (c.add.ensures.seen told i seen) (c.add.ensures.refused told i seen)
     (c.in_ok-put_doc.ensures.ok ∙ ap (λ n. c.args.out.now.items ++ doc_text n) c.next.ensures))
     (begins_with _ _ _ c.in_ok-put_doc.ensures.ok)
     (cause_add _ _ c.add.result full c.add.ensures.cause)
-    (λ told i seen. whole_add c.add.result (c.add.ensures.whole told i seen))
-    (add_shows _ c.add.result c.add.ensures.evident)))
+    (λ told i seen. whole_add c.add.result (c.add.ensures.damaged.whole told i seen))
+    (add_shows _ c.add.result c.add.ensures.damaged.evident)))
 
 pub next-requires : goal.next-requires
 next-requires g c = set_fits g.row.D c.self.invariant.few
@@ -72,7 +72,7 @@ returns-in_err-put_doc-clause-reads g c room = refl
 pub returns-clause-reads : goal.returns-clause-reads
 returns-clause-reads g c =
     subst (λ (u : SessionData). length u.set.buffer + length c.args.points.now ≤ 16384 → g.F.Pages.reads c.add.new.folder ≡ g.F.Pages.reads c.args.folder.now)
-    c.self.view_is c.add.ensures.unread
+    c.self.view_is c.add.ensures.in_room.unread
 
 pub returns-then-is_full-clause-damage : goal.returns-then-is_full-clause-damage
 returns-then-is_full-clause-damage g c = merge_none _ _ _ _ _ _ tt
@@ -90,9 +90,9 @@ returns-clause-damage g c =
     ShowsMerge g.row.D (IsTrue g.F.Pages.told) (g.F.Pages.files c.args.folder.now) (g.F.Pages.files c.add.new.folder) u.set (add_answer c.add.result))
     c.self.view_is
     (record {
-      shown = add_shows _ c.add.result c.add.ensures.shown;
-      damage = λ told agrees. add_shows _ c.add.result (c.add.ensures.damage told agrees);
-      doubled = λ told agrees contents read. add_shows _ c.add.result (c.add.ensures.doubled told agrees contents read);
+      shown = add_shows _ c.add.result c.add.ensures.damaged.shown;
+      damage = λ told agrees. add_shows _ c.add.result (c.add.ensures.damaged.damage told agrees);
+      doubled = λ told agrees contents read. add_shows _ c.add.result (c.add.ensures.damaged.doubled told agrees contents read);
     }))
 
 pub returns-then-is_full-clause-still : goal.returns-then-is_full-clause-still
@@ -108,7 +108,7 @@ returns-clause-still g c =
     let fits : nat_lt (2 ^ 24) (c.self.inside.set.given + length c.args.points.now) ≡ false =
     ap (λ (u : SessionData). nat_lt (2 ^ 24) (u.set.given + length c.args.points.now)) c.self.view_is ∙ sym c.is_full.ensures.full ∙ c.if-is_full.false in
     answer_keeps _ _ _ c.add_answer.ensures
-    (add_keeps _ c.add.result (not_full c.add.result (c.self.inside.set.given + length c.args.points.now) fits c.add.ensures.full))
+    (add_keeps _ c.add.result (not_full c.add.result (c.self.inside.set.given + length c.args.points.now) fits c.add.ensures.full.full))
 
 pub returns-then-is_full-clause-light : goal.returns-then-is_full-clause-light
 returns-then-is_full-clause-light g c room = light_same _ _ _ _
@@ -117,7 +117,7 @@ pub returns-in_err-put_doc-clause-light : goal.returns-in_err-put_doc-clause-lig
 returns-in_err-put_doc-clause-light g c room = light_same _ _ _ _
 
 pub returns-clause-light : goal.returns-clause-light
-returns-clause-light g c = light_added _ _ _ _ _ _ _ c.self.view_is c.add.ensures.files c.add.ensures.snapshots c.add.ensures.parts
+returns-clause-light g c = light_added _ _ _ _ _ _ _ c.self.view_is c.add.ensures.in_room.unwritten c.add.ensures.alone.snapshots c.add.ensures.in_room.parts
 
 pub returns-then-is_full-clause-unread : goal.returns-then-is_full-clause-unread
 returns-then-is_full-clause-unread g c = refl
@@ -132,7 +132,7 @@ returns-clause-unread g c =
     let fits : nat_lt (2 ^ 24) (c.self.inside.set.given + length c.args.points.now) ≡ false =
     ap (λ (u : SessionData). nat_lt (2 ^ 24) (u.set.given + length c.args.points.now)) c.self.view_is ∙ sym c.is_full.ensures.full ∙ c.if-is_full.false in
     answer_keeps _ _ _ c.add_answer.ensures
-    (add_keeps _ c.add.result (not_full c.add.result (c.self.inside.set.given + length c.args.points.now) fits c.add.ensures.full))
+    (add_keeps _ c.add.result (not_full c.add.result (c.self.inside.set.given + length c.args.points.now) fits c.add.ensures.full.full))
 
 pub returns-then-is_full-clause-barred : goal.returns-then-is_full-clause-barred
 returns-then-is_full-clause-barred g c over = refl

@@ -37,17 +37,17 @@ returns g c =
     (adds_one _ _ _ _ _ c.add-2.result (record {
       commit = refl;
       refused = refl;
-      leaf = c.add-2.ensures.leaf;
-      keeps = c.add-2.ensures.kept;
-      follows = c.add-2.ensures.follows;
+      leaf = c.add-2.ensures.alone.leaf;
+      keeps = c.add-2.ensures.rewrites.kept;
+      follows = c.add-2.ensures.rewrites.follows;
       named = c.leaf-leaf.ensures.well.named;
-      second = c.add-2.ensures.canon;
+      second = c.add-2.ensures.rewrites.canon;
       seen = put_seen _ _ _ _ _ _ _ _ _ (made g c) c.add-2.ensures.seen;
-      given = put_given _ _ _ _ _ _ (made g c) c.add-2.ensures.given;
+      given = put_given _ _ _ _ _ _ (made g c) c.add-2.ensures.gives.given;
       cause = c.add-2.ensures.cause;
-      whole = c.add-2.ensures.whole;
-      faithful = c.add-2.ensures.faithful;
-      evident = c.add-2.ensures.evident;
+      whole = c.add-2.ensures.damaged.whole;
+      faithful = c.add-2.ensures.rewrites.faithful;
+      evident = c.add-2.ensures.damaged.evident;
     })))
 
 pub of-requires : goal.of-requires

@@ -37,24 +37,26 @@ returns-clause-names g c last is = on_ok_each (λ s names m named.
     c.attach.result c.attach.ensures.names
 
 pub returns-clause-whole : goal.returns-clause-whole
-returns-clause-whole g c told done guards state stored = c.attach.ensures.whole told (says_last _ _ _ _ c.self.view_is c.in-Some.is done guards) state stored
+returns-clause-whole g c told done guards state stored =
+    c.attach.ensures.damaged.whole told (says_last _ _ _ _ c.self.view_is c.in-Some.is done guards) state stored
 
 pub returns-clause-shown : goal.returns-clause-shown
 returns-clause-shown g c last is =
     subst (λ d. OnDamage c.attach.result (IsAttachDamage d)) (some_same _ _ (sym c.in-Some.is ∙ ap (λ (u : SessionData). u.commit) c.self.view_is ∙ is))
-    c.attach.ensures.shown
+    c.attach.ensures.damaged.shown
 
 pub returns-clause-damage : goal.returns-clause-damage
 returns-clause-damage g c told last is =
     subst (λ d. OnDamage c.attach.result (IsAttachDamageOf (g.F.Pages.files c.args.folder.now) d))
-    (some_same _ _ (sym c.in-Some.is ∙ ap (λ (u : SessionData). u.commit) c.self.view_is ∙ is)) (c.attach.ensures.damage told)
+    (some_same _ _ (sym c.in-Some.is ∙ ap (λ (u : SessionData). u.commit) c.self.view_is ∙ is)) (c.attach.ensures.damaged.damage told)
 
 pub returns-clause-faithful : goal.returns-clause-faithful
 returns-clause-faithful g c told = c.attach.ensures.faithful told
 
 pub returns-clause-evident : goal.returns-clause-evident
 returns-clause-evident g c =
-    on_evident_less _ _ _ c.attach.result (λ (told, done, guards). (told, says_last _ _ _ _ c.self.view_is c.in-Some.is done guards)) c.attach.ensures.evident
+    on_evident_less _ _ _ c.attach.result (λ (told, done, guards). (told, says_last _ _ _ _ c.self.view_is c.in-Some.is done guards))
+    c.attach.ensures.damaged.evident
 
 pub returns-clause-traced : goal.returns-clause-traced
 returns-clause-traced g c told done guards = traced_anew _ _ _ c.attach.result (subst (HasDims g.row.D) c.in-Some.is c.self.invariant.has)

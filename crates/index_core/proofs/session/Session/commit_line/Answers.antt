@@ -17,20 +17,24 @@ unfolding step_on
 returns-clause-applies g c = record {
   does = λ told i seen guards. does_done _ _ i i _ ok_text _ _ (c.commit.ensures.seen told i seen) c.in_ok-put_ok.ensures.ok;
   begins = begins_with _ _ _ c.in_ok-put_ok.ensures.ok;
-  guards = c.commit.ensures.guards;
-  kept = c.in_ok-commit.ensures.kept;
-  stored = λ told i seen guards e. c.in_ok-commit.ensures.stored told i seen guards;
-  cause = done_cause _ _ c.in_ok-commit.field-0 applied.Done c.in_ok-commit.ensures.cause;
-  whole = λ told i seen guards. tt;
-  faithful = c.commit.ensures.faithful;
-  traced = c.commit.ensures.traced;
-  lasting = c.commit.ensures.lasting;
-  evident = tt;
-  idle = λ told e unchanged. (c.commit.ensures.idle unchanged).2;
-  unchanged = λ e. c.in_ok-commit.ensures.unchanged;
-  anew = λ e. c.in_ok-commit.ensures.anew;
-  levels = λ e. c.in_ok-commit.ensures.levels;
+  stays = c.commit.ensures.stays;
+  keeps = record {
+    kept = c.in_ok-commit.ensures.durable.kept;
+    stored = λ told i seen guards e. c.in_ok-commit.ensures.durable.stored told i seen guards;
+    lasting = c.commit.ensures.durable.lasting;
+  };
+  commits = λ e. record {
+    idle = λ told unchanged. (c.commit.ensures.idle unchanged).2;
+    unchanged = c.in_ok-commit.ensures.done.unchanged;
+    anew = c.in_ok-commit.ensures.done.anew;
+    levels = c.in_ok-commit.ensures.done.levels;
+  };
   canon = λ told i seen guards. c.commit.ensures.canon told;
+  faults = record {
+    cause = done_cause _ _ c.in_ok-commit.field-0 applied.Done c.in_ok-commit.ensures.faults.cause;
+    whole = λ told i seen guards. tt;
+    evident = tt;
+  };
 }
 
 pub returns-in_err-commit-clause-applies : goal.returns-in_err-commit-clause-applies
@@ -39,20 +43,24 @@ returns-in_err-commit-clause-applies g c =
     applies_is _ _ _ _ _ _ _ _ (p.1 ∙ ap (λ (e : PageFault). Err e) p.2) (record {
       does = λ told i seen guards. does_fault _ _ _ i _ _ _ _ (c.commit.ensures.seen told i seen);
       begins = begins_itself _;
-      guards = c.commit.ensures.guards;
-      kept = c.in_err-commit.ensures.kept;
-      stored = λ told i seen guards e. c.in_err-commit.ensures.stored told i seen guards;
-      cause = fault_to _ _ c.in_err-commit.field-0.0 c.in_err-commit.ensures.cause;
-      whole = λ told i seen guards. c.in_err-commit.ensures.whole told i seen;
-      faithful = c.commit.ensures.faithful;
-      traced = c.commit.ensures.traced;
-      lasting = c.commit.ensures.lasting;
-      evident = c.in_err-commit.ensures.evident;
-      idle = λ told e unchanged. (c.commit.ensures.idle unchanged).2;
-      unchanged = λ e. tt;
-      anew = λ e changed. tt;
-      levels = λ e changed none. tt;
+      stays = c.commit.ensures.stays;
+      keeps = record {
+        kept = c.in_err-commit.ensures.durable.kept;
+        stored = λ told i seen guards e. c.in_err-commit.ensures.durable.stored told i seen guards;
+        lasting = c.commit.ensures.durable.lasting;
+      };
+      commits = λ e. record {
+        idle = λ told unchanged. (c.commit.ensures.idle unchanged).2;
+        unchanged = tt;
+        anew = λ changed. tt;
+        levels = λ changed none. tt;
+      };
       canon = λ told i seen guards. c.commit.ensures.canon told;
+      faults = record {
+        cause = fault_to _ _ c.in_err-commit.field-0.0 c.in_err-commit.ensures.faults.cause;
+        whole = λ told i seen guards. c.in_err-commit.ensures.faults.whole told i seen;
+        evident = c.in_err-commit.ensures.faults.evident;
+      };
     })
 
 pub returns-in_err-put_ok-clause-applies : goal.returns-in_err-put_ok-clause-applies
@@ -61,20 +69,24 @@ returns-in_err-put_ok-clause-applies g c =
     applies_is _ _ _ _ _ _ _ _ (p.1 ∙ ap (λ (e : PageFault). Err e) p.2) (record {
       does = λ told i seen guards. does_fault _ _ _ i _ _ _ _ (c.commit.ensures.seen told i seen);
       begins = begins_same _ _ c.in_err-put_ok.ensures.memory;
-      guards = c.commit.ensures.guards;
-      kept = c.commit.ensures.flight;
-      stored = λ told i seen guards e. inr (c.in_ok-commit.ensures.stored told i seen guards).0;
-      cause = memory_cause _ _ c.commit.ensures.cause.later;
-      whole = λ told i seen guards. tt;
-      faithful = c.commit.ensures.faithful;
-      traced = c.commit.ensures.traced;
-      lasting = c.commit.ensures.lasting;
-      evident = tt;
-      idle = λ told e unchanged. (c.commit.ensures.idle unchanged).2;
-      unchanged = λ e. tt;
-      anew = λ e changed. tt;
-      levels = λ e changed none. tt;
+      stays = c.commit.ensures.stays;
+      keeps = record {
+        kept = c.commit.ensures.flight;
+        stored = λ told i seen guards e. inr (c.in_ok-commit.ensures.durable.stored told i seen guards).0;
+        lasting = c.commit.ensures.durable.lasting;
+      };
+      commits = λ e. record {
+        idle = λ told unchanged. (c.commit.ensures.idle unchanged).2;
+        unchanged = tt;
+        anew = λ changed. tt;
+        levels = λ changed none. tt;
+      };
       canon = λ told i seen guards. c.commit.ensures.canon told;
+      faults = record {
+        cause = memory_cause _ _ c.commit.ensures.faults.cause.later;
+        whole = λ told i seen guards. tt;
+        evident = tt;
+      };
     })
 
 pub returns-in_err-commit-clause-reads : goal.returns-in_err-commit-clause-reads

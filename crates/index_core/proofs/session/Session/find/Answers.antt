@@ -38,8 +38,8 @@ returns-in_err-hits-clause-applies g c =
     let p = err_from_is_err_and c.from_residual.result c.from_residual.ensures.1 in
     applies_seen _ _ _ _ _ _ _ _ _ _ _ c.self.view_is
     (applies_fault _ _ _ _ _ _ c.in_err-hits.field-0.0 (calm_cache _ _ _ _ _ _ _ _ _ _ _ _ c.visit.ensures.alone c.visit.ensures.files c.visit.ensures.faithful)
-    (p.1 ∙ ap (λ (e : PageFault). Err e) p.2) c.visit.ensures.seen (begins_itself _) c.in_err-hits.ensures.cause c.in_err-hits.ensures.whole
-    c.in_err-hits.ensures.evident)
+    (p.1 ∙ ap (λ (e : PageFault). Err e) p.2) c.visit.ensures.seen (begins_itself _) c.in_err-hits.ensures.cause c.in_err-hits.ensures.damaged.whole
+    c.in_err-hits.ensures.damaged.evident)
 
 pub returns-in_err-put_hits-clause-applies : goal.returns-in_err-put_hits-clause-applies
 returns-in_err-put_hits-clause-applies g c =
@@ -90,7 +90,7 @@ returns-in_err-hits-clause-damage g c =
     ShowsLeaf g.row.D (IsTrue g.F.Pages.told) (g.F.Pages.files c.args.folder.now) u.set (viewed_parts (view_name c.args.view.now) u.set) c.from_residual.result)
     c.self.view_is
     (leaf_to {T = Unit {0}} _ _ _ _ _ _ c.in_err-hits.field-0.0 (p.1 ∙ ap (λ (e : PageFault). Err e) p.2)
-    (record { shown = c.in_err-hits.ensures.shown; damage = c.in_err-hits.ensures.damage }))
+    (record { shown = c.in_err-hits.ensures.damaged.shown; damage = c.in_err-hits.ensures.damaged.damage }))
 
 pub returns-in_err-put_hits-clause-damage : goal.returns-in_err-put_hits-clause-damage
 returns-in_err-put_hits-clause-damage g c =

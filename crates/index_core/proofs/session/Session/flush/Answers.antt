@@ -23,13 +23,13 @@ returns-clause-applies g c = applies_seen _ _ _ _ _ _ _ _ _ _ _ c.self.view_is
     (record {
       commit = refl;
       refused = refl;
-      leaf = c.flush.ensures.stays.leaf;
-      keeps = c.flush.ensures.kept;
-      follows = c.flush.ensures.follows;
-      brings = λ told. brings_written _ _ _ _ _ _ _ _ told c.flush.ensures.kept c.flush.ensures.follows (c.flush.ensures.canon told);
+      leaf = c.flush.ensures.moves.stays.leaf;
+      keeps = c.flush.ensures.moves.kept;
+      follows = c.flush.ensures.moves.follows;
+      brings = λ told. brings_written _ _ _ _ _ _ _ _ told c.flush.ensures.moves.kept c.flush.ensures.moves.follows (c.flush.ensures.moves.canon told);
       faithful = c.flush.ensures.faithful;
     })
-    (λ told i seen. does_done _ _ i i _ ok_text _ _ (c.flush.ensures.seen told i seen) c.in_ok-put_ok.ensures.ok)
+    (λ told i seen. does_done _ _ i i _ ok_text _ _ (c.flush.ensures.moves.seen told i seen) c.in_ok-put_ok.ensures.ok)
     c.in_ok-put_ok.ensures.ok c.in_ok-flush.ensures.cause)
 
 pub returns-in_err-flush-clause-applies : goal.returns-in_err-flush-clause-applies
@@ -40,14 +40,14 @@ returns-in_err-flush-clause-applies g c =
     (record {
       commit = refl;
       refused = refl;
-      leaf = c.flush.ensures.stays.leaf;
-      keeps = c.flush.ensures.kept;
-      follows = c.flush.ensures.follows;
-      brings = λ told. brings_written _ _ _ _ _ _ _ _ told c.flush.ensures.kept c.flush.ensures.follows (c.flush.ensures.canon told);
+      leaf = c.flush.ensures.moves.stays.leaf;
+      keeps = c.flush.ensures.moves.kept;
+      follows = c.flush.ensures.moves.follows;
+      brings = λ told. brings_written _ _ _ _ _ _ _ _ told c.flush.ensures.moves.kept c.flush.ensures.moves.follows (c.flush.ensures.moves.canon told);
       faithful = c.flush.ensures.faithful;
     })
-    c.leaf-leaf.ensures.well.named (p.1 ∙ ap (λ (e : PageFault). Err e) p.2) c.flush.ensures.seen (begins_itself _) c.in_err-flush.ensures.cause
-    c.in_err-flush.ensures.whole c.in_err-flush.ensures.evident)
+    c.leaf-leaf.ensures.well.named (p.1 ∙ ap (λ (e : PageFault). Err e) p.2) c.flush.ensures.moves.seen (begins_itself _) c.in_err-flush.ensures.cause
+    c.in_err-flush.ensures.damaged.whole c.in_err-flush.ensures.damaged.evident)
 
 pub returns-in_err-put_ok-clause-applies : goal.returns-in_err-put_ok-clause-applies
 returns-in_err-put_ok-clause-applies g c =
@@ -57,13 +57,13 @@ returns-in_err-put_ok-clause-applies g c =
     (record {
       commit = refl;
       refused = refl;
-      leaf = c.flush.ensures.stays.leaf;
-      keeps = c.flush.ensures.kept;
-      follows = c.flush.ensures.follows;
-      brings = λ told. brings_written _ _ _ _ _ _ _ _ told c.flush.ensures.kept c.flush.ensures.follows (c.flush.ensures.canon told);
+      leaf = c.flush.ensures.moves.stays.leaf;
+      keeps = c.flush.ensures.moves.kept;
+      follows = c.flush.ensures.moves.follows;
+      brings = λ told. brings_written _ _ _ _ _ _ _ _ told c.flush.ensures.moves.kept c.flush.ensures.moves.follows (c.flush.ensures.moves.canon told);
       faithful = c.flush.ensures.faithful;
     })
-    (p.1 ∙ ap (λ (e : PageFault). Err e) p.2) c.flush.ensures.seen c.in_err-put_ok.ensures.memory c.in_ok-flush.ensures.cause)
+    (p.1 ∙ ap (λ (e : PageFault). Err e) p.2) c.flush.ensures.moves.seen c.in_err-put_ok.ensures.memory c.in_ok-flush.ensures.cause)
 
 pub leaf-leaf-requires : goal.leaf-leaf-requires
 leaf-leaf-requires g c = set_fits g.row.D c.self.invariant.few
@@ -75,7 +75,7 @@ pub returns-clause-leaves : goal.returns-clause-leaves
 returns-clause-leaves g c =
     let done = c.in_ok-flush.ensures in
     subst (λ (s : SessionData). IsFlushed g.row.D (IsTrue g.F.Pages.told) (g.F.Pages.files c.flush.new.folder) s.set c.flush.new.self) c.self.view_is
-    (record { emptied = done.emptied; levels = done.levels; begun = done.begun; canon = done.canon })
+    (record { emptied = done.emptied; levels = done.levels; begun = done.moves.begun; canon = done.moves.canon })
 
 pub returns-in_err-flush-clause-damage : goal.returns-in_err-flush-clause-damage
 returns-in_err-flush-clause-damage g c =
@@ -84,7 +84,7 @@ returns-in_err-flush-clause-damage g c =
     ShowsMerge g.row.D (IsTrue g.F.Pages.told) (g.F.Pages.files c.args.folder.now) (g.F.Pages.files c.flush.new.folder) u.set c.from_residual.result)
     c.self.view_is
     (merge_to {T = Unit {0}} _ _ _ _ _ _ c.in_err-flush.field-0.0 (p.1 ∙ ap (λ (e : PageFault). Err e) p.2)
-    (record { shown = c.in_err-flush.ensures.shown; damage = c.in_err-flush.ensures.damage; doubled = c.in_err-flush.ensures.doubled }))
+    (record { shown = c.in_err-flush.ensures.damaged.shown; damage = c.in_err-flush.ensures.damaged.damage; doubled = c.in_err-flush.ensures.damaged.doubled }))
 
 pub returns-in_err-put_ok-clause-damage : goal.returns-in_err-put_ok-clause-damage
 returns-in_err-put_ok-clause-damage g c =

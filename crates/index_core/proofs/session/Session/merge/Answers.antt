@@ -22,13 +22,14 @@ returns-clause-applies g c = applies_seen _ _ _ _ _ _ _ _ _ _ _ c.self.view_is
     (record {
       commit = refl;
       refused = refl;
-      leaf = c.merge_all.ensures.stays.leaf;
-      keeps = c.merge_all.ensures.kept;
-      follows = c.merge_all.ensures.follows;
-      brings = λ told. brings_written _ _ _ _ _ _ _ _ told c.merge_all.ensures.kept c.merge_all.ensures.follows (c.merge_all.ensures.canon told);
+      leaf = c.merge_all.ensures.moves.stays.leaf;
+      keeps = c.merge_all.ensures.moves.kept;
+      follows = c.merge_all.ensures.moves.follows;
+      brings = λ told.
+          brings_written _ _ _ _ _ _ _ _ told c.merge_all.ensures.moves.kept c.merge_all.ensures.moves.follows (c.merge_all.ensures.moves.canon told);
       faithful = c.merge_all.ensures.faithful;
     })
-    (λ told i seen. does_done _ _ i i _ ok_text _ _ (c.merge_all.ensures.seen told i seen) c.in_ok-put_ok.ensures.ok)
+    (λ told i seen. does_done _ _ i i _ ok_text _ _ (c.merge_all.ensures.moves.seen told i seen) c.in_ok-put_ok.ensures.ok)
     c.in_ok-put_ok.ensures.ok c.in_ok-merge_all.ensures.cause)
 
 pub returns-in_err-merge_all-clause-applies : goal.returns-in_err-merge_all-clause-applies
@@ -39,14 +40,15 @@ returns-in_err-merge_all-clause-applies g c =
     (record {
       commit = refl;
       refused = refl;
-      leaf = c.merge_all.ensures.stays.leaf;
-      keeps = c.merge_all.ensures.kept;
-      follows = c.merge_all.ensures.follows;
-      brings = λ told. brings_written _ _ _ _ _ _ _ _ told c.merge_all.ensures.kept c.merge_all.ensures.follows (c.merge_all.ensures.canon told);
+      leaf = c.merge_all.ensures.moves.stays.leaf;
+      keeps = c.merge_all.ensures.moves.kept;
+      follows = c.merge_all.ensures.moves.follows;
+      brings = λ told.
+          brings_written _ _ _ _ _ _ _ _ told c.merge_all.ensures.moves.kept c.merge_all.ensures.moves.follows (c.merge_all.ensures.moves.canon told);
       faithful = c.merge_all.ensures.faithful;
     })
-    c.leaf-leaf.ensures.well.named (p.1 ∙ ap (λ (e : PageFault). Err e) p.2) c.merge_all.ensures.seen (begins_itself _) c.in_err-merge_all.ensures.cause
-    c.in_err-merge_all.ensures.whole c.in_err-merge_all.ensures.evident)
+    c.leaf-leaf.ensures.well.named (p.1 ∙ ap (λ (e : PageFault). Err e) p.2) c.merge_all.ensures.moves.seen (begins_itself _) c.in_err-merge_all.ensures.cause
+    c.in_err-merge_all.ensures.damaged.whole c.in_err-merge_all.ensures.damaged.evident)
 
 pub returns-in_err-put_ok-clause-applies : goal.returns-in_err-put_ok-clause-applies
 returns-in_err-put_ok-clause-applies g c =
@@ -56,13 +58,14 @@ returns-in_err-put_ok-clause-applies g c =
     (record {
       commit = refl;
       refused = refl;
-      leaf = c.merge_all.ensures.stays.leaf;
-      keeps = c.merge_all.ensures.kept;
-      follows = c.merge_all.ensures.follows;
-      brings = λ told. brings_written _ _ _ _ _ _ _ _ told c.merge_all.ensures.kept c.merge_all.ensures.follows (c.merge_all.ensures.canon told);
+      leaf = c.merge_all.ensures.moves.stays.leaf;
+      keeps = c.merge_all.ensures.moves.kept;
+      follows = c.merge_all.ensures.moves.follows;
+      brings = λ told.
+          brings_written _ _ _ _ _ _ _ _ told c.merge_all.ensures.moves.kept c.merge_all.ensures.moves.follows (c.merge_all.ensures.moves.canon told);
       faithful = c.merge_all.ensures.faithful;
     })
-    (p.1 ∙ ap (λ (e : PageFault). Err e) p.2) c.merge_all.ensures.seen c.in_err-put_ok.ensures.memory c.in_ok-merge_all.ensures.cause)
+    (p.1 ∙ ap (λ (e : PageFault). Err e) p.2) c.merge_all.ensures.moves.seen c.in_err-put_ok.ensures.memory c.in_ok-merge_all.ensures.cause)
 
 pub leaf-leaf-requires : goal.leaf-leaf-requires
 leaf-leaf-requires g c = set_fits g.row.D c.self.invariant.few
@@ -78,12 +81,12 @@ returns-clause-leaves g c =
     c.self.view_is
     (record {
       buffer = done.buffer;
-      begun = done.begun;
+      begun = done.moves.begun;
       one = done.one;
       all_live = done.all_live;
       still = λ tidy. (done.still tidy).0;
       merged = done.merged;
-      canon = done.canon;
+      canon = done.moves.canon;
     })
 
 pub returns-in_err-merge_all-clause-damage : goal.returns-in_err-merge_all-clause-damage
@@ -93,7 +96,11 @@ returns-in_err-merge_all-clause-damage g c =
     ShowsMerge g.row.D (IsTrue g.F.Pages.told) (g.F.Pages.files c.args.folder.now) (g.F.Pages.files c.merge_all.new.folder) u.set c.from_residual.result)
     c.self.view_is
     (merge_to {T = Unit {0}} _ _ _ _ _ _ c.in_err-merge_all.field-0.0 (p.1 ∙ ap (λ (e : PageFault). Err e) p.2)
-    (record { shown = c.in_err-merge_all.ensures.shown; damage = c.in_err-merge_all.ensures.damage; doubled = c.in_err-merge_all.ensures.doubled }))
+    (record {
+      shown = c.in_err-merge_all.ensures.damaged.shown;
+      damage = c.in_err-merge_all.ensures.damaged.damage;
+      doubled = c.in_err-merge_all.ensures.damaged.doubled;
+    }))
 
 pub returns-in_err-put_ok-clause-damage : goal.returns-in_err-put_ok-clause-damage
 returns-in_err-put_ok-clause-damage g c =

@@ -52,8 +52,8 @@ returns-clause-applies g c =
     (c.merge_begin.ensures.seen told i seen) (c.merge_begin.ensures.refused told i seen) c.in_ok-put_ok.ensures.ok)
     (begins_with _ _ _ c.in_ok-put_ok.ensures.ok)
     (cause_begin _ _ c.merge_begin.result (λ e. both_ways (is_some c.self.inside.set.begun) none (c.merge_begin.ensures.begun.0 e)) c.merge_begin.ensures.cause)
-    (λ told i seen. whole_begin c.merge_begin.result (c.merge_begin.ensures.whole told i seen))
-    (begin_shows _ c.merge_begin.result c.merge_begin.ensures.evident)))
+    (λ told i seen. whole_begin c.merge_begin.result (c.merge_begin.ensures.damaged.whole told i seen))
+    (begin_shows _ c.merge_begin.result c.merge_begin.ensures.damaged.evident)))
 
 pub is_merging-requires : goal.is_merging-requires
 is_merging-requires g c = set_fits g.row.D c.self.invariant.few
@@ -83,9 +83,9 @@ returns-clause-damage g c =
     ShowsMerge g.row.D (IsTrue g.F.Pages.told) (g.F.Pages.files c.args.folder.now) (g.F.Pages.files c.merge_begin.new.folder) u.set
     (begin_answer c.merge_begin.result)) c.self.view_is
     (record {
-      shown = begin_shows _ c.merge_begin.result c.merge_begin.ensures.shown;
-      damage = λ told agrees. begin_shows _ c.merge_begin.result (c.merge_begin.ensures.damage told agrees);
-      doubled = λ told agrees contents read. begin_shows _ c.merge_begin.result (c.merge_begin.ensures.doubled told agrees contents read);
+      shown = begin_shows _ c.merge_begin.result c.merge_begin.ensures.damaged.shown;
+      damage = λ told agrees. begin_shows _ c.merge_begin.result (c.merge_begin.ensures.damaged.damage told agrees);
+      doubled = λ told agrees contents read. begin_shows _ c.merge_begin.result (c.merge_begin.ensures.damaged.doubled told agrees contents read);
     }))
 
 pub returns-then-is_merging-clause-still : goal.returns-then-is_merging-clause-still

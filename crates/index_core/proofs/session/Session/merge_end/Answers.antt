@@ -40,10 +40,11 @@ returns-clause-applies g c =
       commit = refl;
       refused = refl;
       leaf = c.merge_end.ensures.stays.leaf;
-      keeps = c.merge_end.ensures.kept;
-      follows = c.merge_end.ensures.follows;
-      brings = λ told. brings_written _ _ _ _ _ _ _ _ told c.merge_end.ensures.kept c.merge_end.ensures.follows (c.merge_end.ensures.canon told);
-      faithful = c.merge_end.ensures.faithful;
+      keeps = c.merge_end.ensures.rewrites.kept;
+      follows = c.merge_end.ensures.rewrites.follows;
+      brings = λ told.
+          brings_written _ _ _ _ _ _ _ _ told c.merge_end.ensures.rewrites.kept c.merge_end.ensures.rewrites.follows (c.merge_end.ensures.rewrites.canon told);
+      faithful = c.merge_end.ensures.rewrites.faithful;
     })
     (λ told i seen.
     does_end _ _ _ _ _ i c.merge_end.result _ _ seen some (λ e. both_ways (is_some c.self.inside.set.begun) (c.merge_end.ensures.not_begun.0 e) some)
@@ -67,7 +68,7 @@ returns-clause-leaves g c =
     (subst (λ (s : SessionData). OnDone (end_answer c.merge_end.result) (HasEnded g.row.D (IsTrue g.F.Pages.told) files s.set c.merge_end.new.self))
     c.self.view_is
     (end_leaves g.row.D (IsTrue g.F.Pages.told) files c.self.inside.set c.merge_end.new.self c.merge_end.result c.leaf-leaf.ensures.well
-    done.ended done.parts done.replaced done.kept.more done.buffer done.canon))
+    done.ends.ended done.ends.parts done.ends.replaced done.rewrites.kept.more done.buffer done.rewrites.canon))
 
 pub leaf-leaf-requires : goal.leaf-leaf-requires
 leaf-leaf-requires g c = set_fits g.row.D c.self.invariant.few

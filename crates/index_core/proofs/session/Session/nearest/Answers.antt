@@ -50,8 +50,8 @@ returns-in_err-found-clause-applies g c =
     applies_seen _ _ _ _ _ _ _ _ _ _ _ c.self.view_is
     (applies_fault _ _ _ _ _ _ c.in_err-found.field-0.0
     (calm_cache _ _ _ _ _ _ _ _ _ _ _ _ c.nearest.ensures.alone c.nearest.ensures.files c.nearest.ensures.faithful)
-    (p.1 ∙ ap (λ (e : PageFault). Err e) p.2) c.nearest.ensures.seen (begins_itself _) c.in_err-found.ensures.cause c.in_err-found.ensures.whole
-    c.in_err-found.ensures.evident)
+    (p.1 ∙ ap (λ (e : PageFault). Err e) p.2) c.nearest.ensures.seen (begins_itself _) c.in_err-found.ensures.cause c.in_err-found.ensures.damaged.whole
+    c.in_err-found.ensures.damaged.evident)
 
 pub returns-in_err-put_near-clause-applies : goal.returns-in_err-put_near-clause-applies
 returns-in_err-put_near-clause-applies g c =
@@ -106,7 +106,7 @@ returns-in_err-found-clause-damage g c =
     ShowsLeaf g.row.D (IsTrue g.F.Pages.told) (g.F.Pages.files c.args.folder.now) u.set (viewed_parts (view_name c.args.view.now) u.set) c.from_residual.result)
     c.self.view_is
     (leaf_to {T = Unit {0}} _ _ _ _ _ _ c.in_err-found.field-0.0 (p.1 ∙ ap (λ (e : PageFault). Err e) p.2)
-    (record { shown = c.in_err-found.ensures.shown; damage = c.in_err-found.ensures.damage }))
+    (record { shown = c.in_err-found.ensures.damaged.shown; damage = c.in_err-found.ensures.damaged.damage }))
 
 pub returns-in_err-put_near-clause-damage : goal.returns-in_err-put_near-clause-damage
 returns-in_err-put_near-clause-damage g c =

@@ -26,10 +26,10 @@ returns-clause-parts g c = ap (λ (u : SetData). u.parts) c.nearest.ensures.alon
 
 pub returns-clause-whole : goal.returns-clause-whole
 returns-clause-whole g c told i seen =
-    c.nearest.ensures.whole told i (subst (λ (u : SessionData). Sees g.row.D (g.F.Pages.files c.args.folder.now) u.set i) (sym c.self.view_is) seen)
+    c.nearest.ensures.damaged.whole told i (subst (λ (u : SessionData). Sees g.row.D (g.F.Pages.files c.args.folder.now) u.set i) (sym c.self.view_is) seen)
 
 pub returns-clause-faithful : goal.returns-clause-faithful
 returns-clause-faithful g c told = faithful_seen g.row.D _ _ _ _ _ c.self.view_is (c.nearest.ensures.faithful told)
 
 pub returns-clause-evident : goal.returns-clause-evident
-returns-clause-evident g c = evident_seen g.row.D _ _ _ _ _ _ c.self.view_is c.nearest.ensures.evident
+returns-clause-evident g c = evident_seen g.row.D _ _ _ _ _ _ c.self.view_is c.nearest.ensures.damaged.evident

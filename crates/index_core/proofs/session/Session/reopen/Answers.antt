@@ -1,5 +1,5 @@
 -- What is stored is attached anew.
-use Rattle.std.proofs.Common.{◌≡◌, Err, Some, refl, sym, ap, subst, ◌∙◌, ◌⊎◌, inr}
+use Rattle.std.proofs.Common.{◌≡◌, Err, Some, is_some, refl, sym, ap, subst, ◌∙◌, ◌⊎◌, inr}
 use Rattle.std.proofs.lemmas.Result.{err_from_is_err_and}
 use Rattle.page_cache.specs.declared.faults.PageFault.{PageFault}
 use Rattle.outer_io.specs.Files.{Files}
@@ -37,7 +37,8 @@ use Rattle.index_core.proofs.session.Session.reopen.Given as given
 use Rattle.index_core.proofs.session.Session.reopen.Goals as goal
 
 pub attach_anew-requires : goal.attach_anew-requires
-attach_anew-requires g c = (session_fits g.row.D c.self.invariant.few, (set_fits g.row.D c.self.invariant.few, c.in_ok-commit.ensures.committed.0))
+attach_anew-requires g c =
+    (session_fits g.row.D c.self.invariant.few, (set_fits g.row.D c.self.invariant.few, ap is_some c.in_ok-commit.ensures.done.unchanged.is))
 
 pub returns-in_err-commit-clause-applies : goal.returns-in_err-commit-clause-applies
 returns-in_err-commit-clause-applies g c =
@@ -45,20 +46,24 @@ returns-in_err-commit-clause-applies g c =
     applies_is _ _ _ _ _ _ _ _ (p.1 ∙ ap (λ (e : PageFault). Err e) p.2) (record {
       does = λ told i seen guards. does_fault _ _ _ i _ _ _ _ (c.commit.ensures.seen told i seen);
       begins = begins_itself _;
-      guards = c.commit.ensures.guards;
-      kept = c.in_err-commit.ensures.kept;
-      stored = λ told i seen guards e. c.in_err-commit.ensures.stored told i seen guards;
-      cause = fault_to _ _ c.in_err-commit.field-0.0 c.in_err-commit.ensures.cause;
-      whole = λ told i seen guards. c.in_err-commit.ensures.whole told i seen;
-      faithful = c.commit.ensures.faithful;
-      traced = c.commit.ensures.traced;
-      lasting = c.commit.ensures.lasting;
-      evident = c.in_err-commit.ensures.evident;
-      idle = λ told e unchanged. (c.commit.ensures.idle unchanged).2;
-      unchanged = λ e. tt;
-      anew = λ e changed. tt;
-      levels = λ e changed none. tt;
+      stays = c.commit.ensures.stays;
+      keeps = record {
+        kept = c.in_err-commit.ensures.durable.kept;
+        stored = λ told i seen guards e. c.in_err-commit.ensures.durable.stored told i seen guards;
+        lasting = c.commit.ensures.durable.lasting;
+      };
+      commits = λ e. record {
+        idle = λ told unchanged. (c.commit.ensures.idle unchanged).2;
+        unchanged = tt;
+        anew = λ changed. tt;
+        levels = λ changed none. tt;
+      };
       canon = λ told i seen guards. c.commit.ensures.canon told;
+      faults = record {
+        cause = fault_to _ _ c.in_err-commit.field-0.0 c.in_err-commit.ensures.faults.cause;
+        whole = λ told i seen guards. c.in_err-commit.ensures.faults.whole told i seen;
+        evident = c.in_err-commit.ensures.faults.evident;
+      };
     })
 
 pub returns-in_err-set-clause-applies : goal.returns-in_err-set-clause-applies
@@ -69,34 +74,44 @@ returns-in_err-set-clause-applies g c =
           does_fault _ _ _ i
           _ _ _ _ (subst (λ (f : Files). Sees g.row.D f c.commit.new.self.set i) (sym (c.attach_anew.ensures.files told)) (c.commit.ensures.seen told i seen));
       begins = begins_itself _;
-      guards = λ told guards.
-          subst (λ (f : Files). Guards g.row.D f c.commit.new.self) (sym (c.attach_anew.ensures.files told)) (c.commit.ensures.guards told guards);
-      kept = λ told guards. subst (λ (f : Files). SameKept (g.F.Pages.files c.args.folder.now) f ⊎ SaysCommit f c.commit.new.self.set.saved)
-          (sym (c.attach_anew.ensures.files told)) (c.commit.ensures.flight told guards);
-      stored = λ told i seen guards e.
-          inr (subst (λ (f : Files). IsStored f (Some (at_rest i))) (sym (c.attach_anew.ensures.files told))
-          (c.in_ok-commit.ensures.stored told i seen guards).0);
-      cause = fault_to _ _ c.in_err-set.field-0.0 (cause_then _ _ _ _ c.in_ok-commit.ensures.cause.fine c.in_err-set.ensures.cause);
-      whole = λ told i seen owed.
-          let guards = owed refl in
-          c.in_err-set.ensures.whole told c.in_ok-commit.ensures.committed.1 (c.commit.ensures.guards told guards) (Some (at_rest i))
-          (c.in_ok-commit.ensures.stored told i seen guards).0;
-      faithful = λ told faithful.
-          subst (λ (f : Files). IsFaithful g.row.D f c.commit.new.self.set) (sym (c.attach_anew.ensures.files told)) (c.commit.ensures.faithful told faithful);
-      traced = λ told trusts.
-          subst (λ (f : Files). AreTraced g.row.D f c.commit.new.self.set.parts) (sym (c.attach_anew.ensures.files told)) (c.commit.ensures.traced told trusts);
-      lasting = λ told trusts.
-          subst (KeepsCommit (g.F.Pages.files c.args.folder.now)) (sym (c.attach_anew.ensures.files told)) (c.commit.ensures.lasting told trusts);
-      evident = on_evident_at {X = Unit {0}} IsTwice _ _ _ _ (Err c.in_err-set.field-0.0)
-          (λ (told, trusts). (told, c.in_ok-commit.ensures.committed.1, c.commit.ensures.guards told trusts.guards))
-          (λ (told, trusts). c.attach_anew.ensures.files told) c.in_err-set.ensures.evident;
-      idle = λ told e unchanged. c.attach_anew.ensures.files told ∙ (c.commit.ensures.idle unchanged).2;
-      unchanged = λ e. tt;
-      anew = λ e changed. tt;
-      levels = λ e changed none. tt;
+      stays = record {
+        guards = λ told guards.
+            subst (λ (f : Files). Guards g.row.D f c.commit.new.self) (sym (c.attach_anew.ensures.files told)) (c.commit.ensures.stays.guards told guards);
+        faithful = λ told faithful.
+            subst (λ (f : Files). IsFaithful g.row.D f c.commit.new.self.set) (sym (c.attach_anew.ensures.files told))
+            (c.commit.ensures.stays.faithful told faithful);
+        traced = λ told trusts.
+            subst (λ (f : Files). AreTraced g.row.D f c.commit.new.self.set.parts) (sym (c.attach_anew.ensures.files told))
+            (c.commit.ensures.stays.traced told trusts);
+      };
+      keeps = record {
+        kept = λ told guards. subst (λ (f : Files). SameKept (g.F.Pages.files c.args.folder.now) f ⊎ SaysCommit f c.commit.new.self.set.saved)
+            (sym (c.attach_anew.ensures.files told)) (c.commit.ensures.flight told guards);
+        stored = λ told i seen guards e.
+            inr (subst (λ (f : Files). IsStored f (Some (at_rest i))) (sym (c.attach_anew.ensures.files told))
+            (c.in_ok-commit.ensures.durable.stored told i seen guards).0);
+        lasting = λ told trusts.
+            subst (KeepsCommit (g.F.Pages.files c.args.folder.now)) (sym (c.attach_anew.ensures.files told)) (c.commit.ensures.durable.lasting told trusts);
+      };
+      commits = λ e. record {
+        idle = λ told unchanged. c.attach_anew.ensures.files told ∙ (c.commit.ensures.idle unchanged).2;
+        unchanged = tt;
+        anew = λ changed. tt;
+        levels = λ changed none. tt;
+      };
       canon = λ told i seen guards.
           subst (λ (f : Files). BringsCanonical g.row.D (g.F.Pages.files c.args.folder.now) f c.args.self.now.set.parts c.commit.new.self.set.parts)
           (sym (c.attach_anew.ensures.files told)) (c.commit.ensures.canon told);
+      faults = record {
+        cause = fault_to _ _ c.in_err-set.field-0.0 (cause_then _ _ _ _ c.in_ok-commit.ensures.faults.cause.fine c.in_err-set.ensures.cause);
+        whole = λ told i seen owed.
+            let guards = owed refl in
+            c.in_err-set.ensures.whole told c.in_ok-commit.ensures.done.unchanged.done (c.commit.ensures.stays.guards told guards) (Some (at_rest i))
+            (c.in_ok-commit.ensures.durable.stored told i seen guards).0;
+        evident = on_evident_at {X = Unit {0}} IsTwice _ _ _ _ (Err c.in_err-set.field-0.0)
+            (λ (told, trusts). (told, c.in_ok-commit.ensures.done.unchanged.done, c.commit.ensures.stays.guards told trusts.guards))
+            (λ (told, trusts). c.attach_anew.ensures.files told) c.in_err-set.ensures.evident;
+      };
     })
 
 pub returns-in_err-put_ok-clause-applies : goal.returns-in_err-put_ok-clause-applies
@@ -107,29 +122,39 @@ returns-in_err-put_ok-clause-applies g c =
           does_fault _ _ _ i
           _ _ _ _ (subst (λ (f : Files). Sees g.row.D f c.commit.new.self.set i) (sym (c.attach_anew.ensures.files told)) (c.commit.ensures.seen told i seen));
       begins = begins_same _ _ c.in_err-put_ok.ensures.memory;
-      guards = λ told guards.
-          subst (λ (f : Files). Guards g.row.D f c.commit.new.self) (sym (c.attach_anew.ensures.files told)) (c.commit.ensures.guards told guards);
-      kept = λ told guards. subst (λ (f : Files). SameKept (g.F.Pages.files c.args.folder.now) f ⊎ SaysCommit f c.commit.new.self.set.saved)
-          (sym (c.attach_anew.ensures.files told)) (c.commit.ensures.flight told guards);
-      stored = λ told i seen guards e.
-          inr (subst (λ (f : Files). IsStored f (Some (at_rest i))) (sym (c.attach_anew.ensures.files told))
-          (c.in_ok-commit.ensures.stored told i seen guards).0);
-      cause = memory_cause _ _ (cause_then _ _ _ _ c.in_ok-commit.ensures.cause.fine c.attach_anew.ensures.cause).later;
-      whole = λ told i seen guards. tt;
-      faithful = λ told faithful.
-          subst (λ (f : Files). IsFaithful g.row.D f c.commit.new.self.set) (sym (c.attach_anew.ensures.files told)) (c.commit.ensures.faithful told faithful);
-      traced = λ told trusts.
-          subst (λ (f : Files). AreTraced g.row.D f c.commit.new.self.set.parts) (sym (c.attach_anew.ensures.files told)) (c.commit.ensures.traced told trusts);
-      lasting = λ told trusts.
-          subst (KeepsCommit (g.F.Pages.files c.args.folder.now)) (sym (c.attach_anew.ensures.files told)) (c.commit.ensures.lasting told trusts);
-      evident = tt;
-      idle = λ told e unchanged. c.attach_anew.ensures.files told ∙ (c.commit.ensures.idle unchanged).2;
-      unchanged = λ e. tt;
-      anew = λ e changed. tt;
-      levels = λ e changed none. tt;
+      stays = record {
+        guards = λ told guards.
+            subst (λ (f : Files). Guards g.row.D f c.commit.new.self) (sym (c.attach_anew.ensures.files told)) (c.commit.ensures.stays.guards told guards);
+        faithful = λ told faithful.
+            subst (λ (f : Files). IsFaithful g.row.D f c.commit.new.self.set) (sym (c.attach_anew.ensures.files told))
+            (c.commit.ensures.stays.faithful told faithful);
+        traced = λ told trusts.
+            subst (λ (f : Files). AreTraced g.row.D f c.commit.new.self.set.parts) (sym (c.attach_anew.ensures.files told))
+            (c.commit.ensures.stays.traced told trusts);
+      };
+      keeps = record {
+        kept = λ told guards. subst (λ (f : Files). SameKept (g.F.Pages.files c.args.folder.now) f ⊎ SaysCommit f c.commit.new.self.set.saved)
+            (sym (c.attach_anew.ensures.files told)) (c.commit.ensures.flight told guards);
+        stored = λ told i seen guards e.
+            inr (subst (λ (f : Files). IsStored f (Some (at_rest i))) (sym (c.attach_anew.ensures.files told))
+            (c.in_ok-commit.ensures.durable.stored told i seen guards).0);
+        lasting = λ told trusts.
+            subst (KeepsCommit (g.F.Pages.files c.args.folder.now)) (sym (c.attach_anew.ensures.files told)) (c.commit.ensures.durable.lasting told trusts);
+      };
+      commits = λ e. record {
+        idle = λ told unchanged. c.attach_anew.ensures.files told ∙ (c.commit.ensures.idle unchanged).2;
+        unchanged = tt;
+        anew = λ changed. tt;
+        levels = λ changed none. tt;
+      };
       canon = λ told i seen guards.
           subst (λ (f : Files). BringsCanonical g.row.D (g.F.Pages.files c.args.folder.now) f c.args.self.now.set.parts c.commit.new.self.set.parts)
           (sym (c.attach_anew.ensures.files told)) (c.commit.ensures.canon told);
+      faults = record {
+        cause = memory_cause _ _ (cause_then _ _ _ _ c.in_ok-commit.ensures.faults.cause.fine c.attach_anew.ensures.cause).later;
+        whole = λ told i seen guards. tt;
+        evident = tt;
+      };
     })
 
 -- the set that took the place of the one of before
@@ -142,7 +167,7 @@ leaf-leaf-requires g c = set_fits g.row.D c.self.invariant.few
 pub renew-requires : goal.renew-requires
 renew-requires g c = (
   set_fits g.row.D c.self.invariant.few,
-  (let last = c.in_ok-commit.ensures.unchanged in
+  (let last = c.in_ok-commit.ensures.done.unchanged in
       renew_named _ c.in_ok-set.set last.commit c.leaf-leaf.ensures.well.named
       (subst (λ (u : SessionData). IsAsCommitted u.set last.commit) (sym c.self.view_is) last.same) (c.in_ok-set.ensures.names last.commit last.is)),
 )
@@ -152,58 +177,69 @@ unfolding step_on
 returns-clause-applies g c = record {
   does = λ told i seen owed. let guards = owed refl in does_done _ _ i (at_rest i) _ ok_text _ _
       (subst (λ (f : Files). Sees g.row.D f c.renew.new.self (at_rest i)) (sym (c.attach_anew.ensures.files told))
-      (c.renew.ensures.seen _ _ (c.in_ok-set.ensures.seen told c.in_ok-commit.ensures.committed.1 (c.commit.ensures.guards told guards) (at_rest i)
-      (c.in_ok-commit.ensures.stored told i seen guards).0)))
+      (c.renew.ensures.seen
+      _ _ (c.in_ok-set.ensures.seen told c.in_ok-commit.ensures.done.unchanged.done (c.commit.ensures.stays.guards told guards) (at_rest i)
+      (c.in_ok-commit.ensures.durable.stored told i seen guards).0)))
       c.in_ok-put_ok.ensures.ok;
   begins = begins_with _ _ _ c.in_ok-put_ok.ensures.ok;
-  guards = λ told guards. subst (λ (f : Files). Guards g.row.D f
-      (record { set = c.renew.new.self; commit = c.self.inside.commit; refused = c.self.inside.refused })) (sym (c.attach_anew.ensures.files told))
-      (subst (λ (u : SessionData). Guards g.row.D (g.F.Pages.files c.commit.new.folder) (record u { set = c.renew.new.self })) (sym c.self.view_is)
-      (subst (λ (t : SetData). Guards g.row.D (g.F.Pages.files c.commit.new.folder) (record c.commit.new.self { set = t })) (sym (kept g c))
-      (guards_renamed _ _ c.commit.new.self c.in_ok-set.set (c.commit.ensures.guards told guards)
-      (c.in_ok-set.ensures.guards told c.in_ok-commit.ensures.committed.1 (c.commit.ensures.guards told guards)))));
-  kept = λ told guards. subst (λ (u : SessionData). SaysCommit (g.F.Pages.files c.attach_anew.new.folder) u.commit) (sym c.self.view_is)
-      (subst (λ (f : Files). SaysCommit f c.commit.new.self.commit) (sym (c.attach_anew.ensures.files told)) (c.in_ok-commit.ensures.kept told guards));
-  stored = λ told i seen guards e. (
-    subst (λ (f : Files). IsStored f (Some (at_rest i))) (sym (c.attach_anew.ensures.files told))
-        (c.in_ok-commit.ensures.stored told i seen guards).0,
-    ap (λ (u : SetData). u.buffer) (kept g c) ∙ c.in_ok-set.ensures.emptied,
-  );
-  cause = done_cause _ _ c.in_ok-set.set applied.Done (cause_then _ _ _ _ c.in_ok-commit.ensures.cause.fine c.in_ok-set.ensures.cause);
-  whole = λ told i seen guards. tt;
-  faithful = λ told faithful. subst (λ (f : Files). IsFaithful g.row.D f c.renew.new.self) (sym (c.attach_anew.ensures.files told))
-      (c.renew.ensures.faithful _ (c.in_ok-set.ensures.faithful told));
-  traced = λ told trusts. subst (λ (f : Files). AreTraced g.row.D f c.renew.new.self.parts) (sym (c.attach_anew.ensures.files told))
-      (subst (λ (u : SetData). AreTraced g.row.D (g.F.Pages.files c.commit.new.folder) u.parts) (sym (kept g c))
-      (c.in_ok-set.ensures.traced told c.in_ok-commit.ensures.committed.1 (c.commit.ensures.guards told trusts.guards)));
-  lasting = λ told trusts.
-      subst (KeepsCommit (g.F.Pages.files c.args.folder.now)) (sym (c.attach_anew.ensures.files told)) (c.commit.ensures.lasting told trusts);
-  evident = tt;
-  idle = λ told e unchanged. c.attach_anew.ensures.files told ∙ (c.commit.ensures.idle unchanged).2;
-  unchanged = λ e. let last = c.in_ok-commit.ensures.unchanged in let same = kept g c in
-      subst (λ (u : SessionData). IsUnchanged (record u { set = c.renew.new.self })) (sym c.self.view_is)
-      (record {
-        commit = last.commit;
-        is = last.is;
-        done = last.done;
-        same = as_same c.in_ok-set.set c.renew.new.self last.commit (ap (λ (u : SetData). u.next) same) (ap (λ (u : SetData). u.given) same)
-            (ap (λ (u : SetData). u.parts) same)
-            (ap (λ (u : SetData). u.buffer) same) (c.in_ok-set.ensures.unchanged last.commit last.is);
-      });
-  anew = λ e changed. let written = c.in_ok-commit.ensures.anew changed in
-      subst (λ (u : SessionData). IsCommitAnew c.args.self.now.set.names (record u { set = c.renew.new.self })) (sym c.self.view_is)
-      (record { commit = written.commit; is = written.is; fresh = written.fresh });
-  levels = λ e changed none. subst (λ (u : SessionData). CommitsFewOfLevels u.commit) (sym c.self.view_is) (c.in_ok-commit.ensures.levels changed none);
-  canon = λ told i seen guards. let last = c.in_ok-commit.ensures.unchanged in
+  stays = record {
+    guards = λ told guards. subst (λ (f : Files). Guards g.row.D f
+        (record { set = c.renew.new.self; commit = c.self.inside.commit; refused = c.self.inside.refused })) (sym (c.attach_anew.ensures.files told))
+        (subst (λ (u : SessionData). Guards g.row.D (g.F.Pages.files c.commit.new.folder) (record u { set = c.renew.new.self })) (sym c.self.view_is)
+        (subst (λ (t : SetData). Guards g.row.D (g.F.Pages.files c.commit.new.folder) (record c.commit.new.self { set = t })) (sym (kept g c))
+        (guards_renamed _ _ c.commit.new.self c.in_ok-set.set (c.commit.ensures.stays.guards told guards)
+        (c.in_ok-set.ensures.guards told c.in_ok-commit.ensures.done.unchanged.done (c.commit.ensures.stays.guards told guards)))));
+    faithful = λ told faithful. subst (λ (f : Files). IsFaithful g.row.D f c.renew.new.self) (sym (c.attach_anew.ensures.files told))
+        (c.renew.ensures.faithful _ (c.in_ok-set.ensures.faithful told));
+    traced = λ told trusts. subst (λ (f : Files). AreTraced g.row.D f c.renew.new.self.parts) (sym (c.attach_anew.ensures.files told))
+        (subst (λ (u : SetData). AreTraced g.row.D (g.F.Pages.files c.commit.new.folder) u.parts) (sym (kept g c))
+        (c.in_ok-set.ensures.traced told c.in_ok-commit.ensures.done.unchanged.done (c.commit.ensures.stays.guards told trusts.guards)));
+  };
+  keeps = record {
+    kept = λ told guards. subst (λ (u : SessionData). SaysCommit (g.F.Pages.files c.attach_anew.new.folder) u.commit) (sym c.self.view_is)
+        (subst (λ (f : Files). SaysCommit f c.commit.new.self.commit) (sym (c.attach_anew.ensures.files told))
+        (c.in_ok-commit.ensures.durable.kept told guards));
+    stored = λ told i seen guards e. (
+      subst (λ (f : Files). IsStored f (Some (at_rest i))) (sym (c.attach_anew.ensures.files told))
+          (c.in_ok-commit.ensures.durable.stored told i seen guards).0,
+      ap (λ (u : SetData). u.buffer) (kept g c) ∙ (c.in_ok-set.ensures.unchanged c.in_ok-commit.ensures.done.unchanged.commit
+          c.in_ok-commit.ensures.done.unchanged.is).empty,
+    );
+    lasting = λ told trusts.
+        subst (KeepsCommit (g.F.Pages.files c.args.folder.now)) (sym (c.attach_anew.ensures.files told)) (c.commit.ensures.durable.lasting told trusts);
+  };
+  commits = λ e. record {
+    idle = λ told unchanged. c.attach_anew.ensures.files told ∙ (c.commit.ensures.idle unchanged).2;
+    unchanged = let last = c.in_ok-commit.ensures.done.unchanged in let same = kept g c in
+        subst (λ (u : SessionData). IsUnchanged (record u { set = c.renew.new.self })) (sym c.self.view_is)
+        (record {
+          commit = last.commit;
+          is = last.is;
+          done = last.done;
+          same = as_same c.in_ok-set.set c.renew.new.self last.commit (ap (λ (u : SetData). u.next) same) (ap (λ (u : SetData). u.given) same)
+              (ap (λ (u : SetData). u.parts) same)
+              (ap (λ (u : SetData). u.buffer) same) (c.in_ok-set.ensures.unchanged last.commit last.is);
+        });
+    anew = λ changed. let written = c.in_ok-commit.ensures.done.anew changed in
+        subst (λ (u : SessionData). IsCommitAnew c.args.self.now.set.names (record u { set = c.renew.new.self })) (sym c.self.view_is)
+        (record { commit = written.commit; is = written.is; fresh = written.fresh });
+    levels = λ changed none. subst (λ (u : SessionData). CommitsFewOfLevels u.commit) (sym c.self.view_is) (c.in_ok-commit.ensures.done.levels changed none);
+  };
+  canon = λ told i seen guards. let last = c.in_ok-commit.ensures.done.unchanged in
       subst (λ (f : Files). BringsCanonical g.row.D (g.F.Pages.files c.args.folder.now) f c.args.self.now.set.parts c.renew.new.self.parts)
       (sym (c.attach_anew.ensures.files told))
       (subst (λ (u : SetData). BringsCanonical g.row.D (g.F.Pages.files c.args.folder.now) (g.F.Pages.files c.commit.new.folder)
       c.args.self.now.set.parts u.parts) (sym (kept g c))
       (brings_then _ _ _ _ _ c.commit.new.self.set.parts _ (c.commit.ensures.canon told)
       (brings_anew _ _ c.commit.new.self.set c.in_ok-set.set i (at_rest i) (c.commit.ensures.seen told i seen)
-      (c.in_ok-set.ensures.seen told c.in_ok-commit.ensures.committed.1 (c.commit.ensures.guards told guards) (at_rest i)
-      (c.in_ok-commit.ensures.stored told i seen guards).0)
+      (c.in_ok-set.ensures.seen told c.in_ok-commit.ensures.done.unchanged.done (c.commit.ensures.stays.guards told guards) (at_rest i)
+      (c.in_ok-commit.ensures.durable.stored told i seen guards).0)
       ((c.in_ok-set.ensures.unchanged last.commit last.is).ids ∙ sym last.same.ids))));
+  faults = record {
+    cause = done_cause _ _ c.in_ok-set.set applied.Done (cause_then _ _ _ _ c.in_ok-commit.ensures.faults.cause.fine c.in_ok-set.ensures.cause);
+    whole = λ told i seen guards. tt;
+    evident = tt;
+  };
 }
 
 pub returns-in_err-commit-clause-damage : goal.returns-in_err-commit-clause-damage
@@ -214,7 +250,7 @@ returns-in_err-commit-clause-damage g c =
 pub returns-in_err-set-clause-damage : goal.returns-in_err-set-clause-damage
 returns-in_err-set-clause-damage g c =
     let p = err_from_is_err_and c.from_residual-in_err-set.result c.from_residual-in_err-set.ensures.1 in
-    let last = c.in_ok-commit.ensures.unchanged in
+    let last = c.in_ok-commit.ensures.done.unchanged in
     anew_attached _ _ _ _ _ _ last.commit _ c.in_err-set.field-0.0 (p.1 ∙ ap (λ (e : PageFault). Err e) p.2) last.is
     (c.in_err-set.ensures.shown last.commit last.is)
     (λ told. subst (λ (f : Files). FaultShows (IsAttachDamageOf f last.commit) c.in_err-set.field-0.0) (sym (c.attach_anew.ensures.files told))

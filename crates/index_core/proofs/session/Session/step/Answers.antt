@@ -27,7 +27,8 @@ returns-in-DeleteBox-clause-applies g c = rw c.in-DeleteBox.is c.delete_box.ensu
 pub returns-in-InBox-clause-applies : goal.returns-in-InBox-clause-applies
 unfolding step_on
 returns-in-InBox-clause-applies g c = rw c.in-InBox.is (applies_as _ _ _ _ _ _ _ _
-    (λ i seen. ap (λ (s : CountedBox). query_outcome i (viewed_docs (view_name c.in-InBox.view) i) (λ docs. hits_text (hits (in_box s.bounds) docs))) (sym c.new.ensures)) c.find.ensures.applies)
+    (λ i seen. ap (λ (s : CountedBox). query_outcome i (viewed_docs (view_name c.in-InBox.view) i) (λ docs. hits_text (hits (in_box s.bounds) docs)))
+    (sym c.new.ensures)) c.find.ensures.applies)
 
 pub returns-in-Snapshot-clause-applies : goal.returns-in-Snapshot-clause-applies
 returns-in-Snapshot-clause-applies g c = rw c.in-Snapshot.is (applies_told _ _ _ _ _ _ _ (c.snapshot.ensures.applies _ _))
@@ -46,7 +47,8 @@ find-requires g c = session_fits g.row.D c.in-InBox.lo.high
 
 pub returns-in-Blank-clause-applies : goal.returns-in-Blank-clause-applies
 unfolding step_on
-returns-in-Blank-clause-applies g c = rw c.in-Blank.is (applies_still _ _ _ _ _ _ _ _ _ (λ i seen. ((i, refl, seen), sym (append-nil c.args.out.now.items))) (begins_itself _) (no_cause _ _) tt)
+returns-in-Blank-clause-applies g c =
+    rw c.in-Blank.is (applies_still _ _ _ _ _ _ _ _ _ (λ i seen. ((i, refl, seen), sym (append-nil c.args.out.now.items))) (begins_itself _) (no_cause _ _) tt)
 
 pub returns-in-Create-clause-applies : goal.returns-in-Create-clause-applies
 unfolding step_on
@@ -81,24 +83,6 @@ returns-in-Reopen-clause-applies g c = rw c.in-Reopen.is c.reopen.ensures.applie
 
 pub returns-in-MergeBegin-clause-applies : goal.returns-in-MergeBegin-clause-applies
 returns-in-MergeBegin-clause-applies g c = rw (c.in-MergeBegin.is, ← c.as_slice.ensures) c.merge_begin.ensures.applies
-
-pub returns-in-Add-clause-reads : goal.returns-in-Add-clause-reads
-returns-in-Add-clause-reads g c = rw c.in-Add.is c.add.ensures.reads
-
-pub returns-in-DeleteBox-clause-reads : goal.returns-in-DeleteBox-clause-reads
-returns-in-DeleteBox-clause-reads g c = rw c.in-DeleteBox.is c.delete_box.ensures.reads
-
-pub returns-in-Polygon-clause-reads : goal.returns-in-Polygon-clause-reads
-returns-in-Polygon-clause-reads g c = rw c.in-Polygon.is c.find_in.ensures.reads
-
-pub returns-in-Nearest-clause-reads : goal.returns-in-Nearest-clause-reads
-returns-in-Nearest-clause-reads g c = rw c.in-Nearest.is c.nearest.ensures.reads
-
-pub returns-in-MergeEnd-clause-reads : goal.returns-in-MergeEnd-clause-reads
-returns-in-MergeEnd-clause-reads g c = rw c.in-MergeEnd.is c.merge_end.ensures.reads
-
-pub returns-in-Commit-clause-reads : goal.returns-in-Commit-clause-reads
-returns-in-Commit-clause-reads g c = rw c.in-Commit.is c.commit_line.ensures.reads
 
 pub returns-in-Add-clause-damage : goal.returns-in-Add-clause-damage
 returns-in-Add-clause-damage g c = rw c.in-Add.is c.add.ensures.damage
@@ -139,27 +123,8 @@ returns-in-Reopen-clause-damage g c = rw c.in-Reopen.is c.reopen.ensures.damage
 pub returns-in-MergeBegin-clause-damage : goal.returns-in-MergeBegin-clause-damage
 returns-in-MergeBegin-clause-damage g c = rw c.in-MergeBegin.is c.merge_begin.ensures.damage
 
-pub returns-in-InBox-clause-reads : goal.returns-in-InBox-clause-reads
-returns-in-InBox-clause-reads g c = rw c.in-InBox.is
-    (subst (λ (s : CountedBox). ReadsTouched g.row.D (in_box s.bounds) (crosses s.bounds) (viewed_parts (view_name c.in-InBox.view) c.args.self.now.set) (g.F.Pages.reads c.args.folder.now) (g.F.Pages.reads c.find.new.folder)) c.new.ensures c.find.ensures.reads)
-
 pub returns-in-InBox-clause-damage : goal.returns-in-InBox-clause-damage
 returns-in-InBox-clause-damage g c = rw c.in-InBox.is c.find.ensures.damage
-
-pub returns-in-Blank-clause-reads : goal.returns-in-Blank-clause-reads
-returns-in-Blank-clause-reads g c = rw c.in-Blank.is refl
-
-pub returns-in-Create-clause-reads : goal.returns-in-Create-clause-reads
-returns-in-Create-clause-reads g c = rw c.in-Create.is refl
-
-pub returns-in-Delete-clause-reads : goal.returns-in-Delete-clause-reads
-returns-in-Delete-clause-reads g c = rw c.in-Delete.is refl
-
-pub returns-in-Snapshot-clause-reads : goal.returns-in-Snapshot-clause-reads
-returns-in-Snapshot-clause-reads g c = rw c.in-Snapshot.is refl
-
-pub returns-in-Release-clause-reads : goal.returns-in-Release-clause-reads
-returns-in-Release-clause-reads g c = rw c.in-Release.is refl
 
 pub returns-in-Blank-clause-damage : goal.returns-in-Blank-clause-damage
 returns-in-Blank-clause-damage g c = rw c.in-Blank.is tt
@@ -167,215 +132,11 @@ returns-in-Blank-clause-damage g c = rw c.in-Blank.is tt
 pub returns-in-Create-clause-damage : goal.returns-in-Create-clause-damage
 returns-in-Create-clause-damage g c = rw c.in-Create.is tt
 
-pub returns-in-Flush-clause-reads : goal.returns-in-Flush-clause-reads
-returns-in-Flush-clause-reads g c = rw c.in-Flush.is c.flush.ensures.reads
-
-pub returns-in-Merge-clause-reads : goal.returns-in-Merge-clause-reads
-returns-in-Merge-clause-reads g c = rw c.in-Merge.is tt
-
-pub returns-in-MergeBegin-clause-reads : goal.returns-in-MergeBegin-clause-reads
-returns-in-MergeBegin-clause-reads g c = rw c.in-MergeBegin.is tt
-
-pub returns-in-Reopen-clause-reads : goal.returns-in-Reopen-clause-reads
-returns-in-Reopen-clause-reads g c = rw c.in-Reopen.is tt
-
-pub returns-in-Add-clause-still : goal.returns-in-Add-clause-still
-returns-in-Add-clause-still g c = rw c.in-Add.is c.add.ensures.still
-
-pub returns-in-Polygon-clause-still : goal.returns-in-Polygon-clause-still
-returns-in-Polygon-clause-still g c = rw c.in-Polygon.is c.find_in.ensures.still
-
-pub returns-in-Nearest-clause-still : goal.returns-in-Nearest-clause-still
-returns-in-Nearest-clause-still g c = rw c.in-Nearest.is c.nearest.ensures.still
-
-pub returns-in-MergeEnd-clause-still : goal.returns-in-MergeEnd-clause-still
-returns-in-MergeEnd-clause-still g c = rw c.in-MergeEnd.is c.merge_end.ensures.still
-
-pub returns-in-InBox-clause-still : goal.returns-in-InBox-clause-still
-returns-in-InBox-clause-still g c = rw c.in-InBox.is c.find.ensures.still
-
-pub returns-in-MergeBegin-clause-still : goal.returns-in-MergeBegin-clause-still
-returns-in-MergeBegin-clause-still g c = rw c.in-MergeBegin.is c.merge_begin.ensures.still
-
-pub returns-in-Blank-clause-still : goal.returns-in-Blank-clause-still
-returns-in-Blank-clause-still g c = rw c.in-Blank.is (still_same _ _ _)
-
-pub returns-in-Create-clause-still : goal.returns-in-Create-clause-still
-returns-in-Create-clause-still g c = rw c.in-Create.is (still_same _ _ _)
-
-pub returns-in-Snapshot-clause-still : goal.returns-in-Snapshot-clause-still
-returns-in-Snapshot-clause-still g c = rw c.in-Snapshot.is (still_told _ _ _ _ _ (c.snapshot.ensures.still _))
-
-pub returns-in-Release-clause-still : goal.returns-in-Release-clause-still
-returns-in-Release-clause-still g c = rw c.in-Release.is (still_told _ _ _ _ _ (c.release.ensures.still _))
-
-pub returns-in-Delete-clause-still : goal.returns-in-Delete-clause-still
-returns-in-Delete-clause-still g c = rw c.in-Delete.is tt
-
-pub returns-in-DeleteBox-clause-still : goal.returns-in-DeleteBox-clause-still
-returns-in-DeleteBox-clause-still g c = rw c.in-DeleteBox.is tt
-
-pub returns-in-Flush-clause-still : goal.returns-in-Flush-clause-still
-returns-in-Flush-clause-still g c = rw c.in-Flush.is tt
-
-pub returns-in-Merge-clause-still : goal.returns-in-Merge-clause-still
-returns-in-Merge-clause-still g c = rw c.in-Merge.is tt
-
-pub returns-in-Commit-clause-still : goal.returns-in-Commit-clause-still
-returns-in-Commit-clause-still g c = rw c.in-Commit.is tt
-
-pub returns-in-Reopen-clause-still : goal.returns-in-Reopen-clause-still
-returns-in-Reopen-clause-still g c = rw c.in-Reopen.is tt
-
 pub returns-in-Commit-clause-leaves : goal.returns-in-Commit-clause-leaves
 returns-in-Commit-clause-leaves g c = rw c.in-Commit.is (leaves_any c.commit_line.result)
 
 pub returns-in-Reopen-clause-leaves : goal.returns-in-Reopen-clause-leaves
 returns-in-Reopen-clause-leaves g c = rw c.in-Reopen.is (leaves_any c.reopen.result)
-
-pub returns-in-Blank-clause-light : goal.returns-in-Blank-clause-light
-returns-in-Blank-clause-light g c = rw c.in-Blank.is (λ light room. light_same _ _ _ _)
-
-pub returns-in-Create-clause-light : goal.returns-in-Create-clause-light
-returns-in-Create-clause-light g c = rw c.in-Create.is (λ light room. light_same _ _ _ _)
-
-pub returns-in-Add-clause-light : goal.returns-in-Add-clause-light
-returns-in-Add-clause-light g c = rw c.in-Add.is (λ light. c.add.ensures.light)
-
-pub returns-in-Delete-clause-light : goal.returns-in-Delete-clause-light
-returns-in-Delete-clause-light g c = rw c.in-Delete.is (λ light room. light_told _ _ _ _ _ (c.delete.ensures.light _))
-
-pub returns-in-Snapshot-clause-light : goal.returns-in-Snapshot-clause-light
-returns-in-Snapshot-clause-light g c = rw c.in-Snapshot.is (λ light room. light_told _ _ _ _ _ (c.snapshot.ensures.light _))
-
-pub returns-in-Release-clause-light : goal.returns-in-Release-clause-light
-returns-in-Release-clause-light g c = rw c.in-Release.is (λ light room. light_told _ _ _ _ _ (c.release.ensures.light _))
-
-pub returns-in-InBox-clause-light : goal.returns-in-InBox-clause-light
-returns-in-InBox-clause-light g c = rw c.in-InBox.is (λ light room. light_still _ _ _ _ _ _ c.find.ensures.still)
-
-pub returns-in-Polygon-clause-light : goal.returns-in-Polygon-clause-light
-returns-in-Polygon-clause-light g c = rw c.in-Polygon.is (λ light room. light_still _ _ _ _ _ _ c.find_in.ensures.still)
-
-pub returns-in-Nearest-clause-light : goal.returns-in-Nearest-clause-light
-returns-in-Nearest-clause-light g c = rw c.in-Nearest.is (λ light room. light_still _ _ _ _ _ _ c.nearest.ensures.still)
-
-pub returns-in-DeleteBox-clause-light : goal.returns-in-DeleteBox-clause-light
-returns-in-DeleteBox-clause-light g c = rw c.in-DeleteBox.is (λ light room. absurd cc)
-
-pub returns-in-Flush-clause-light : goal.returns-in-Flush-clause-light
-returns-in-Flush-clause-light g c = rw c.in-Flush.is (λ light room. absurd cc)
-
-pub returns-in-Merge-clause-light : goal.returns-in-Merge-clause-light
-returns-in-Merge-clause-light g c = rw c.in-Merge.is (λ light room. absurd cc)
-
-pub returns-in-MergeBegin-clause-light : goal.returns-in-MergeBegin-clause-light
-returns-in-MergeBegin-clause-light g c = rw c.in-MergeBegin.is (λ light room. absurd cc)
-
-pub returns-in-MergeEnd-clause-light : goal.returns-in-MergeEnd-clause-light
-returns-in-MergeEnd-clause-light g c = rw c.in-MergeEnd.is (λ light room. absurd cc)
-
-pub returns-in-Commit-clause-light : goal.returns-in-Commit-clause-light
-returns-in-Commit-clause-light g c = rw c.in-Commit.is (λ light room. absurd cc)
-
-pub returns-in-Reopen-clause-light : goal.returns-in-Reopen-clause-light
-returns-in-Reopen-clause-light g c = rw c.in-Reopen.is (λ light room. absurd cc)
-
-pub returns-in-Blank-clause-unread : goal.returns-in-Blank-clause-unread
-returns-in-Blank-clause-unread g c = tt
-
-pub returns-in-Create-clause-unread : goal.returns-in-Create-clause-unread
-returns-in-Create-clause-unread g c = refl
-
-pub returns-in-Delete-clause-unread : goal.returns-in-Delete-clause-unread
-returns-in-Delete-clause-unread g c = refused_any _ c.delete.result refl
-
-pub returns-in-Snapshot-clause-unread : goal.returns-in-Snapshot-clause-unread
-returns-in-Snapshot-clause-unread g c = refused_any _ c.snapshot.result refl
-
-pub returns-in-Release-clause-unread : goal.returns-in-Release-clause-unread
-returns-in-Release-clause-unread g c = refused_any _ c.release.result refl
-
-pub returns-in-Add-clause-unread : goal.returns-in-Add-clause-unread
-returns-in-Add-clause-unread g c = c.add.ensures.unread
-
-pub returns-in-DeleteBox-clause-unread : goal.returns-in-DeleteBox-clause-unread
-returns-in-DeleteBox-clause-unread g c = c.delete_box.ensures.unread
-
-pub returns-in-InBox-clause-unread : goal.returns-in-InBox-clause-unread
-returns-in-InBox-clause-unread g c = c.find.ensures.unread
-
-pub returns-in-Polygon-clause-unread : goal.returns-in-Polygon-clause-unread
-returns-in-Polygon-clause-unread g c = c.find_in.ensures.unread
-
-pub returns-in-Nearest-clause-unread : goal.returns-in-Nearest-clause-unread
-returns-in-Nearest-clause-unread g c = c.nearest.ensures.unread
-
-pub returns-in-Flush-clause-unread : goal.returns-in-Flush-clause-unread
-returns-in-Flush-clause-unread g c = c.flush.ensures.unread
-
-pub returns-in-Merge-clause-unread : goal.returns-in-Merge-clause-unread
-returns-in-Merge-clause-unread g c = c.merge.ensures.unread
-
-pub returns-in-MergeBegin-clause-unread : goal.returns-in-MergeBegin-clause-unread
-returns-in-MergeBegin-clause-unread g c = c.merge_begin.ensures.unread
-
-pub returns-in-MergeEnd-clause-unread : goal.returns-in-MergeEnd-clause-unread
-returns-in-MergeEnd-clause-unread g c = c.merge_end.ensures.unread
-
-pub returns-in-Commit-clause-unread : goal.returns-in-Commit-clause-unread
-returns-in-Commit-clause-unread g c = c.commit_line.ensures.unread
-
-pub returns-in-Reopen-clause-unread : goal.returns-in-Reopen-clause-unread
-returns-in-Reopen-clause-unread g c = c.reopen.ensures.unread
-
-pub returns-in-Blank-clause-barred : goal.returns-in-Blank-clause-barred
-returns-in-Blank-clause-barred g c = rw c.in-Blank.is (λ bad. absurd bad)
-
-pub returns-in-Create-clause-barred : goal.returns-in-Create-clause-barred
-returns-in-Create-clause-barred g c = rw c.in-Create.is (λ bad. absurd bad)
-
-pub returns-in-Delete-clause-barred : goal.returns-in-Delete-clause-barred
-returns-in-Delete-clause-barred g c = rw c.in-Delete.is (λ bad. absurd bad)
-
-pub returns-in-DeleteBox-clause-barred : goal.returns-in-DeleteBox-clause-barred
-returns-in-DeleteBox-clause-barred g c = rw c.in-DeleteBox.is (λ bad. absurd bad)
-
-pub returns-in-InBox-clause-barred : goal.returns-in-InBox-clause-barred
-returns-in-InBox-clause-barred g c = rw c.in-InBox.is (λ bad. absurd bad)
-
-pub returns-in-Polygon-clause-barred : goal.returns-in-Polygon-clause-barred
-returns-in-Polygon-clause-barred g c = rw c.in-Polygon.is (λ bad. absurd bad)
-
-pub returns-in-Nearest-clause-barred : goal.returns-in-Nearest-clause-barred
-returns-in-Nearest-clause-barred g c = rw c.in-Nearest.is (λ bad. absurd bad)
-
-pub returns-in-Flush-clause-barred : goal.returns-in-Flush-clause-barred
-returns-in-Flush-clause-barred g c = rw c.in-Flush.is (λ bad. absurd bad)
-
-pub returns-in-Merge-clause-barred : goal.returns-in-Merge-clause-barred
-returns-in-Merge-clause-barred g c = rw c.in-Merge.is (λ bad. absurd bad)
-
-pub returns-in-MergeBegin-clause-barred : goal.returns-in-MergeBegin-clause-barred
-returns-in-MergeBegin-clause-barred g c = rw c.in-MergeBegin.is (λ bad. absurd bad)
-
-pub returns-in-Snapshot-clause-barred : goal.returns-in-Snapshot-clause-barred
-returns-in-Snapshot-clause-barred g c = rw c.in-Snapshot.is (λ bad. absurd bad)
-
-pub returns-in-Release-clause-barred : goal.returns-in-Release-clause-barred
-returns-in-Release-clause-barred g c = rw c.in-Release.is (λ bad. absurd bad)
-
-pub returns-in-Commit-clause-barred : goal.returns-in-Commit-clause-barred
-returns-in-Commit-clause-barred g c = rw c.in-Commit.is (λ bad. absurd bad)
-
-pub returns-in-Reopen-clause-barred : goal.returns-in-Reopen-clause-barred
-returns-in-Reopen-clause-barred g c = rw c.in-Reopen.is (λ bad. absurd bad)
-
-pub returns-in-Add-clause-barred : goal.returns-in-Add-clause-barred
-returns-in-Add-clause-barred g c = rw c.in-Add.is c.add.ensures.barred
-
-pub returns-in-MergeEnd-clause-barred : goal.returns-in-MergeEnd-clause-barred
-returns-in-MergeEnd-clause-barred g c = rw c.in-MergeEnd.is c.merge_end.ensures.barred
 
 pub returns-in-Add-clause-leaves : goal.returns-in-Add-clause-leaves
 returns-in-Add-clause-leaves g c = rw c.in-Add.is (leaves_any c.add.result)
@@ -397,3 +158,124 @@ returns-in-Snapshot-clause-leaves g c = rw c.in-Snapshot.is (leaves_any c.snapsh
 
 pub returns-in-Release-clause-leaves : goal.returns-in-Release-clause-leaves
 returns-in-Release-clause-leaves g c = rw c.in-Release.is (leaves_any c.release.result)
+
+pub returns-in-Add-clause-spares : goal.returns-in-Add-clause-spares
+returns-in-Add-clause-spares g c = rw c.in-Add.is (record {
+  reads = c.add.ensures.reads;
+  unread = c.add.ensures.unread;
+  still = c.add.ensures.still;
+  light = λ light. c.add.ensures.light;
+  barred = c.add.ensures.barred;
+})
+
+pub returns-in-DeleteBox-clause-spares : goal.returns-in-DeleteBox-clause-spares
+returns-in-DeleteBox-clause-spares g c = rw c.in-DeleteBox.is (record {
+  reads = c.delete_box.ensures.reads;
+  unread = c.delete_box.ensures.unread;
+  still = tt;
+  light = λ light room. absurd cc;
+  barred = λ bad. absurd bad;
+})
+
+pub returns-in-Polygon-clause-spares : goal.returns-in-Polygon-clause-spares
+returns-in-Polygon-clause-spares g c = rw c.in-Polygon.is (record {
+  reads = c.find_in.ensures.reads;
+  unread = c.find_in.ensures.unread;
+  still = c.find_in.ensures.still;
+  light = λ light room. light_still _ _ _ _ _ _ c.find_in.ensures.still;
+  barred = λ bad. absurd bad;
+})
+
+pub returns-in-Nearest-clause-spares : goal.returns-in-Nearest-clause-spares
+returns-in-Nearest-clause-spares g c = rw c.in-Nearest.is (record {
+  reads = c.nearest.ensures.reads;
+  unread = c.nearest.ensures.unread;
+  still = c.nearest.ensures.still;
+  light = λ light room. light_still _ _ _ _ _ _ c.nearest.ensures.still;
+  barred = λ bad. absurd bad;
+})
+
+pub returns-in-MergeEnd-clause-spares : goal.returns-in-MergeEnd-clause-spares
+returns-in-MergeEnd-clause-spares g c = rw c.in-MergeEnd.is (record {
+  reads = c.merge_end.ensures.reads;
+  unread = c.merge_end.ensures.unread;
+  still = c.merge_end.ensures.still;
+  light = λ light room. absurd cc;
+  barred = c.merge_end.ensures.barred;
+})
+
+pub returns-in-Commit-clause-spares : goal.returns-in-Commit-clause-spares
+returns-in-Commit-clause-spares g c = rw c.in-Commit.is (record {
+  reads = c.commit_line.ensures.reads;
+  unread = c.commit_line.ensures.unread;
+  still = tt;
+  light = λ light room. absurd cc;
+  barred = λ bad. absurd bad;
+})
+
+pub returns-in-InBox-clause-spares : goal.returns-in-InBox-clause-spares
+returns-in-InBox-clause-spares g c = rw c.in-InBox.is (record {
+  reads = subst
+      (λ (s : CountedBox). ReadsTouched g.row.D (in_box s.bounds) (crosses s.bounds) (viewed_parts (view_name c.in-InBox.view) c.args.self.now.set)
+      (g.F.Pages.reads c.args.folder.now) (g.F.Pages.reads c.find.new.folder)) c.new.ensures c.find.ensures.reads;
+  unread = c.find.ensures.unread;
+  still = c.find.ensures.still;
+  light = λ light room. light_still _ _ _ _ _ _ c.find.ensures.still;
+  barred = λ bad. absurd bad;
+})
+
+pub returns-in-Blank-clause-spares : goal.returns-in-Blank-clause-spares
+returns-in-Blank-clause-spares g c = rw c.in-Blank.is
+    (record { reads = refl; unread = tt; still = still_same _ _ _; light = λ light room. light_same _ _ _ _; barred = λ bad. absurd bad })
+
+pub returns-in-Create-clause-spares : goal.returns-in-Create-clause-spares
+returns-in-Create-clause-spares g c = rw c.in-Create.is
+    (record { reads = refl; unread = refl; still = still_same _ _ _; light = λ light room. light_same _ _ _ _; barred = λ bad. absurd bad })
+
+pub returns-in-Delete-clause-spares : goal.returns-in-Delete-clause-spares
+returns-in-Delete-clause-spares g c = rw c.in-Delete.is (record {
+  reads = refl;
+  unread = refused_any _ c.delete.result refl;
+  still = tt;
+  light = λ light room. light_told _ _ _ _ _ (c.delete.ensures.light _);
+  barred = λ bad. absurd bad;
+})
+
+pub returns-in-Snapshot-clause-spares : goal.returns-in-Snapshot-clause-spares
+returns-in-Snapshot-clause-spares g c = rw c.in-Snapshot.is (record {
+  reads = refl;
+  unread = refused_any _ c.snapshot.result refl;
+  still = still_told _ _ _ _ _ (c.snapshot.ensures.still _);
+  light = λ light room. light_told _ _ _ _ _ (c.snapshot.ensures.light _);
+  barred = λ bad. absurd bad;
+})
+
+pub returns-in-Release-clause-spares : goal.returns-in-Release-clause-spares
+returns-in-Release-clause-spares g c = rw c.in-Release.is (record {
+  reads = refl;
+  unread = refused_any _ c.release.result refl;
+  still = still_told _ _ _ _ _ (c.release.ensures.still _);
+  light = λ light room. light_told _ _ _ _ _ (c.release.ensures.light _);
+  barred = λ bad. absurd bad;
+})
+
+pub returns-in-Flush-clause-spares : goal.returns-in-Flush-clause-spares
+returns-in-Flush-clause-spares g c = rw c.in-Flush.is
+    (record { reads = c.flush.ensures.reads; unread = c.flush.ensures.unread; still = tt; light = λ light room. absurd cc; barred = λ bad. absurd bad })
+
+pub returns-in-Merge-clause-spares : goal.returns-in-Merge-clause-spares
+returns-in-Merge-clause-spares g c = rw c.in-Merge.is
+    (record { reads = tt; unread = c.merge.ensures.unread; still = tt; light = λ light room. absurd cc; barred = λ bad. absurd bad })
+
+pub returns-in-MergeBegin-clause-spares : goal.returns-in-MergeBegin-clause-spares
+returns-in-MergeBegin-clause-spares g c = rw c.in-MergeBegin.is (record {
+  reads = tt;
+  unread = c.merge_begin.ensures.unread;
+  still = c.merge_begin.ensures.still;
+  light = λ light room. absurd cc;
+  barred = λ bad. absurd bad;
+})
+
+pub returns-in-Reopen-clause-spares : goal.returns-in-Reopen-clause-spares
+returns-in-Reopen-clause-spares g c = rw c.in-Reopen.is
+    (record { reads = tt; unread = c.reopen.ensures.unread; still = tt; light = λ light room. absurd cc; barred = λ bad. absurd bad })

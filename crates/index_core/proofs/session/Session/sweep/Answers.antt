@@ -26,11 +26,11 @@ old g c = record { set = c.self.inside.set; commit = c.self.inside.commit; refus
 swept : (g : given.Over) (c : goal.Joined-sweep g) → IsTrue g.F.Pages.told
     → IsSwept (g.F.Pages.files c.args.folder.now) (g.F.Pages.files c.sweep.new.folder) c.self.inside.set c.sweep.new.self c.in-Some.commit
 swept g c told = record {
-  commit = c.sweep.ensures.commit told;
-  files = c.sweep.ensures.needed told;
-  named = c.sweep.ensures.named;
-  parts = ap (λ (u : SetData). u.parts) c.sweep.ensures.alone.is;
-  leaf = ap (λ (u : SetData). u.leaf) c.sweep.ensures.alone.is;
+  commit = c.sweep.ensures.swept.commit told;
+  files = c.sweep.ensures.swept.needed told;
+  named = c.sweep.ensures.swept.named;
+  parts = ap (λ (u : SetData). u.parts) c.sweep.ensures.swept.alone.is;
+  leaf = ap (λ (u : SetData). u.leaf) c.sweep.ensures.swept.alone.is;
 }
 
 done : (g : given.Over) (c : goal.Joined-sweep g) → c.self.inside.refused ≡ false
@@ -41,7 +41,7 @@ returns-clause-seen g c told i seen =
     c.sweep.ensures.seen told i (subst (λ (u : SessionData). Sees g.row.D (g.F.Pages.files c.args.folder.now) u.set i) (sym c.self.view_is) seen)
 
 pub returns-clause-alone : goal.returns-clause-alone
-returns-clause-alone g c = subst (λ (u : SessionData). StaysButFiles u.set c.sweep.new.self) c.self.view_is c.sweep.ensures.alone
+returns-clause-alone g c = subst (λ (u : SessionData). StaysButFiles u.set c.sweep.new.self) c.self.view_is c.sweep.ensures.swept.alone
 
 pub returns-clause-written : goal.returns-clause-written
 returns-clause-written g c = (ap (λ (u : SessionData). u.commit) c.self.view_is, done g c)
@@ -54,10 +54,6 @@ pub returns-clause-kept : goal.returns-clause-kept
 returns-clause-kept g c told guards = (session_swept _ _ _ (old g c) (record (old g c) { set = c.sweep.new.self }) c.in-Some.commit c.in-Some.is
     (done g c) refl (done g c) (swept g c told)
     (subst (Guards g.row.D (g.F.Pages.files c.args.folder.now)) (sym c.self.view_is) guards)).1
-
-pub returns-clause-segments : goal.returns-clause-segments
-returns-clause-segments g c told p there =
-    c.sweep.ensures.needed told (Segment p.head.id) (inr (inl (p, subst (λ (u : SessionData). Contains u.set.parts p) (sym c.self.view_is) there, refl)))
 
 pub sweep-requires : goal.sweep-requires
 sweep-requires g c = set_fits g.row.D c.self.invariant.few
@@ -74,28 +70,30 @@ returns-clause-traced g c told guards traced = session_traced _ _ _ (old g c) c.
     (subst (Guards g.row.D (g.F.Pages.files c.args.folder.now)) (sym c.self.view_is) guards)
     (subst (λ (u : SessionData). AreTraced g.row.D (g.F.Pages.files c.args.folder.now) u.set.parts) (sym c.self.view_is) traced)
 
-pub returns-clause-tracked : goal.returns-clause-tracked
-returns-clause-tracked g c told m =
-    let before = g.F.Pages.files c.args.folder.now in
-    let after = g.F.Pages.files c.sweep.new.folder in
-    subst (λ (u : SessionData). IsTracked before after u.set.names c.sweep.new.self.names m) c.self.view_is
-    (tracked_swept before after c.self.inside.set.names c.sweep.new.self.names m (c.sweep.ensures.others told m) (c.sweep.ensures.left told m))
-
-pub returns-clause-idle : goal.returns-clause-idle
-returns-clause-idle g c told listed = idle_sweep _ _ (old g c) c.in-Some.commit c.in-Some.is (c.sweep.ensures.needed told) (c.sweep.ensures.others told)
-    (subst NamesOnlyListed (sym c.self.view_is) listed)
-
 -- each name that is left is needed by the session as it was
 abbrev Needed : (g : given.Over) (c : goal.Joined-sweep g) → Type 0
 Needed g c = (m : FileName) → is_named c.sweep.new.self.names.names m ≡ true
     → (d : CommitData) × (c.args.self.now.commit ≡ Some d) × IsNeeded c.args.self.now.set d m
 
-pub returns-clause-needed : goal.returns-clause-needed
-returns-clause-needed g c = elim c.match-sweep.branch [
-  | in-Ok w ↦ subst (λ r. OnOk r (Needed g c)) (sym w.result-is) (λ m there. (
-    c.in-Some.commit,
-    ap (λ (u : SessionData). u.commit) (sym c.self.view_is) ∙ c.in-Some.is,
-    subst (λ (u : SessionData). IsNeeded u.set c.in-Some.commit m) c.self.view_is (w.in-Ok.ensures.swept m there),
-  ))
-  | in-Err w ↦ subst (λ r. OnOk r (Needed g c)) (sym w.result-is) tt
-]
+pub returns-clause-removes : goal.returns-clause-removes
+returns-clause-removes g c = record {
+  segments = λ told p there.
+      c.sweep.ensures.swept.needed told (Segment p.head.id)
+      (inr (inl (p, subst (λ (u : SessionData). Contains u.set.parts p) (sym c.self.view_is) there, refl)));
+  tracked = λ told m.
+      let before = g.F.Pages.files c.args.folder.now in
+      let after = g.F.Pages.files c.sweep.new.folder in
+      subst (λ (u : SessionData). IsTracked before after u.set.names c.sweep.new.self.names m) c.self.view_is
+      (tracked_swept before after c.self.inside.set.names c.sweep.new.self.names m (c.sweep.ensures.swept.others told m) (c.sweep.ensures.swept.gone told m));
+  needed = elim c.match-sweep.branch [
+    | in-Ok w ↦ subst (λ r. OnOk r (Needed g c)) (sym w.result-is) (λ m there. (
+      c.in-Some.commit,
+      ap (λ (u : SessionData). u.commit) (sym c.self.view_is) ∙ c.in-Some.is,
+      subst (λ (u : SessionData). IsNeeded u.set c.in-Some.commit m) c.self.view_is (w.in-Ok.ensures.only m there),
+    ))
+    | in-Err w ↦ subst (λ r. OnOk r (Needed g c)) (sym w.result-is) tt
+  ];
+  idle = λ told listed.
+      idle_sweep _ _ (old g c) c.in-Some.commit c.in-Some.is (c.sweep.ensures.swept.needed told) (c.sweep.ensures.swept.others told)
+      (subst NamesOnlyListed (sym c.self.view_is) listed);
+}

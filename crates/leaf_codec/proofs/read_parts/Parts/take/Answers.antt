@@ -7,6 +7,11 @@ use Rattle.leaf_codec.proofs.CanonicalNumbers.{AreBytes-from}
 use Rattle.std.proofs.lemmas.List.Elements.{All-take, All-drop}
 use Rattle.leaf_codec.proofs.read_parts.Parts.take.Goals as goal
 
+pub returns-in_err-lengths-clause-only : goal.returns-in_err-lengths-clause-only
+returns-in_err-lengths-clause-only c r h e =
+    absurd (c.in_err-lengths.ensures.only r.lengths (r.prefixes ++ (sorted_raw c.args.dims r.sorted r.bytes ++ r.rests)) h.dims
+    (to_end c.args.leaf.now c.args.at ∙ e))
+
 pub returns-in_err-total-clause-only : goal.returns-in_err-total-clause-only
 returns-in_err-total-clause-only c r h e =
     let found = c.in_ok-lengths.ensures.found in
@@ -20,8 +25,7 @@ returns-in_err-prefixes-clause-only c r h e =
     let a = lengths_same c.args.dims c.args.count r (drop c.args.at c.args.leaf.now) c.in_ok-lengths.lengths.now c.in_ok-lengths.rest.now h found.0
     (sym (to_end c.args.leaf.now c.args.at) ∙ found.1) e in
     let total = total_is c.args.dims c.args.count c.in_ok-total.field-0 r c.in_ok-lengths.lengths.now h a.0 c.in_ok-total.ensures.found in
-    absurd (true≢false
-    (sym (c.in_err-prefixes.ensures.only (omega (arith, total, ap length a.1, length-append r.prefixes (sorted_raw c.args.dims r.sorted r.bytes ++ r.rests))))))
+    absurd (c.in_err-prefixes.ensures.only r.prefixes (sorted_raw c.args.dims r.sorted r.bytes ++ r.rests) (sym total) a.1)
 
 pub returns-in_err-sorted-clause-only : goal.returns-in_err-sorted-clause-only
 returns-in_err-sorted-clause-only c r h e =

@@ -2,8 +2,8 @@ use Rattle.std.proofs.Common.{◌∷◌, ◌<◌, refl, arith}
 use Rattle.documents.specs.NearestEntries.{IsNearest}
 use Rattle.nearest_query.specs.Best.{AreBest, AreKept}
 use Rattle.nearest_query.proofs.Either.{kept_of, best_of, nearest_few, best_few}
-use Rattle.nearest_query.proofs.Results.{on_ok}
 use Rattle.nearest_query.proofs.candidates.Candidates.offer.Goals as goal
+use Rattle.segment_file.proofs.Subtrees.{on_ok}
 
 pub returns-then-self-gt-FEW-clause-best : goal.returns-then-self-gt-FEW-clause-best
 returns-then-self-gt-FEW-clause-best c = λ entries best.

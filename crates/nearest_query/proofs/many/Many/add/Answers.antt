@@ -1,8 +1,8 @@
 use Rattle.std.proofs.Common.{◌∷◌, refl, arith}
 use Rattle.nearest_query.specs.Best.{AreKept, IsInserted}
 use Rattle.nearest_query.proofs.Kept.{added_best, replaced_best}
-use Rattle.nearest_query.proofs.Results.{on_ok}
 use Rattle.nearest_query.proofs.many.Many.add.Goals as goal
+use Rattle.segment_file.proofs.Subtrees.{on_ok}
 
 pub returns-then-len-self-clause-best : goal.returns-then-len-self-clause-best
 returns-then-len-self-clause-best c = λ entries best e after.

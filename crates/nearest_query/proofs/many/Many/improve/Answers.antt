@@ -1,8 +1,8 @@
 use Rattle.std.proofs.Common.{◌∷◌, refl}
 use Rattle.nearest_query.specs.Best.{AreKept, IsInserted}
 use Rattle.nearest_query.proofs.Kept.{stay_best, improved_best}
-use Rattle.nearest_query.proofs.Results.{on_ok}
 use Rattle.nearest_query.proofs.many.Many.improve.Goals as goal
+use Rattle.segment_file.proofs.Subtrees.{on_ok}
 
 pub returns-then-dist2-near-clause-best : goal.returns-then-dist2-near-clause-best
 returns-then-dist2-near-clause-best c = λ entries best e. stay_best entries c.args.self.now c.args.near c.args.dist2 best e c.if-dist2-near.true

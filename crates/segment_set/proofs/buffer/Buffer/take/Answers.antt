@@ -5,9 +5,9 @@ use Rattle.documents.specs.Entries.{entries_but, has_entry}
 use Rattle.segment_set.specs.Waiting.{BufferData, came_as, waiting}
 use Rattle.segment_set.proofs.Buffered.{ordered_items, some_out}
 use Rattle.segment_set.proofs.Held.{held_dropped, held_out, left_out, waiting_twice}
-use Rattle.segment_set.proofs.Sizes.{entry_fits}
 use Rattle.segment_set.proofs.buffer.Buffer.take.Goals as goal
 use Rattle.segment_set.proofs.buffer.Buffer.take.Goals.{then-self-len, else-self-len}
+use Rattle.point_codec.proofs.Sizes.{entry_fits}
 
 pub mark_gone-count-requires : goal.mark_gone-count-requires
 mark_gone-count-requires g c =

@@ -23,95 +23,8 @@ use Rattle.segment_set.proofs.Attaching.{at_rest_attached, attached_is, sees_att
 use Rattle.index_opening.proofs.Evident.{on_attach_evident}
 use Rattle.segment_set.proofs.Saving.{done_cause}
 use Rattle.segment_set.proofs.Viewing.{faithful_attached}
+use Rattle.page_cache.specs.Evidence.{OnDamage}
 use Rattle.segment_set.proofs.set.SegmentSet.attach.Goals as goal
-
-pub returns-in_err-segments-clause-whole : goal.returns-in_err-segments-clause-whole
-returns-in_err-segments-clause-whole g c = λ told says state stored.
-    let e = err_from_is_err_and c.from_residual-in_err-segments.result c.from_residual-in_err-segments.ensures.1 in
-    rw (e.1, e.2)
-    (whole_listed (g.F.Pages.files c.args.folder.now) c.args.c.now c.in_err-segments.field-0.0 (c.in_err-segments.ensures.whole told) says state stored)
-
-pub returns-in_err-segments-clause-undefined : goal.returns-in_err-segments-clause-undefined
-returns-in_err-segments-clause-undefined g c = λ told says.
-    let files = g.F.Pages.files c.args.folder.now in
-    let e = err_from_is_err_and c.from_residual-in_err-segments.result c.from_residual-in_err-segments.ensures.1 in
-    rw (e.1, e.2)
-    (undefined_fault files c.in_err-segments.field-0.0
-    (whole_listed files c.args.c.now c.in_err-segments.field-0.0 (c.in_err-segments.ensures.whole told) says))
-
-pub returns-in_err-segments-clause-shown : goal.returns-in_err-segments-clause-shown
-returns-in_err-segments-clause-shown g c =
-    let e = err_from_is_err_and c.from_residual-in_err-segments.result c.from_residual-in_err-segments.ensures.1 in
-    rw (e.1, e.2)
-    (fault_weaker c.in_err-segments.field-0.0 (λ (d : Damage). (s : Listed) × Contains c.args.c.now.listed s × IsListedDamage s d) (IsAttachDamage c.args.c.now)
-    (listed_shown c.args.c.now) c.in_err-segments.ensures.shown)
-
-pub returns-in_err-segments-clause-damage : goal.returns-in_err-segments-clause-damage
-returns-in_err-segments-clause-damage g c = λ told.
-    let files = g.F.Pages.files c.args.folder.now in
-    let e = err_from_is_err_and c.from_residual-in_err-segments.result c.from_residual-in_err-segments.ensures.1 in
-    rw (e.1, e.2)
-    (fault_weaker c.in_err-segments.field-0.0 (λ (d : Damage). (s : Listed) × Contains c.args.c.now.listed s × IsListedDamageOf files c.args.c.now s d)
-    (IsAttachDamageOf files c.args.c.now) (listed_of files c.args.c.now)
-    (c.in_err-segments.ensures.damage told))
-
-pub returns-in_err-check_numbers-clause-shown : goal.returns-in_err-check_numbers-clause-shown
-returns-in_err-check_numbers-clause-shown g c =
-    let e = err_from_is_err_and c.from_residual-in_err-check_numbers.result c.from_residual-in_err-check_numbers.ensures.1 in
-    let shown = subst
-    (λ (n : ℕ). FaultShows (IsMisplaced (λ doc. 1 ≤ places doc c.lives.result.now) (λ doc. 2 ≤ places doc c.lives.result.now) n)
-    c.in_err-check_numbers.field-0.0) c.next.ensures.value c.in_err-check_numbers.ensures.shown in
-    rw (e.1, e.2)
-    (fault_weaker c.in_err-check_numbers.field-0.0
-    (IsMisplaced (λ doc. 1 ≤ places doc c.lives.result.now) (λ doc. 2 ≤ places doc c.lives.result.now) c.args.c.now.next) (IsAttachDamage c.args.c.now)
-    (misplaced_shown (λ doc. 1 ≤ places doc c.lives.result.now) (λ doc. 2 ≤ places doc c.lives.result.now) c.args.c.now) shown)
-
-pub returns-in_err-check_numbers-clause-damage : goal.returns-in_err-check_numbers-clause-damage
-returns-in_err-check_numbers-clause-damage g c = λ told.
-    let files = g.F.Pages.files c.args.folder.now in
-    let sets = lives_of c.in_ok-segments.segments in
-    let e = err_from_is_err_and c.from_residual-in_err-check_numbers.result c.from_residual-in_err-check_numbers.ensures.1 in
-    let shown = subst (λ (n : ℕ). FaultShows (IsMisplaced (λ doc. 1 ≤ places doc sets) (λ doc. 2 ≤ places doc sets) n) c.in_err-check_numbers.field-0.0)
-    c.next.ensures.value
-    (subst (λ (ss : List LiveSet).
-    FaultShows (IsMisplaced (λ doc. 1 ≤ places doc ss) (λ doc. 2 ≤ places doc ss) c.next.result) c.in_err-check_numbers.field-0.0) c.lives.ensures
-    c.in_err-check_numbers.ensures.shown) in
-    rw (e.1, e.2)
-    (misplaced_of files c.args.c.now sets c.in_err-check_numbers.field-0.0
-    (opened_lives (IsTrue g.F.Pages.told) files c.args.c.now c.in_ok-segments.segments told c.in_ok-segments.ensures.opened) shown)
-
-pub returns-in_err-check_numbers-clause-whole : goal.returns-in_err-check_numbers-clause-whole
-returns-in_err-check_numbers-clause-whole g c = λ told says state stored.
-    let files = g.F.Pages.files c.args.folder.now in
-    let parts = c.in_ok-segments.segments in
-    let sets = lives_of parts in
-    let e = err_from_is_err_and c.from_residual-in_err-check_numbers.result c.from_residual-in_err-check_numbers.ensures.1 in
-    let shown = subst (λ (n : ℕ). FaultShows (IsMisplaced (λ doc. 1 ≤ places doc sets) (λ doc. 2 ≤ places doc sets) n) c.in_err-check_numbers.field-0.0)
-    c.next.ensures.value
-    (subst (λ (ss : List LiveSet).
-    FaultShows (IsMisplaced (λ doc. 1 ≤ places doc ss) (λ doc. 2 ≤ places doc ss) c.next.result) c.in_err-check_numbers.field-0.0) c.lives.ensures
-    c.in_err-check_numbers.ensures.shown) in
-    rw (e.1, e.2)
-    (whole_placed files c.args.c.now parts c.in_err-check_numbers.field-0.0
-    (opened_heads (IsTrue g.F.Pages.told) files c.args.c.now parts told c.in_ok-segments.ensures.opened)
-    (opened_lives (IsTrue g.F.Pages.told) files c.args.c.now parts told c.in_ok-segments.ensures.opened) shown says state stored)
-
-pub returns-in_err-check_numbers-clause-undefined : goal.returns-in_err-check_numbers-clause-undefined
-returns-in_err-check_numbers-clause-undefined g c = λ told says.
-    let files = g.F.Pages.files c.args.folder.now in
-    let parts = c.in_ok-segments.segments in
-    let sets = lives_of parts in
-    let e = err_from_is_err_and c.from_residual-in_err-check_numbers.result c.from_residual-in_err-check_numbers.ensures.1 in
-    let shown = subst (λ (n : ℕ). FaultShows (IsMisplaced (λ doc. 1 ≤ places doc sets) (λ doc. 2 ≤ places doc sets) n) c.in_err-check_numbers.field-0.0)
-    c.next.ensures.value
-    (subst (λ (ss : List LiveSet).
-    FaultShows (IsMisplaced (λ doc. 1 ≤ places doc ss) (λ doc. 2 ≤ places doc ss) c.next.result) c.in_err-check_numbers.field-0.0) c.lives.ensures
-    c.in_err-check_numbers.ensures.shown) in
-    rw (e.1, e.2)
-    (undefined_fault files c.in_err-check_numbers.field-0.0
-    (whole_placed files c.args.c.now parts c.in_err-check_numbers.field-0.0
-    (opened_heads (IsTrue g.F.Pages.told) files c.args.c.now parts told c.in_ok-segments.ensures.opened)
-    (opened_lives (IsTrue g.F.Pages.told) files c.args.c.now parts told c.in_ok-segments.ensures.opened) shown says))
 
 pub invariant_of-result : goal.invariant_of-result
 invariant_of-result g c =
@@ -161,16 +74,91 @@ returns-clause-faithful g c = λ told.
 pub returns-clause-cause : goal.returns-clause-cause
 returns-clause-cause g c = done_cause (g.F.Pages.faults c.args.folder.now) (g.F.Pages.faults c.open_all.new.folder) _ c.in_ok-segments.ensures.cause.fine
 
-pub returns-in_err-segments-clause-evident : goal.returns-in_err-segments-clause-evident
-returns-in_err-segments-clause-evident g c =
+pub returns-in_err-segments-clause-damaged : goal.returns-in_err-segments-clause-damaged
+returns-in_err-segments-clause-damaged g c =
     let files = g.F.Pages.files c.args.folder.now in
-    on_attach_evident (IsTrue g.F.Pages.told × IsCommitFile (bytes_of (files Commit)) c.args.c.now) files c.args.c.now c.from_residual-in_err-segments.result
-    (λ h. h.1)
-    (λ h. returns-in_err-segments-clause-damage g c h.0) (returns-in_err-segments-clause-shown g c)
+    let shown : OnDamage c.from_residual-in_err-segments.result (IsAttachDamage c.args.c.now) =
+    let e = err_from_is_err_and c.from_residual-in_err-segments.result c.from_residual-in_err-segments.ensures.1 in
+    rw (e.1, e.2)
+    (fault_weaker c.in_err-segments.field-0.0 (λ (d : Damage). (s : Listed) × Contains c.args.c.now.listed s × IsListedDamage s d) (IsAttachDamage c.args.c.now)
+    (listed_shown c.args.c.now) c.in_err-segments.ensures.shown) in
+    let damage : IsTrue g.F.Pages.told → OnDamage c.from_residual-in_err-segments.result (IsAttachDamageOf files c.args.c.now) = λ told.
+    let e = err_from_is_err_and c.from_residual-in_err-segments.result c.from_residual-in_err-segments.ensures.1 in
+    rw (e.1, e.2)
+    (fault_weaker c.in_err-segments.field-0.0 (λ (d : Damage). (s : Listed) × Contains c.args.c.now.listed s × IsListedDamageOf files c.args.c.now s d)
+    (IsAttachDamageOf files c.args.c.now) (listed_of files c.args.c.now) (c.in_err-segments.ensures.damage told)) in
+    record {
+      whole = λ told says state stored.
+          let e = err_from_is_err_and c.from_residual-in_err-segments.result c.from_residual-in_err-segments.ensures.1 in
+          rw (e.1, e.2)
+          (whole_listed (g.F.Pages.files c.args.folder.now) c.args.c.now c.in_err-segments.field-0.0 (c.in_err-segments.ensures.whole told) says state stored);
+      undefined = λ told says.
+          let files = g.F.Pages.files c.args.folder.now in
+          let e = err_from_is_err_and c.from_residual-in_err-segments.result c.from_residual-in_err-segments.ensures.1 in
+          rw (e.1, e.2)
+          (undefined_fault files c.in_err-segments.field-0.0
+          (whole_listed files c.args.c.now c.in_err-segments.field-0.0 (c.in_err-segments.ensures.whole told) says));
+      shown = shown;
+      damage = damage;
+      evident = on_attach_evident (IsTrue g.F.Pages.told × IsCommitFile (bytes_of (files Commit)) c.args.c.now) files c.args.c.now
+          c.from_residual-in_err-segments.result (λ h. h.1) (λ h. damage h.0) shown;
+    }
 
-pub returns-in_err-check_numbers-clause-evident : goal.returns-in_err-check_numbers-clause-evident
-returns-in_err-check_numbers-clause-evident g c =
+pub returns-in_err-check_numbers-clause-damaged : goal.returns-in_err-check_numbers-clause-damaged
+returns-in_err-check_numbers-clause-damaged g c =
     let files = g.F.Pages.files c.args.folder.now in
-    on_attach_evident (IsTrue g.F.Pages.told × IsCommitFile (bytes_of (files Commit)) c.args.c.now) files c.args.c.now
-    c.from_residual-in_err-check_numbers.result (λ h. h.1)
-    (λ h. returns-in_err-check_numbers-clause-damage g c h.0) (returns-in_err-check_numbers-clause-shown g c)
+    let shown : OnDamage c.from_residual-in_err-check_numbers.result (IsAttachDamage c.args.c.now) =
+    let e = err_from_is_err_and c.from_residual-in_err-check_numbers.result c.from_residual-in_err-check_numbers.ensures.1 in
+    let shown = subst
+    (λ (n : ℕ). FaultShows (IsMisplaced (λ doc. 1 ≤ places doc c.lives.result.now) (λ doc. 2 ≤ places doc c.lives.result.now) n)
+    c.in_err-check_numbers.field-0.0) c.next.ensures.value c.in_err-check_numbers.ensures.shown in
+    rw (e.1, e.2)
+    (fault_weaker c.in_err-check_numbers.field-0.0
+    (IsMisplaced (λ doc. 1 ≤ places doc c.lives.result.now) (λ doc. 2 ≤ places doc c.lives.result.now) c.args.c.now.next) (IsAttachDamage c.args.c.now)
+    (misplaced_shown (λ doc. 1 ≤ places doc c.lives.result.now) (λ doc. 2 ≤ places doc c.lives.result.now) c.args.c.now) shown) in
+    let damage : IsTrue g.F.Pages.told → OnDamage c.from_residual-in_err-check_numbers.result (IsAttachDamageOf files c.args.c.now) = λ told.
+    let sets = lives_of c.in_ok-segments.segments in
+    let e = err_from_is_err_and c.from_residual-in_err-check_numbers.result c.from_residual-in_err-check_numbers.ensures.1 in
+    let shown = subst (λ (n : ℕ). FaultShows (IsMisplaced (λ doc. 1 ≤ places doc sets) (λ doc. 2 ≤ places doc sets) n) c.in_err-check_numbers.field-0.0)
+    c.next.ensures.value
+    (subst (λ (ss : List LiveSet).
+    FaultShows (IsMisplaced (λ doc. 1 ≤ places doc ss) (λ doc. 2 ≤ places doc ss) c.next.result) c.in_err-check_numbers.field-0.0) c.lives.ensures
+    c.in_err-check_numbers.ensures.shown) in
+    rw (e.1, e.2)
+    (misplaced_of files c.args.c.now sets c.in_err-check_numbers.field-0.0
+    (opened_lives (IsTrue g.F.Pages.told) files c.args.c.now c.in_ok-segments.segments told c.in_ok-segments.ensures.opened) shown) in
+    record {
+      whole = λ told says state stored.
+          let files = g.F.Pages.files c.args.folder.now in
+          let parts = c.in_ok-segments.segments in
+          let sets = lives_of parts in
+          let e = err_from_is_err_and c.from_residual-in_err-check_numbers.result c.from_residual-in_err-check_numbers.ensures.1 in
+          let shown = subst (λ (n : ℕ). FaultShows (IsMisplaced (λ doc. 1 ≤ places doc sets) (λ doc. 2 ≤ places doc sets) n) c.in_err-check_numbers.field-0.0)
+          c.next.ensures.value
+          (subst (λ (ss : List LiveSet).
+          FaultShows (IsMisplaced (λ doc. 1 ≤ places doc ss) (λ doc. 2 ≤ places doc ss) c.next.result) c.in_err-check_numbers.field-0.0) c.lives.ensures
+          c.in_err-check_numbers.ensures.shown) in
+          rw (e.1, e.2)
+          (whole_placed files c.args.c.now parts c.in_err-check_numbers.field-0.0
+          (opened_heads (IsTrue g.F.Pages.told) files c.args.c.now parts told c.in_ok-segments.ensures.opened)
+          (opened_lives (IsTrue g.F.Pages.told) files c.args.c.now parts told c.in_ok-segments.ensures.opened) shown says state stored);
+      undefined = λ told says.
+          let files = g.F.Pages.files c.args.folder.now in
+          let parts = c.in_ok-segments.segments in
+          let sets = lives_of parts in
+          let e = err_from_is_err_and c.from_residual-in_err-check_numbers.result c.from_residual-in_err-check_numbers.ensures.1 in
+          let shown = subst (λ (n : ℕ). FaultShows (IsMisplaced (λ doc. 1 ≤ places doc sets) (λ doc. 2 ≤ places doc sets) n) c.in_err-check_numbers.field-0.0)
+          c.next.ensures.value
+          (subst (λ (ss : List LiveSet).
+          FaultShows (IsMisplaced (λ doc. 1 ≤ places doc ss) (λ doc. 2 ≤ places doc ss) c.next.result) c.in_err-check_numbers.field-0.0) c.lives.ensures
+          c.in_err-check_numbers.ensures.shown) in
+          rw (e.1, e.2)
+          (undefined_fault files c.in_err-check_numbers.field-0.0
+          (whole_placed files c.args.c.now parts c.in_err-check_numbers.field-0.0
+          (opened_heads (IsTrue g.F.Pages.told) files c.args.c.now parts told c.in_ok-segments.ensures.opened)
+          (opened_lives (IsTrue g.F.Pages.told) files c.args.c.now parts told c.in_ok-segments.ensures.opened) shown says));
+      shown = shown;
+      damage = damage;
+      evident = on_attach_evident (IsTrue g.F.Pages.told × IsCommitFile (bytes_of (files Commit)) c.args.c.now) files c.args.c.now
+          c.from_residual-in_err-check_numbers.result (λ h. h.1) (λ h. damage h.0) shown;
+    }

@@ -26,10 +26,6 @@ returns-in_err-hits-clause-reads g c = λ n are.
     c.in_err-hits.ensures.reads n
     (subst (λ (b : CountedBox). AreTouched g.row.D (in_box b.bounds) (crosses b.bounds) (heads_of c.args.self.now.parts) n) (sym c.new-shape.ensures) are)
 
-pub returns-in_err-hits-clause-whole : goal.returns-in_err-hits-clause-whole
-returns-in_err-hits-clause-whole g c = λ told i seen.
-    let p = err_from_is_err_and c.from_residual.result c.from_residual.ensures.1 in rw (p.1, p.2) (c.in_err-hits.ensures.whole told i seen)
-
 pub returns-in_default-clause-reads : goal.returns-in_default-clause-reads
 returns-in_default-clause-reads g c = λ n are.
     c.in_ok-hits.ensures.reads n
@@ -69,62 +65,49 @@ returns-in_err-hits-clause-refused g c = λ told i seen.
 pub returns-in_err-hits-clause-files : goal.returns-in_err-hits-clause-files
 returns-in_err-hits-clause-files g c = c.visit.ensures.files
 
-pub returns-in_err-hits-clause-stays : goal.returns-in_err-hits-clause-stays
-returns-in_err-hits-clause-stays g c = stays_cached c.args.self.now c.visit.new.self c.visit.ensures.alone
-
-pub returns-in_err-hits-clause-follows : goal.returns-in_err-hits-clause-follows
-returns-in_err-hits-clause-follows g c = follows_cached c.args.self.now c.visit.new.self c.visit.ensures.alone
-
-pub returns-in_err-hits-clause-names : goal.returns-in_err-hits-clause-names
-returns-in_err-hits-clause-names g c = ap (λ (s : SetData). s.names) c.visit.ensures.alone.is
-
-pub returns-in_err-hits-clause-saved : goal.returns-in_err-hits-clause-saved
-returns-in_err-hits-clause-saved g c = ap (λ (s : SetData). s.saved) c.visit.ensures.alone.is
+pub returns-in_err-hits-clause-deletes : goal.returns-in_err-hits-clause-deletes
+returns-in_err-hits-clause-deletes g c = record {
+  stays = stays_cached c.args.self.now c.visit.new.self c.visit.ensures.alone;
+  follows = follows_cached c.args.self.now c.visit.new.self c.visit.ensures.alone;
+  names = ap (λ (s : SetData). s.names) c.visit.ensures.alone.is;
+  saved = ap (λ (s : SetData). s.saved) c.visit.ensures.alone.is;
+}
 
 pub returns-in_default-clause-files : goal.returns-in_default-clause-files
 returns-in_default-clause-files g c = c.visit.ensures.files
 
-pub returns-in_default-clause-stays : goal.returns-in_default-clause-stays
-returns-in_default-clause-stays g c = stays_cached c.args.self.now c.visit.new.self c.visit.ensures.alone
-
-pub returns-in_default-clause-follows : goal.returns-in_default-clause-follows
-returns-in_default-clause-follows g c = follows_cached c.args.self.now c.visit.new.self c.visit.ensures.alone
-
-pub returns-in_default-clause-names : goal.returns-in_default-clause-names
-returns-in_default-clause-names g c = ap (λ (s : SetData). s.names) c.visit.ensures.alone.is
-
-pub returns-in_default-clause-saved : goal.returns-in_default-clause-saved
-returns-in_default-clause-saved g c = ap (λ (s : SetData). s.saved) c.visit.ensures.alone.is
+pub returns-in_default-clause-deletes : goal.returns-in_default-clause-deletes
+returns-in_default-clause-deletes g c = record {
+  stays = stays_cached c.args.self.now c.visit.new.self c.visit.ensures.alone;
+  follows = follows_cached c.args.self.now c.visit.new.self c.visit.ensures.alone;
+  names = ap (λ (s : SetData). s.names) c.visit.ensures.alone.is;
+  saved = ap (λ (s : SetData). s.saved) c.visit.ensures.alone.is;
+}
 
 pub returns-in_err-hits-clause-cause : goal.returns-in_err-hits-clause-cause
 returns-in_err-hits-clause-cause g c =
     same_cause (g.F.Pages.faults c.args.folder.now) (g.F.Pages.faults c.visit.new.folder) c.in_err-hits.field-0.0 c.from_residual.result
     c.from_residual.ensures.1 c.in_err-hits.ensures.cause
 
-pub returns-in_err-hits-clause-shown : goal.returns-in_err-hits-clause-shown
-returns-in_err-hits-clause-shown g c =
-    same_damage (IsPartDamage g.row.D c.args.self.now.parts) c.in_err-hits.field-0.0 c.from_residual.result c.from_residual.ensures.1
-    c.in_err-hits.ensures.shown
-
-pub returns-in_err-hits-clause-damage : goal.returns-in_err-hits-clause-damage
-returns-in_err-hits-clause-damage g c = λ told agrees.
-    same_damage (IsLeafDamageOf (g.F.Pages.files c.args.folder.now)) c.in_err-hits.field-0.0 c.from_residual.result c.from_residual.ensures.1
-    (c.in_err-hits.ensures.damage told agrees)
-
 pub returns-in_err-hits-clause-faithful : goal.returns-in_err-hits-clause-faithful
 returns-in_err-hits-clause-faithful g c = λ told keeps. c.visit.ensures.faithful told keeps
 
-pub returns-in_err-hits-clause-evident : goal.returns-in_err-hits-clause-evident
-returns-in_err-hits-clause-evident g c =
-    same_damage (IsEvident (IsTrue g.F.Pages.told × IsFaithful g.row.D (g.F.Pages.files c.args.folder.now) c.args.self.now)
-    (g.F.Pages.files c.visit.new.folder))
-    c.in_err-hits.field-0.0 c.from_residual.result c.from_residual.ensures.1 c.in_err-hits.ensures.evident
+pub returns-in_err-hits-clause-damaged : goal.returns-in_err-hits-clause-damaged
+returns-in_err-hits-clause-damaged g c = record {
+  whole = λ told i seen.
+      let p = err_from_is_err_and c.from_residual.result c.from_residual.ensures.1 in
+      rw (p.1, p.2) (c.in_err-hits.ensures.damaged.whole told i seen);
+  shown = same_damage (IsPartDamage g.row.D c.args.self.now.parts) c.in_err-hits.field-0.0 c.from_residual.result c.from_residual.ensures.1
+      c.in_err-hits.ensures.damaged.shown;
+  damage = λ told agrees. same_damage (IsLeafDamageOf (g.F.Pages.files c.args.folder.now)) c.in_err-hits.field-0.0 c.from_residual.result
+      c.from_residual.ensures.1 (c.in_err-hits.ensures.damaged.damage told agrees);
+  evident = same_damage
+      (IsEvident (IsTrue g.F.Pages.told × IsFaithful g.row.D (g.F.Pages.files c.args.folder.now) c.args.self.now) (g.F.Pages.files c.visit.new.folder))
+      c.in_err-hits.field-0.0 c.from_residual.result c.from_residual.ensures.1 c.in_err-hits.ensures.damaged.evident;
+}
 
 pub returns-in_default-clause-faithful : goal.returns-in_default-clause-faithful
 returns-in_default-clause-faithful g c = λ told keeps. c.visit.ensures.faithful told keeps
-
-pub returns-in_default-clause-evident : goal.returns-in_default-clause-evident
-returns-in_default-clause-evident g c = tt
 
 pub returns-in_default-clause-seen : goal.returns-in_default-clause-seen
 returns-in_default-clause-seen g c = λ told i seen. tt
@@ -139,14 +122,13 @@ pub returns-in_default-clause-cause : goal.returns-in_default-clause-cause
 returns-in_default-clause-cause g c =
     memory_cause (g.F.Pages.faults c.args.folder.now) (g.F.Pages.faults c.visit.new.folder) c.in_ok-hits.ensures.cause.fine
 
-pub returns-in_default-clause-whole : goal.returns-in_default-clause-whole
-returns-in_default-clause-whole g c = λ told i seen. tt
-
-pub returns-in_default-clause-shown : goal.returns-in_default-clause-shown
-returns-in_default-clause-shown g c = tt
-
-pub returns-in_default-clause-damage : goal.returns-in_default-clause-damage
-returns-in_default-clause-damage g c = λ told agrees. tt
+pub returns-in_default-clause-damaged : goal.returns-in_default-clause-damaged
+returns-in_default-clause-damaged g c = record {
+  whole = λ told i seen. tt;
+  shown = tt;
+  damage = λ told agrees. tt;
+  evident = tt;
+}
 
 pub returns-clause-refused : goal.returns-clause-refused
 returns-clause-refused g c = λ told i seen. tt
@@ -154,41 +136,31 @@ returns-clause-refused g c = λ told i seen. tt
 pub returns-clause-files : goal.returns-clause-files
 returns-clause-files g c = c.visit.ensures.files
 
-pub returns-clause-stays : goal.returns-clause-stays
-returns-clause-stays g c =
-    stays_then c.args.self.now c.visit.new.self c.delete_all.new.self (stays_cached c.args.self.now c.visit.new.self c.visit.ensures.alone)
-    c.delete_all.ensures.stays
-
-pub returns-clause-follows : goal.returns-clause-follows
-returns-clause-follows g c =
-    follows_then c.args.self.now.names c.visit.new.self.names c.args.self.now.parts c.visit.new.self.parts c.delete_all.new.self.parts
-    (λ m named. ap (λ (s : SetData). is_named s.names.names m) c.visit.ensures.alone.is ∙ named)
-    (follows_cached c.args.self.now c.visit.new.self c.visit.ensures.alone) c.delete_all.ensures.follows
-
-pub returns-clause-names : goal.returns-clause-names
-returns-clause-names g c = c.delete_all.ensures.names ∙ ap (λ (s : SetData). s.names) c.visit.ensures.alone.is
-
-pub returns-clause-saved : goal.returns-clause-saved
-returns-clause-saved g c = c.delete_all.ensures.saved ∙ ap (λ (s : SetData). s.saved) c.visit.ensures.alone.is
+pub returns-clause-deletes : goal.returns-clause-deletes
+returns-clause-deletes g c = record {
+  stays = stays_then c.args.self.now c.visit.new.self c.delete_all.new.self (stays_cached c.args.self.now c.visit.new.self c.visit.ensures.alone)
+      c.delete_all.ensures.stays;
+  follows = follows_then c.args.self.now.names c.visit.new.self.names c.args.self.now.parts c.visit.new.self.parts c.delete_all.new.self.parts
+      (λ m named. ap (λ (s : SetData). is_named s.names.names m) c.visit.ensures.alone.is ∙ named)
+      (follows_cached c.args.self.now c.visit.new.self c.visit.ensures.alone) c.delete_all.ensures.follows;
+  names = c.delete_all.ensures.names ∙ ap (λ (s : SetData). s.names) c.visit.ensures.alone.is;
+  saved = c.delete_all.ensures.saved ∙ ap (λ (s : SetData). s.saved) c.visit.ensures.alone.is;
+}
 
 pub returns-clause-cause : goal.returns-clause-cause
 returns-clause-cause g c =
     done_cause (g.F.Pages.faults c.args.folder.now) (g.F.Pages.faults c.visit.new.folder) _ c.in_ok-hits.ensures.cause.fine
 
-pub returns-clause-whole : goal.returns-clause-whole
-returns-clause-whole g c = λ told i seen. tt
-
-pub returns-clause-shown : goal.returns-clause-shown
-returns-clause-shown g c = tt
-
-pub returns-clause-damage : goal.returns-clause-damage
-returns-clause-damage g c = λ told agrees. tt
-
 pub returns-clause-faithful : goal.returns-clause-faithful
 returns-clause-faithful g c = λ told keeps. c.delete_all.ensures.faithful (g.F.Pages.files c.visit.new.folder) (c.visit.ensures.faithful told keeps)
 
-pub returns-clause-evident : goal.returns-clause-evident
-returns-clause-evident g c = tt
+pub returns-clause-damaged : goal.returns-clause-damaged
+returns-clause-damaged g c = record {
+  whole = λ told i seen. tt;
+  shown = tt;
+  damage = λ told agrees. tt;
+  evident = tt;
+}
 
 pub returns-in_err-hits-clause-alone : goal.returns-in_err-hits-clause-alone
 returns-in_err-hits-clause-alone g c = at_error _ c.from_residual.result c.from_residual.ensures.1 _ c.visit.ensures.alone

@@ -137,38 +137,30 @@ returns-clause-fewer g c =
     c.merge.new.segments m.built m.replaces)
     (returns-clause-merged g c)
 
-pub returns-clause-whole : goal.returns-clause-whole
-returns-clause-whole g c = λ told i seen.
-    let s = was g c in
-    let h = subst (λ (u : SetData). Sees g.row.D (g.F.Pages.files c.args.folder.now) u i) (sym c.self.view_is) seen in
-    c.merge.ensures.whole told h.stands.agrees h.contents h.stands.now s.next (merge_docs g.row.D (g.F.Pages.files c.args.folder.now) s i h c.args.ids.now)
-    (subst (λ n. length (live_in_parts h.contents (parts_among c.args.ids.now s.parts)) ≤ n)
-    (ap (λ (u : SetData). u.given) c.self.view_is ∙ sym c.plan-plan.ensures.given) (merge_few g.row.D (g.F.Pages.files c.args.folder.now) s i h c.args.ids.now))
-
 given_is : (g : given.Over) (c : goal.After-merge g) → c.plan-plan.result.given ≡ c.self.inside.given
 given_is g c = c.plan-plan.ensures.given ∙ sym (ap (λ (s : SetData). s.given) c.self.view_is)
 
-pub returns-clause-shown : goal.returns-clause-shown
-returns-clause-shown g c =
-    subst (λ (s : SetData). OnDamage c.merge.result (IsMergeDamage g.row.D s.given s.names s.parts)) c.self.view_is
-    (subst (λ n. OnDamage c.merge.result (IsMergeDamage g.row.D n c.self.inside.names c.self.inside.segments)) (given_is g c) c.merge.ensures.shown)
-
-pub returns-clause-damage : goal.returns-clause-damage
-returns-clause-damage g c = λ told agrees.
-    subst (λ n. OnDamage c.merge.result (IsMergeDamageOf (g.F.Pages.files c.merge.new.folder) n)) c.plan-plan.ensures.given
-    (c.merge.ensures.damage told (subst (λ (s : SetData). Agrees (g.F.Pages.files c.args.folder.now) s.cache) (sym c.self.view_is) agrees))
-
-pub returns-clause-doubled : goal.returns-clause-doubled
-returns-clause-doubled g c = λ told agrees contents reads.
-    subst (λ (s : SetData). OnDamage c.merge.result (IsDoubt s.given (live_in_parts contents s.parts))) c.self.view_is
-    (subst (λ n. OnDamage c.merge.result (IsDoubt n (live_in_parts contents c.self.inside.segments))) (given_is g c)
-    (c.merge.ensures.doubled told (subst (λ (s : SetData). Agrees (g.F.Pages.files c.args.folder.now) s.cache) (sym c.self.view_is) agrees) contents
-    (subst (λ (s : SetData). AreRead g.row.D (g.F.Pages.files c.args.folder.now) contents s.parts) (sym c.self.view_is) reads)))
-
-pub returns-clause-evident : goal.returns-clause-evident
-returns-clause-evident g c =
-    on_evident_set g.row.D g.F.Pages.told (g.F.Pages.files c.args.folder.now) (g.F.Pages.files c.merge.new.folder) (was g c) c.args.self.now c.merge.result
-    c.self.view_is c.self.invariant.spread c.merge.ensures.evident
+pub returns-clause-damaged : goal.returns-clause-damaged
+returns-clause-damaged g c = record {
+  whole = λ told i seen.
+      let s = was g c in
+      let h = subst (λ (u : SetData). Sees g.row.D (g.F.Pages.files c.args.folder.now) u i) (sym c.self.view_is) seen in
+      c.merge.ensures.whole told h.stands.agrees h.contents h.stands.now s.next (merge_docs g.row.D (g.F.Pages.files c.args.folder.now) s i h c.args.ids.now)
+      (subst (λ n. length (live_in_parts h.contents (parts_among c.args.ids.now s.parts)) ≤ n)
+      (ap (λ (u : SetData). u.given) c.self.view_is ∙ sym c.plan-plan.ensures.given)
+      (merge_few g.row.D (g.F.Pages.files c.args.folder.now) s i h c.args.ids.now));
+  shown = subst (λ (s : SetData). OnDamage c.merge.result (IsMergeDamage g.row.D s.given s.names s.parts)) c.self.view_is
+      (subst (λ n. OnDamage c.merge.result (IsMergeDamage g.row.D n c.self.inside.names c.self.inside.segments)) (given_is g c) c.merge.ensures.shown);
+  damage = λ told agrees. subst (λ n. OnDamage c.merge.result (IsMergeDamageOf (g.F.Pages.files c.merge.new.folder) n)) c.plan-plan.ensures.given
+      (c.merge.ensures.damage told (subst (λ (s : SetData). Agrees (g.F.Pages.files c.args.folder.now) s.cache) (sym c.self.view_is) agrees));
+  doubled = λ told agrees contents reads.
+      subst (λ (s : SetData). OnDamage c.merge.result (IsDoubt s.given (live_in_parts contents s.parts))) c.self.view_is
+      (subst (λ n. OnDamage c.merge.result (IsDoubt n (live_in_parts contents c.self.inside.segments))) (given_is g c)
+      (c.merge.ensures.doubled told (subst (λ (s : SetData). Agrees (g.F.Pages.files c.args.folder.now) s.cache) (sym c.self.view_is) agrees) contents
+      (subst (λ (s : SetData). AreRead g.row.D (g.F.Pages.files c.args.folder.now) contents s.parts) (sym c.self.view_is) reads)));
+  evident = on_evident_set g.row.D g.F.Pages.told (g.F.Pages.files c.args.folder.now) (g.F.Pages.files c.merge.new.folder) (was g c) c.args.self.now
+      c.merge.result c.self.view_is c.self.invariant.spread c.merge.ensures.evident;
+}
 
 pub returns-clause-alone : goal.returns-clause-alone
 returns-clause-alone g c = but_parts c.args.self.now (was g c) c.self.view_is c.merge.new.names c.merge.new.segments c.merge.new.cache

@@ -16,123 +16,34 @@ use Rattle.segment_set.proofs.Rearranged.{rearranges_none}
 use Rattle.segment_set.proofs.Wholes.{IsOne, merged_one, settled_one, tidy_from, tidy_to}
 use Rattle.segment_set.proofs.Refused.{at_error, memory_caused, memory_damage, never_ok}
 use Rattle.segment_set.proofs.Saving.{done_cause}
-use Rattle.segment_set.specs.Damages.{IsDoubt, IsMergeDamage, IsMergeDamageOf}
-use Rattle.index_opening.specs.Evidence.{IsEvidentIn}
-use Rattle.segment_view.specs.LiveSegments.{ids_of, live_in_parts, parts_among, parts_but}
-use Rattle.segment_set.proofs.Trusted.{IsTrusted}
+use Rattle.segment_view.specs.LiveSegments.{ids_of, parts_among, parts_but}
+use Rattle.segment_set.proofs.Shows.{shows_none}
 use Rattle.segment_set.proofs.set.SegmentSet.merge_all.Goals as goal
 
-pub returns-in_err-ids-clause-stays : goal.returns-in_err-ids-clause-stays
-returns-in_err-ids-clause-stays g c =
-    (rearranges_none g.row.D (IsTrue g.F.Pages.told) (g.F.Pages.files c.args.folder.now) c.args.self.now c.unpinned.ensures.well.named).stays
-
-pub returns-in_err-ids-clause-kept : goal.returns-in_err-ids-clause-kept
-returns-in_err-ids-clause-kept g c =
-    (rearranges_none g.row.D (IsTrue g.F.Pages.told) (g.F.Pages.files c.args.folder.now) c.args.self.now c.unpinned.ensures.well.named).kept
-
-pub returns-in_err-ids-clause-follows : goal.returns-in_err-ids-clause-follows
-returns-in_err-ids-clause-follows g c =
-    (rearranges_none g.row.D (IsTrue g.F.Pages.told) (g.F.Pages.files c.args.folder.now) c.args.self.now c.unpinned.ensures.well.named).follows
-
-pub returns-in_err-ids-clause-canon : goal.returns-in_err-ids-clause-canon
-returns-in_err-ids-clause-canon g c =
-    (rearranges_none g.row.D (IsTrue g.F.Pages.told) (g.F.Pages.files c.args.folder.now) c.args.self.now c.unpinned.ensures.well.named).canon
-
-pub returns-then-is_settled-clause-stays : goal.returns-then-is_settled-clause-stays
-returns-then-is_settled-clause-stays g c =
-    (rearranges_none g.row.D (IsTrue g.F.Pages.told) (g.F.Pages.files c.args.folder.now) c.args.self.now c.unpinned.ensures.well.named).stays
-
-pub returns-then-is_settled-clause-kept : goal.returns-then-is_settled-clause-kept
-returns-then-is_settled-clause-kept g c =
-    (rearranges_none g.row.D (IsTrue g.F.Pages.told) (g.F.Pages.files c.args.folder.now) c.args.self.now c.unpinned.ensures.well.named).kept
-
-pub returns-then-is_settled-clause-follows : goal.returns-then-is_settled-clause-follows
-returns-then-is_settled-clause-follows g c =
-    (rearranges_none g.row.D (IsTrue g.F.Pages.told) (g.F.Pages.files c.args.folder.now) c.args.self.now c.unpinned.ensures.well.named).follows
-
-pub returns-then-is_settled-clause-canon : goal.returns-then-is_settled-clause-canon
-returns-then-is_settled-clause-canon g c =
-    (rearranges_none g.row.D (IsTrue g.F.Pages.told) (g.F.Pages.files c.args.folder.now) c.args.self.now c.unpinned.ensures.well.named).canon
-
-pub returns-clause-seen : goal.returns-clause-seen
-returns-clause-seen g c = c.merge.ensures.moves.seen
-
-pub returns-clause-stays : goal.returns-clause-stays
-returns-clause-stays g c = c.merge.ensures.moves.stays
-
-pub returns-clause-kept : goal.returns-clause-kept
-returns-clause-kept g c = c.merge.ensures.moves.kept
-
-pub returns-clause-follows : goal.returns-clause-follows
-returns-clause-follows g c = c.merge.ensures.moves.follows
-
-pub returns-clause-saved : goal.returns-clause-saved
-returns-clause-saved g c = c.merge.ensures.moves.saved
-
-pub returns-clause-begun : goal.returns-clause-begun
-returns-clause-begun g c = c.merge.ensures.moves.begun
-
-pub returns-clause-canon : goal.returns-clause-canon
-returns-clause-canon g c = c.merge.ensures.moves.canon
-
-pub returns-in_err-ids-clause-seen : goal.returns-in_err-ids-clause-seen
-returns-in_err-ids-clause-seen g c = λ told i seen. seen
+pub returns-clause-moves : goal.returns-clause-moves
+returns-clause-moves g c = c.merge.ensures.moves
 
 pub returns-in_err-ids-clause-buffer : goal.returns-in_err-ids-clause-buffer
 returns-in_err-ids-clause-buffer g c = refl
 
-pub returns-in_err-ids-clause-saved : goal.returns-in_err-ids-clause-saved
-returns-in_err-ids-clause-saved g c = refl
-
-pub returns-in_err-ids-clause-begun : goal.returns-in_err-ids-clause-begun
-returns-in_err-ids-clause-begun g c = refl
-
-pub returns-then-is_settled-clause-seen : goal.returns-then-is_settled-clause-seen
-returns-then-is_settled-clause-seen g c = λ told i seen. seen
+pub returns-in_err-ids-clause-moves : goal.returns-in_err-ids-clause-moves
+returns-in_err-ids-clause-moves g c =
+    rearranges_none g.row.D (IsTrue g.F.Pages.told) (g.F.Pages.files c.args.folder.now) c.args.self.now c.unpinned.ensures.well.named
 
 pub returns-then-is_settled-clause-buffer : goal.returns-then-is_settled-clause-buffer
 returns-then-is_settled-clause-buffer g c = refl
 
-pub returns-then-is_settled-clause-saved : goal.returns-then-is_settled-clause-saved
-returns-then-is_settled-clause-saved g c = refl
-
-pub returns-then-is_settled-clause-begun : goal.returns-then-is_settled-clause-begun
-returns-then-is_settled-clause-begun g c = refl
+pub returns-then-is_settled-clause-moves : goal.returns-then-is_settled-clause-moves
+returns-then-is_settled-clause-moves g c =
+    rearranges_none g.row.D (IsTrue g.F.Pages.told) (g.F.Pages.files c.args.folder.now) c.args.self.now c.unpinned.ensures.well.named
 
 pub returns-in_err-ids-clause-cause : goal.returns-in_err-ids-clause-cause
 returns-in_err-ids-clause-cause g c =
     memory_caused (g.F.Pages.faults c.args.folder.now) (g.F.Pages.faults c.args.folder.now) c.from_residual.result c.from_residual.ensures.1 refl
 
-pub returns-in_err-ids-clause-whole : goal.returns-in_err-ids-clause-whole
-returns-in_err-ids-clause-whole g c = λ told i seen. memory_damage (λ _. ⊥) c.from_residual.result c.from_residual.ensures.1
-
-pub returns-in_err-ids-clause-shown : goal.returns-in_err-ids-clause-shown
-returns-in_err-ids-clause-shown g c =
-    memory_damage (IsMergeDamage g.row.D c.args.self.now.given c.args.self.now.names c.args.self.now.parts) c.from_residual.result c.from_residual.ensures.1
-
-pub returns-in_err-ids-clause-damage : goal.returns-in_err-ids-clause-damage
-returns-in_err-ids-clause-damage g c = λ told agrees.
-    memory_damage (IsMergeDamageOf (g.F.Pages.files c.args.folder.now) c.args.self.now.given) c.from_residual.result c.from_residual.ensures.1
-
-pub returns-in_err-ids-clause-doubled : goal.returns-in_err-ids-clause-doubled
-returns-in_err-ids-clause-doubled g c = λ told agrees contents reads.
-    memory_damage (IsDoubt c.args.self.now.given (live_in_parts contents c.args.self.now.parts)) c.from_residual.result c.from_residual.ensures.1
-
 pub returns-then-is_settled-clause-cause : goal.returns-then-is_settled-clause-cause
 returns-then-is_settled-clause-cause g c =
     done_cause (g.F.Pages.faults c.args.folder.now) (g.F.Pages.faults c.args.folder.now) _ refl
-
-pub returns-then-is_settled-clause-whole : goal.returns-then-is_settled-clause-whole
-returns-then-is_settled-clause-whole g c = λ told i seen. tt
-
-pub returns-then-is_settled-clause-shown : goal.returns-then-is_settled-clause-shown
-returns-then-is_settled-clause-shown g c = tt
-
-pub returns-then-is_settled-clause-damage : goal.returns-then-is_settled-clause-damage
-returns-then-is_settled-clause-damage g c = λ told agrees. tt
-
-pub returns-then-is_settled-clause-doubled : goal.returns-then-is_settled-clause-doubled
-returns-then-is_settled-clause-doubled g c = λ told agrees contents reads. tt
 
 pub returns-clause-buffer : goal.returns-clause-buffer
 returns-clause-buffer g c = c.merge.ensures.buffer
@@ -140,38 +51,26 @@ returns-clause-buffer g c = c.merge.ensures.buffer
 pub returns-clause-cause : goal.returns-clause-cause
 returns-clause-cause g c = c.merge.ensures.cause
 
-pub returns-clause-whole : goal.returns-clause-whole
-returns-clause-whole g c = c.merge.ensures.whole
-
-pub returns-clause-shown : goal.returns-clause-shown
-returns-clause-shown g c = c.merge.ensures.shown
-
-pub returns-clause-damage : goal.returns-clause-damage
-returns-clause-damage g c = c.merge.ensures.damage
-
-pub returns-clause-doubled : goal.returns-clause-doubled
-returns-clause-doubled g c = c.merge.ensures.doubled
-
 pub returns-in_err-ids-clause-faithful : goal.returns-in_err-ids-clause-faithful
 returns-in_err-ids-clause-faithful g c = λ told faithful. faithful
 
-pub returns-in_err-ids-clause-evident : goal.returns-in_err-ids-clause-evident
-returns-in_err-ids-clause-evident g c =
-    memory_damage
-    (IsEvidentIn g.row.D c.args.self.now.parts (IsTrusted g.F.Pages.told g.row.D (g.F.Pages.files c.args.folder.now) c.args.self.now)
-    (g.F.Pages.files c.args.folder.now)) c.from_residual.result c.from_residual.ensures.1
+pub returns-in_err-ids-clause-damaged : goal.returns-in_err-ids-clause-damaged
+returns-in_err-ids-clause-damaged g c =
+    shows_none g.row.D (IsTrue g.F.Pages.told) (g.F.Pages.files c.args.folder.now) (g.F.Pages.files c.args.folder.now) c.args.self.now
+    _ (λ P. memory_damage P c.from_residual.result c.from_residual.ensures.1)
 
 pub returns-then-is_settled-clause-faithful : goal.returns-then-is_settled-clause-faithful
 returns-then-is_settled-clause-faithful g c = λ told faithful. faithful
 
-pub returns-then-is_settled-clause-evident : goal.returns-then-is_settled-clause-evident
-returns-then-is_settled-clause-evident g c = tt
+pub returns-then-is_settled-clause-damaged : goal.returns-then-is_settled-clause-damaged
+returns-then-is_settled-clause-damaged g c =
+    shows_none g.row.D (IsTrue g.F.Pages.told) (g.F.Pages.files c.args.folder.now) (g.F.Pages.files c.args.folder.now) c.args.self.now _ (λ P. tt)
 
 pub returns-clause-faithful : goal.returns-clause-faithful
 returns-clause-faithful g c = c.merge.ensures.faithful
 
-pub returns-clause-evident : goal.returns-clause-evident
-returns-clause-evident g c = c.merge.ensures.evident
+pub returns-clause-damaged : goal.returns-clause-damaged
+returns-clause-damaged g c = c.merge.ensures.damaged
 
 -- ---- the segments that are no inputs
 

@@ -80,48 +80,6 @@ returns-in_err-built-clause-cause g c =
     rw (p.1, p.2)
     (begun_cause (g.F.Pages.faults c.args.folder.now) (g.F.Pages.faults c.gathered.new.folder) c.in_err-built.field-0.0 c.in_err-built.ensures.cause)
 
-pub returns-in_err-built-clause-whole : goal.returns-in_err-built-clause-whole
-returns-in_err-built-clause-whole g c = λ told i seen.
-    let p = err_from_is_err_and c.from_residual-in_err-built.result c.from_residual-in_err-built.ensures.1 in
-    let s = set_of c.self.inside in
-    let h = subst (λ (u : SetData). Sees g.row.D (g.F.Pages.files c.args.folder.now) u i) (sym c.self.view_is) seen in
-    rw (p.1, p.2)
-    (begun_damage (Unit {0}) (Unit {0}) (λ _. ⊥) c.in_err-built.field-0.0
-    (c.in_err-built.ensures.whole told h.stands.agrees h.contents h.stands.now s.next
-    (merge_docs g.row.D (g.F.Pages.files c.args.folder.now) s i h c.as_slice-2.result.now)
-    (subst (λ n. length (live_in_parts h.contents (parts_among c.as_slice-2.result.now s.parts)) ≤ n)
-    (ap (λ (u : SetData). u.given) c.self.view_is ∙ sym c.plan-plan.ensures.given)
-    (merge_few g.row.D (g.F.Pages.files c.args.folder.now) s i h c.as_slice-2.result.now))))
-
-pub returns-in_err-built-clause-shown : goal.returns-in_err-built-clause-shown
-returns-in_err-built-clause-shown g c =
-    let p = err_from_is_err_and c.from_residual-in_err-built.result c.from_residual-in_err-built.ensures.1 in
-    rw (p.1, p.2)
-    (begun_damage (Unit {0}) (Unit {0}) (IsMergeDamage g.row.D c.args.self.now.given c.args.self.now.names c.args.self.now.parts) c.in_err-built.field-0.0
-    (subst (λ n. OnDamage {T = Unit {0}} (Err c.in_err-built.field-0.0) (IsMergeDamage g.row.D n c.args.self.now.names c.args.self.now.parts))
-    c.plan-plan.ensures.given
-    (subst (λ (s : SetData). OnDamage {T = Unit {0}} (Err c.in_err-built.field-0.0) (IsMergeDamage g.row.D c.plan-plan.result.given s.names s.parts))
-    c.self.view_is (c.in_err-built.ensures.shown c.self.inside.names))))
-
-pub returns-in_err-built-clause-damage : goal.returns-in_err-built-clause-damage
-returns-in_err-built-clause-damage g c = λ told agrees.
-    let p = err_from_is_err_and c.from_residual-in_err-built.result c.from_residual-in_err-built.ensures.1 in
-    rw (p.1, p.2)
-    (begun_damage (Unit {0}) (Unit {0}) (IsMergeDamageOf (g.F.Pages.files c.gathered.new.folder) c.args.self.now.given) c.in_err-built.field-0.0
-    (subst (λ n. OnDamage {T = Unit {0}} (Err c.in_err-built.field-0.0) (IsMergeDamageOf (g.F.Pages.files c.gathered.new.folder) n)) c.plan-plan.ensures.given
-    (c.in_err-built.ensures.damage told (subst (λ (s : SetData). Agrees (g.F.Pages.files c.args.folder.now) s.cache) (sym c.self.view_is) agrees))))
-
-pub returns-in_err-built-clause-doubled : goal.returns-in_err-built-clause-doubled
-returns-in_err-built-clause-doubled g c = λ told agrees contents reads.
-    let p = err_from_is_err_and c.from_residual-in_err-built.result c.from_residual-in_err-built.ensures.1 in
-    rw (p.1, p.2)
-    (begun_damage (Unit {0}) (Unit {0}) (IsDoubt c.args.self.now.given (live_in_parts contents c.args.self.now.parts)) c.in_err-built.field-0.0
-    (subst (λ n. OnDamage {T = Unit {0}} (Err c.in_err-built.field-0.0) (IsDoubt n (live_in_parts contents c.args.self.now.parts))) c.plan-plan.ensures.given
-    (subst (λ (s : SetData). OnDamage {T = Unit {0}} (Err c.in_err-built.field-0.0) (IsDoubt c.plan-plan.result.given (live_in_parts contents s.parts)))
-    c.self.view_is
-    (c.in_err-built.ensures.doubled told (subst (λ (s : SetData). Agrees (g.F.Pages.files c.args.folder.now) s.cache) (sym c.self.view_is) agrees) contents
-    (subst (λ (s : SetData). AreRead g.row.D (g.F.Pages.files c.args.folder.now) contents s.parts) (sym c.self.view_is) reads)))))
-
 -- the inputs are those of the positions
 chosen : (g : given.Over) (c : goal.Joined-self g) → c.in_ok-inputs.inputs.items ≡ chosen_ids c.args.which.now (ids_of c.self.inside.segments)
 chosen g c =
@@ -175,15 +133,51 @@ returns-in_err-built-clause-faithful g c =
     faithful_looked g.row.D g.F.Pages.told (g.F.Pages.files c.args.folder.now) (g.F.Pages.files c.gathered.new.folder) (set_of c.self.inside) c.args.self.now
     (ids_of (parts_among c.as_slice-2.result.now c.self.inside.segments)) c.self.inside.begun c.gathered.new.cache c.self.view_is c.gathered.ensures.calm
 
-pub returns-in_err-built-clause-evident : goal.returns-in_err-built-clause-evident
-returns-in_err-built-clause-evident g c =
-    let p = err_from_is_err_and c.from_residual-in_err-built.result c.from_residual-in_err-built.ensures.1 in
-    rw (p.1, p.2)
-    (begun_damage (Unit {0}) (Unit {0})
-    (IsEvidentIn g.row.D c.args.self.now.parts (IsTrusted g.F.Pages.told g.row.D (g.F.Pages.files c.args.folder.now) c.args.self.now)
-    (g.F.Pages.files c.gathered.new.folder)) c.in_err-built.field-0.0
-    (on_evident_set {X = Unit {0}} g.row.D g.F.Pages.told (g.F.Pages.files c.args.folder.now) (g.F.Pages.files c.gathered.new.folder) (set_of c.self.inside)
-    c.args.self.now (Err c.in_err-built.field-0.0) c.self.view_is c.self.invariant.spread c.in_err-built.ensures.evident))
+pub returns-in_err-built-clause-damaged : goal.returns-in_err-built-clause-damaged
+returns-in_err-built-clause-damaged g c = record {
+  whole = λ told i seen.
+      let p = err_from_is_err_and c.from_residual-in_err-built.result c.from_residual-in_err-built.ensures.1 in
+      let s = set_of c.self.inside in
+      let h = subst (λ (u : SetData). Sees g.row.D (g.F.Pages.files c.args.folder.now) u i) (sym c.self.view_is) seen in
+      rw (p.1, p.2)
+      (begun_damage (Unit {0}) (Unit {0}) (λ _. ⊥) c.in_err-built.field-0.0
+      (c.in_err-built.ensures.whole told h.stands.agrees h.contents h.stands.now s.next
+      (merge_docs g.row.D (g.F.Pages.files c.args.folder.now) s i h c.as_slice-2.result.now)
+      (subst (λ n. length (live_in_parts h.contents (parts_among c.as_slice-2.result.now s.parts)) ≤ n)
+      (ap (λ (u : SetData). u.given) c.self.view_is ∙ sym c.plan-plan.ensures.given)
+      (merge_few g.row.D (g.F.Pages.files c.args.folder.now) s i h c.as_slice-2.result.now))));
+  shown =
+      let p = err_from_is_err_and c.from_residual-in_err-built.result c.from_residual-in_err-built.ensures.1 in
+      rw (p.1, p.2)
+      (begun_damage (Unit {0}) (Unit {0}) (IsMergeDamage g.row.D c.args.self.now.given c.args.self.now.names c.args.self.now.parts) c.in_err-built.field-0.0
+      (subst (λ n. OnDamage {T = Unit {0}} (Err c.in_err-built.field-0.0) (IsMergeDamage g.row.D n c.args.self.now.names c.args.self.now.parts))
+      c.plan-plan.ensures.given
+      (subst (λ (s : SetData). OnDamage {T = Unit {0}} (Err c.in_err-built.field-0.0) (IsMergeDamage g.row.D c.plan-plan.result.given s.names s.parts))
+      c.self.view_is (c.in_err-built.ensures.shown c.self.inside.names))));
+  damage = λ told agrees.
+      let p = err_from_is_err_and c.from_residual-in_err-built.result c.from_residual-in_err-built.ensures.1 in
+      rw (p.1, p.2)
+      (begun_damage (Unit {0}) (Unit {0}) (IsMergeDamageOf (g.F.Pages.files c.gathered.new.folder) c.args.self.now.given) c.in_err-built.field-0.0
+      (subst (λ n. OnDamage {T = Unit {0}} (Err c.in_err-built.field-0.0) (IsMergeDamageOf (g.F.Pages.files c.gathered.new.folder) n)) c.plan-plan.ensures.given
+      (c.in_err-built.ensures.damage told (subst (λ (s : SetData). Agrees (g.F.Pages.files c.args.folder.now) s.cache) (sym c.self.view_is) agrees))));
+  doubled = λ told agrees contents reads.
+      let p = err_from_is_err_and c.from_residual-in_err-built.result c.from_residual-in_err-built.ensures.1 in
+      rw (p.1, p.2)
+      (begun_damage (Unit {0}) (Unit {0}) (IsDoubt c.args.self.now.given (live_in_parts contents c.args.self.now.parts)) c.in_err-built.field-0.0
+      (subst (λ n. OnDamage {T = Unit {0}} (Err c.in_err-built.field-0.0) (IsDoubt n (live_in_parts contents c.args.self.now.parts))) c.plan-plan.ensures.given
+      (subst (λ (s : SetData). OnDamage {T = Unit {0}} (Err c.in_err-built.field-0.0) (IsDoubt c.plan-plan.result.given (live_in_parts contents s.parts)))
+      c.self.view_is
+      (c.in_err-built.ensures.doubled told (subst (λ (s : SetData). Agrees (g.F.Pages.files c.args.folder.now) s.cache) (sym c.self.view_is) agrees) contents
+      (subst (λ (s : SetData). AreRead g.row.D (g.F.Pages.files c.args.folder.now) contents s.parts) (sym c.self.view_is) reads)))));
+  evident =
+      let p = err_from_is_err_and c.from_residual-in_err-built.result c.from_residual-in_err-built.ensures.1 in
+      rw (p.1, p.2)
+      (begun_damage (Unit {0}) (Unit {0})
+      (IsEvidentIn g.row.D c.args.self.now.parts (IsTrusted g.F.Pages.told g.row.D (g.F.Pages.files c.args.folder.now) c.args.self.now)
+      (g.F.Pages.files c.gathered.new.folder)) c.in_err-built.field-0.0
+      (on_evident_set {X = Unit {0}} g.row.D g.F.Pages.told (g.F.Pages.files c.args.folder.now) (g.F.Pages.files c.gathered.new.folder) (set_of c.self.inside)
+      c.args.self.now (Err c.in_err-built.field-0.0) c.self.view_is c.self.invariant.spread c.in_err-built.ensures.evident));
+}
 
 pub returns-clause-faithful : goal.returns-clause-faithful
 returns-clause-faithful g c =

@@ -8,7 +8,7 @@ use Rattle.segment_build.specs.NewSegments.{NewSegmentData}
 use Rattle.segment_set.specs.declared.set.SegmentSet.TheInside.{Inside}
 use Rattle.segment_set.specs.Sets.{BegunMerge, IsWell, SetData, inputs_of}
 use Rattle.segment_set.specs.Seen.{Sees}
-use Rattle.segment_set.specs.Kept.{AreCanonical, Follows, StaysAlone}
+use Rattle.segment_set.specs.Kept.{AreCanonical, Follows, KeepsNamed, StaysAlone}
 use Rattle.segment_set.specs.Merged.{IsEnded}
 use Rattle.segment_set.specs.Merges.{Replaces, living}
 use Rattle.segment_set.specs.Faithful.{IsFaithful}
@@ -102,11 +102,6 @@ returns-in_err-replace-clause-stays g c =
     (moved (set_of c.self.inside) c.replace.new.names ps c.self.inside.buffer.items c.self.inside.begun c.self.inside.cache))
     (sym c.in_err-replace.ensures.refused) (refused g c).stays)
 
-pub returns-in_err-replace-clause-follows : goal.returns-in_err-replace-clause-follows
-returns-in_err-replace-clause-follows g c =
-    subst (λ (s : SetData). Follows s.names s.parts c.replace.new.segments) c.self.view_is
-    (subst (Follows c.self.inside.names c.self.inside.segments) (sym c.in_err-replace.ensures.refused) (refused g c).follows)
-
 pub returns-in_err-replace-clause-cause : goal.returns-in_err-replace-clause-cause
 returns-in_err-replace-clause-cause g c =
     let p = err_from_is_err_and c.from_residual.result c.from_residual.ensures.1 in
@@ -133,15 +128,6 @@ returns-clause-seen g c = λ told i seen.
     c.replace.new.names c.replace.new.segments c.in_ok-replace.ensures.kept c.in-Some.begun c.in-Some.is (replaced g c)
     c.self.invariant told i (subst (λ (s : SetData). Sees g.row.D (g.F.Pages.files c.args.folder.now) s i) (sym c.self.view_is) seen)
 
-pub returns-clause-parts : goal.returns-clause-parts
-returns-clause-parts g c = λ b is.
-    let same : c.in-Some.begun ≡ b = some_is c.in-Some.begun b (sym c.in-Some.is ∙ ap (λ (s : SetData). s.begun) c.self.view_is ∙ is) in
-    subst (λ (m : BegunMerge). IsEnded m c.args.self.now.parts c.replace.new.segments) same
-    (subst (λ (s : SetData). IsEnded c.in-Some.begun s.parts c.replace.new.segments) c.self.view_is
-    (end_parts g.row.D (IsTrue g.F.Pages.told) (g.F.Pages.files c.args.folder.now) (g.F.Pages.files c.replace.new.folder) {s = set_of c.self.inside}
-    c.replace.new.names c.replace.new.segments c.in_ok-replace.ensures.kept c.in-Some.begun c.in-Some.is (replaced g c)
-    c.self.invariant))
-
 pub returns-clause-stays : goal.returns-clause-stays
 returns-clause-stays g c =
     subst (λ (s : SetData). StaysAlone s
@@ -150,53 +136,71 @@ returns-clause-stays g c =
     c.replace.new.names c.replace.new.segments c.in_ok-replace.ensures.kept c.in-Some.begun c.in-Some.is (replaced g c)
     c.self.invariant)
 
-pub returns-clause-follows : goal.returns-clause-follows
-returns-clause-follows g c =
-    subst (λ (s : SetData). Follows s.names s.parts c.replace.new.segments) c.self.view_is
-    (end_follows g.row.D (IsTrue g.F.Pages.told) (g.F.Pages.files c.args.folder.now) (g.F.Pages.files c.replace.new.folder) {s = set_of c.self.inside}
-    c.replace.new.names c.replace.new.segments c.in_ok-replace.ensures.kept c.in-Some.begun c.in-Some.is (replaced g c)
-    c.self.invariant)
+pub returns-in_err-replace-clause-rewrites : goal.returns-in_err-replace-clause-rewrites
+returns-in_err-replace-clause-rewrites g c = record {
+  kept = subst (λ (s : SetData).
+      KeepsNamed (IsTrue g.F.Pages.told) s.names c.replace.new.names (g.F.Pages.files c.args.folder.now) (g.F.Pages.files c.replace.new.folder)) c.self.view_is
+      c.in_err-replace.ensures.kept;
+  follows = subst (λ (s : SetData). Follows s.names s.parts c.replace.new.segments) c.self.view_is
+      (subst (Follows c.self.inside.names c.self.inside.segments) (sym c.in_err-replace.ensures.refused) (refused g c).follows);
+  canon = λ told. subst (λ (s : SetData). AreCanonical g.row.D (g.F.Pages.files c.replace.new.folder) s.names c.replace.new.segments) c.self.view_is
+      (subst (AreCanonical g.row.D (g.F.Pages.files c.replace.new.folder) c.self.inside.names) (sym c.in_err-replace.ensures.refused)
+      ((refused g c).canon told));
+  faithful = λ told faithful.
+      faithful_named g.row.D (g.F.Pages.files c.args.folder.now) (g.F.Pages.files c.replace.new.folder) (set_of c.self.inside)
+      (moved (set_of c.self.inside) c.replace.new.names c.replace.new.segments c.self.inside.buffer.items c.self.inside.begun c.self.inside.cache)
+      c.self.invariant (c.in_err-replace.ensures.kept.files told) c.in_err-replace.ensures.refused refl refl
+      (subst (IsFaithful g.row.D (g.F.Pages.files c.args.folder.now)) (sym c.self.view_is) faithful);
+}
 
-pub returns-clause-canon : goal.returns-clause-canon
-returns-clause-canon g c = λ told.
-    subst (λ (s : SetData). AreCanonical g.row.D (g.F.Pages.files c.replace.new.folder) s.names c.replace.new.segments) c.self.view_is
-    (end_canon g.row.D (IsTrue g.F.Pages.told) (g.F.Pages.files c.args.folder.now) (g.F.Pages.files c.replace.new.folder) {s = set_of c.self.inside}
-    c.replace.new.names c.replace.new.segments c.in_ok-replace.ensures.kept c.in-Some.begun c.in-Some.is (replaced g c)
-    c.self.invariant told)
-
-pub returns-in_err-replace-clause-faithful : goal.returns-in_err-replace-clause-faithful
-returns-in_err-replace-clause-faithful g c = λ told faithful.
-    faithful_named g.row.D (g.F.Pages.files c.args.folder.now) (g.F.Pages.files c.replace.new.folder) (set_of c.self.inside)
-    (moved (set_of c.self.inside) c.replace.new.names c.replace.new.segments c.self.inside.buffer.items c.self.inside.begun c.self.inside.cache)
-    c.self.invariant (c.in_err-replace.ensures.kept.files told) c.in_err-replace.ensures.refused refl refl
-    (subst (IsFaithful g.row.D (g.F.Pages.files c.args.folder.now)) (sym c.self.view_is) faithful)
-
-pub returns-clause-faithful : goal.returns-clause-faithful
-returns-clause-faithful g c = λ told faithful.
-    faithful_replaced g.row.D (IsTrue g.F.Pages.told) (g.F.Pages.files c.args.folder.now) (g.F.Pages.files c.replace.new.folder) (set_of c.self.inside)
-    (moved (set_of c.self.inside) c.replace.new.names c.replace.new.segments c.self.inside.buffer.items None c.self.inside.cache) c.self.invariant
-    c.in_ok-replace.ensures.kept
-    (end_follows g.row.D (IsTrue g.F.Pages.told) (g.F.Pages.files c.args.folder.now) (g.F.Pages.files c.replace.new.folder) {s = set_of c.self.inside}
-    c.replace.new.names c.replace.new.segments c.in_ok-replace.ensures.kept c.in-Some.begun c.in-Some.is (replaced g c)
-    c.self.invariant)
-    (end_canon g.row.D (IsTrue g.F.Pages.told) (g.F.Pages.files c.args.folder.now) (g.F.Pages.files c.replace.new.folder) {s = set_of c.self.inside}
-    c.replace.new.names c.replace.new.segments c.in_ok-replace.ensures.kept c.in-Some.begun c.in-Some.is (replaced g c)
-    c.self.invariant)
-    refl refl told (subst (IsFaithful g.row.D (g.F.Pages.files c.args.folder.now)) (sym c.self.view_is) faithful)
+pub returns-clause-rewrites : goal.returns-clause-rewrites
+returns-clause-rewrites g c = record {
+  kept = subst (λ (s : SetData).
+      KeepsNamed (IsTrue g.F.Pages.told) s.names c.replace.new.names (g.F.Pages.files c.args.folder.now) (g.F.Pages.files c.replace.new.folder)) c.self.view_is
+      c.in_ok-replace.ensures.kept;
+  follows = subst (λ (s : SetData). Follows s.names s.parts c.replace.new.segments) c.self.view_is
+      (end_follows g.row.D (IsTrue g.F.Pages.told) (g.F.Pages.files c.args.folder.now) (g.F.Pages.files c.replace.new.folder) {s = set_of c.self.inside}
+      c.replace.new.names c.replace.new.segments c.in_ok-replace.ensures.kept c.in-Some.begun c.in-Some.is (replaced g c) c.self.invariant);
+  canon = λ told. subst (λ (s : SetData). AreCanonical g.row.D (g.F.Pages.files c.replace.new.folder) s.names c.replace.new.segments) c.self.view_is
+      (end_canon g.row.D (IsTrue g.F.Pages.told) (g.F.Pages.files c.args.folder.now) (g.F.Pages.files c.replace.new.folder) {s = set_of c.self.inside}
+      c.replace.new.names c.replace.new.segments c.in_ok-replace.ensures.kept c.in-Some.begun c.in-Some.is (replaced g c) c.self.invariant told);
+  faithful = λ told faithful.
+      faithful_replaced g.row.D (IsTrue g.F.Pages.told) (g.F.Pages.files c.args.folder.now) (g.F.Pages.files c.replace.new.folder) (set_of c.self.inside)
+      (moved (set_of c.self.inside) c.replace.new.names c.replace.new.segments c.self.inside.buffer.items None c.self.inside.cache) c.self.invariant
+      c.in_ok-replace.ensures.kept
+      (end_follows g.row.D (IsTrue g.F.Pages.told) (g.F.Pages.files c.args.folder.now) (g.F.Pages.files c.replace.new.folder) {s = set_of c.self.inside}
+      c.replace.new.names c.replace.new.segments c.in_ok-replace.ensures.kept c.in-Some.begun c.in-Some.is (replaced g c) c.self.invariant)
+      (end_canon g.row.D (IsTrue g.F.Pages.told) (g.F.Pages.files c.args.folder.now) (g.F.Pages.files c.replace.new.folder) {s = set_of c.self.inside}
+      c.replace.new.names c.replace.new.segments c.in_ok-replace.ensures.kept c.in-Some.begun c.in-Some.is (replaced g c) c.self.invariant) refl refl told
+      (subst (IsFaithful g.row.D (g.F.Pages.files c.args.folder.now)) (sym c.self.view_is) faithful);
+}
 
 pub returns-in_err-replace-clause-alone : goal.returns-in_err-replace-clause-alone
 returns-in_err-replace-clause-alone g c = at_error _ c.from_residual.result c.from_residual.ensures.1 _
     (before_moved c.args.self.now (set_of c.self.inside) c.self.view_is c.replace.new.names c.replace.new.segments c.self.inside.buffer.items
     c.self.inside.cache c.in_err-replace.ensures.refused refl)
 
-pub returns-in_err-replace-clause-replaced : goal.returns-in_err-replace-clause-replaced
-returns-in_err-replace-clause-replaced g c = λ b is. never_ok _ c.from_residual.result c.from_residual.ensures.1 _
+pub returns-in_err-replace-clause-ends : goal.returns-in_err-replace-clause-ends
+returns-in_err-replace-clause-ends g c = record {
+  ended = never_ok _ c.from_residual.result c.from_residual.ensures.1 _;
+  parts = λ b is. never_ok _ c.from_residual.result c.from_residual.ensures.1 _;
+  replaced = λ b is. never_ok _ c.from_residual.result c.from_residual.ensures.1 _;
+}
 
-pub returns-clause-replaced : goal.returns-clause-replaced
-returns-clause-replaced g c = λ b is.
-    let same : c.in-Some.begun ≡ b = some_is c.in-Some.begun b (sym c.in-Some.is ∙ ap (λ (s : SetData). s.begun) c.self.view_is ∙ is) in
-    subst (λ (m : BegunMerge).
-    Replaces g.row.D (IsTrue g.F.Pages.told) c.args.self.now.names c.replace.new.names (g.F.Pages.files c.replace.new.folder) m.inputs (living m.built)
-    c.args.self.now.parts c.replace.new.segments) same
-    (subst (λ (s : SetData). Replaces g.row.D (IsTrue g.F.Pages.told) s.names c.replace.new.names (g.F.Pages.files c.replace.new.folder) c.in-Some.begun.inputs
-    (living c.in-Some.begun.built) s.parts c.replace.new.segments) c.self.view_is (replaced g c))
+pub returns-clause-ends : goal.returns-clause-ends
+returns-clause-ends g c = record {
+  ended = refl;
+  parts = λ b is.
+      let same : c.in-Some.begun ≡ b = some_is c.in-Some.begun b (sym c.in-Some.is ∙ ap (λ (s : SetData). s.begun) c.self.view_is ∙ is) in
+      subst (λ (m : BegunMerge). IsEnded m c.args.self.now.parts c.replace.new.segments) same
+      (subst (λ (s : SetData). IsEnded c.in-Some.begun s.parts c.replace.new.segments) c.self.view_is
+      (end_parts g.row.D (IsTrue g.F.Pages.told) (g.F.Pages.files c.args.folder.now) (g.F.Pages.files c.replace.new.folder) {s = set_of c.self.inside}
+      c.replace.new.names c.replace.new.segments c.in_ok-replace.ensures.kept c.in-Some.begun c.in-Some.is (replaced g c) c.self.invariant));
+  replaced = λ b is.
+      let same : c.in-Some.begun ≡ b = some_is c.in-Some.begun b (sym c.in-Some.is ∙ ap (λ (s : SetData). s.begun) c.self.view_is ∙ is) in
+      subst (λ (m : BegunMerge).
+      Replaces g.row.D (IsTrue g.F.Pages.told) c.args.self.now.names c.replace.new.names (g.F.Pages.files c.replace.new.folder) m.inputs (living m.built)
+      c.args.self.now.parts c.replace.new.segments) same
+      (subst (λ (s : SetData). Replaces g.row.D (IsTrue g.F.Pages.told) s.names c.replace.new.names (g.F.Pages.files c.replace.new.folder)
+      c.in-Some.begun.inputs (living c.in-Some.begun.built) s.parts c.replace.new.segments) c.self.view_is (replaced g c));
+}

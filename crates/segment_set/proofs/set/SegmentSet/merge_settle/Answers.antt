@@ -12,6 +12,7 @@ use Rattle.segment_set.proofs.Settled.{before_itself, merges_chosen, settles_non
 use Rattle.segment_set.specs.Settles.{moment}
 use Rattle.page_cache.specs.Evidence.{OnDamage}
 use Rattle.segment_set.proofs.Trusted.{IsTrusted, on_evident_before}
+use Rattle.segment_set.proofs.Shows.{shows_none}
 use Rattle.segment_set.proofs.set.SegmentSet.merge_settle.Goals as goal
 
 pub loop-ids-init : goal.loop-ids-init
@@ -52,62 +53,6 @@ loop-ids-smaller g c =
     let few = c.in_ok-merge.ensures.fewer in
     omega (arith, two, few)
 
-pub returns-in_err-ids-clause-canon : goal.returns-in_err-ids-clause-canon
-returns-in_err-ids-clause-canon g c = (c.loop-ids.invariant.moves c.next_merge.ensures.well).canon
-
-pub returns-clause-canon : goal.returns-clause-canon
-returns-clause-canon g c = (c.loop-ids.invariant.moves c.next_merge.ensures.well).canon
-
-pub returns-in_err-merge-clause-stays : goal.returns-in_err-merge-clause-stays
-returns-in_err-merge-clause-stays g c =
-    (rearranges_then g.row.D (IsTrue g.F.Pages.told) (g.F.Pages.files c.args.folder.now) (g.F.Pages.files c.loop-ids.folder)
-    (g.F.Pages.files c.merge.new.folder) c.args.self.now c.loop-ids.self c.merge.new.self c.next_merge.ensures.well.named
-    (c.loop-ids.invariant.moves c.next_merge.ensures.well) c.merge.ensures.moves).stays
-
-pub returns-in_err-merge-clause-kept : goal.returns-in_err-merge-clause-kept
-returns-in_err-merge-clause-kept g c =
-    (rearranges_then g.row.D (IsTrue g.F.Pages.told) (g.F.Pages.files c.args.folder.now) (g.F.Pages.files c.loop-ids.folder)
-    (g.F.Pages.files c.merge.new.folder) c.args.self.now c.loop-ids.self c.merge.new.self c.next_merge.ensures.well.named
-    (c.loop-ids.invariant.moves c.next_merge.ensures.well) c.merge.ensures.moves).kept
-
-pub returns-in_err-merge-clause-follows : goal.returns-in_err-merge-clause-follows
-returns-in_err-merge-clause-follows g c =
-    (rearranges_then g.row.D (IsTrue g.F.Pages.told) (g.F.Pages.files c.args.folder.now) (g.F.Pages.files c.loop-ids.folder)
-    (g.F.Pages.files c.merge.new.folder) c.args.self.now c.loop-ids.self c.merge.new.self c.next_merge.ensures.well.named
-    (c.loop-ids.invariant.moves c.next_merge.ensures.well) c.merge.ensures.moves).follows
-
-pub returns-in_err-merge-clause-canon : goal.returns-in_err-merge-clause-canon
-returns-in_err-merge-clause-canon g c =
-    (rearranges_then g.row.D (IsTrue g.F.Pages.told) (g.F.Pages.files c.args.folder.now) (g.F.Pages.files c.loop-ids.folder)
-    (g.F.Pages.files c.merge.new.folder) c.args.self.now c.loop-ids.self c.merge.new.self c.next_merge.ensures.well.named
-    (c.loop-ids.invariant.moves c.next_merge.ensures.well) c.merge.ensures.moves).canon
-
-pub returns-in_err-merge-clause-whole : goal.returns-in_err-merge-clause-whole
-returns-in_err-merge-clause-whole g c = λ told i seen.
-    let e = err_from_is_err_and c.from_residual-in_err-merge.result c.from_residual-in_err-merge.ensures.1 in
-    rw (e.1, e.2) (c.in_err-merge.ensures.whole told i ((c.loop-ids.invariant.moves c.next_merge.ensures.well).seen told i seen))
-
-pub returns-in_err-merge-clause-shown : goal.returns-in_err-merge-clause-shown
-returns-in_err-merge-clause-shown g c =
-    let e = err_from_is_err_and c.from_residual-in_err-merge.result c.from_residual-in_err-merge.ensures.1 in
-    rw (e.1, e.2)
-    (on_damage_weaker {T = Unit {0}} (Err c.in_err-merge.field-0.0) (IsMergeDamage g.row.D c.loop-ids.self.given c.loop-ids.self.names c.loop-ids.self.parts)
-    (IsMergeDamage g.row.D c.args.self.now.given c.args.self.now.names c.args.self.now.parts)
-    (damage_before g.row.D (IsTrue g.F.Pages.told) (g.F.Pages.files c.args.folder.now) (g.F.Pages.files c.loop-ids.folder) c.args.self.now c.loop-ids.self
-    (c.loop-ids.invariant.moves c.next_merge.ensures.well)) c.in_err-merge.ensures.shown)
-
-pub returns-in_err-merge-clause-doubled : goal.returns-in_err-merge-clause-doubled
-returns-in_err-merge-clause-doubled g c = λ told agrees contents reads.
-    let e = err_from_is_err_and c.from_residual-in_err-merge.result c.from_residual-in_err-merge.ensures.1 in
-    let kept = c.loop-ids.invariant.entries in
-    let now = kept.entries told agrees contents reads in
-    rw (e.1, e.2)
-    (on_damage_weaker {T = Unit {0}} (Err c.in_err-merge.field-0.0) (IsDoubt c.loop-ids.self.given (live_in_parts now.0 c.loop-ids.self.parts))
-    (IsDoubt c.args.self.now.given (live_in_parts contents c.args.self.now.parts))
-    (λ d h. doubt_same c.args.self.now.given (live_in_parts contents c.args.self.now.parts) (live_in_parts now.0 c.loop-ids.self.parts) now.2 d
-    (subst (λ n. IsDoubt n (live_in_parts now.0 c.loop-ids.self.parts) d) (c.loop-ids.invariant.moves c.next_merge.ensures.well).stays.given h))
-    (c.in_err-merge.ensures.doubled told (kept.agrees told agrees) now.0 now.1))
-
 pub returns-in_err-ids-clause-rested : goal.returns-in_err-ids-clause-rested
 returns-in_err-ids-clause-rested g c = λ settled. (c.loop-ids.invariant.rested settled).1
 
@@ -128,47 +73,17 @@ returns-clause-rested g c = λ settled. (c.loop-ids.invariant.rested settled).1
 pub returns-clause-still : goal.returns-clause-still
 returns-clause-still g c = λ settled. (c.loop-ids.invariant.rested settled).0
 
-pub returns-in_err-ids-clause-seen : goal.returns-in_err-ids-clause-seen
-returns-in_err-ids-clause-seen g c = (c.loop-ids.invariant.moves c.next_merge.ensures.well).seen
-
 pub returns-in_err-ids-clause-buffer : goal.returns-in_err-ids-clause-buffer
 returns-in_err-ids-clause-buffer g c = c.loop-ids.invariant.buffer
 
-pub returns-in_err-ids-clause-stays : goal.returns-in_err-ids-clause-stays
-returns-in_err-ids-clause-stays g c = (c.loop-ids.invariant.moves c.next_merge.ensures.well).stays
-
-pub returns-in_err-ids-clause-kept : goal.returns-in_err-ids-clause-kept
-returns-in_err-ids-clause-kept g c = (c.loop-ids.invariant.moves c.next_merge.ensures.well).kept
-
-pub returns-in_err-ids-clause-follows : goal.returns-in_err-ids-clause-follows
-returns-in_err-ids-clause-follows g c = (c.loop-ids.invariant.moves c.next_merge.ensures.well).follows
-
-pub returns-in_err-ids-clause-saved : goal.returns-in_err-ids-clause-saved
-returns-in_err-ids-clause-saved g c = (c.loop-ids.invariant.moves c.next_merge.ensures.well).saved
-
-pub returns-in_err-ids-clause-begun : goal.returns-in_err-ids-clause-begun
-returns-in_err-ids-clause-begun g c = (c.loop-ids.invariant.moves c.next_merge.ensures.well).begun
-
-pub returns-clause-seen : goal.returns-clause-seen
-returns-clause-seen g c = (c.loop-ids.invariant.moves c.next_merge.ensures.well).seen
+pub returns-in_err-ids-clause-moves : goal.returns-in_err-ids-clause-moves
+returns-in_err-ids-clause-moves g c = c.loop-ids.invariant.moves c.next_merge.ensures.well
 
 pub returns-clause-buffer : goal.returns-clause-buffer
 returns-clause-buffer g c = c.loop-ids.invariant.buffer
 
-pub returns-clause-stays : goal.returns-clause-stays
-returns-clause-stays g c = (c.loop-ids.invariant.moves c.next_merge.ensures.well).stays
-
-pub returns-clause-kept : goal.returns-clause-kept
-returns-clause-kept g c = (c.loop-ids.invariant.moves c.next_merge.ensures.well).kept
-
-pub returns-clause-follows : goal.returns-clause-follows
-returns-clause-follows g c = (c.loop-ids.invariant.moves c.next_merge.ensures.well).follows
-
-pub returns-clause-saved : goal.returns-clause-saved
-returns-clause-saved g c = (c.loop-ids.invariant.moves c.next_merge.ensures.well).saved
-
-pub returns-clause-begun : goal.returns-clause-begun
-returns-clause-begun g c = (c.loop-ids.invariant.moves c.next_merge.ensures.well).begun
+pub returns-clause-moves : goal.returns-clause-moves
+returns-clause-moves g c = c.loop-ids.invariant.moves c.next_merge.ensures.well
 
 pub returns-in_err-ids-clause-levels : goal.returns-in_err-ids-clause-levels
 returns-in_err-ids-clause-levels g c = never_ok _ c.from_residual.result c.from_residual.ensures.1 _
@@ -181,54 +96,15 @@ returns-in_err-ids-clause-cause g c =
     memory_caused (g.F.Pages.faults c.args.folder.now) (g.F.Pages.faults c.loop-ids.folder) c.from_residual.result c.from_residual.ensures.1
     c.loop-ids.invariant.faults
 
-pub returns-in_err-ids-clause-whole : goal.returns-in_err-ids-clause-whole
-returns-in_err-ids-clause-whole g c = λ told i seen. memory_damage (λ _. ⊥) c.from_residual.result c.from_residual.ensures.1
-
-pub returns-in_err-ids-clause-shown : goal.returns-in_err-ids-clause-shown
-returns-in_err-ids-clause-shown g c =
-    memory_damage (IsMergeDamage g.row.D c.args.self.now.given c.args.self.now.names c.args.self.now.parts) c.from_residual.result c.from_residual.ensures.1
-
-pub returns-in_err-ids-clause-damage : goal.returns-in_err-ids-clause-damage
-returns-in_err-ids-clause-damage g c = λ told agrees.
-    memory_damage (IsMergeDamageOf (g.F.Pages.files c.loop-ids.folder) c.args.self.now.given) c.from_residual.result c.from_residual.ensures.1
-
-pub returns-in_err-ids-clause-doubled : goal.returns-in_err-ids-clause-doubled
-returns-in_err-ids-clause-doubled g c = λ told agrees contents reads.
-    memory_damage (IsDoubt c.args.self.now.given (live_in_parts contents c.args.self.now.parts)) c.from_residual.result c.from_residual.ensures.1
-
 pub returns-clause-cause : goal.returns-clause-cause
 returns-clause-cause g c =
     done_cause (g.F.Pages.faults c.args.folder.now) (g.F.Pages.faults c.loop-ids.folder) _ c.loop-ids.invariant.faults
 
-pub returns-clause-whole : goal.returns-clause-whole
-returns-clause-whole g c = λ told i seen. tt
-
-pub returns-clause-shown : goal.returns-clause-shown
-returns-clause-shown g c = tt
-
-pub returns-clause-damage : goal.returns-clause-damage
-returns-clause-damage g c = λ told agrees. tt
-
-pub returns-clause-doubled : goal.returns-clause-doubled
-returns-clause-doubled g c = λ told agrees contents reads. tt
-
-pub returns-in_err-merge-clause-seen : goal.returns-in_err-merge-clause-seen
-returns-in_err-merge-clause-seen g c =
-    (rearranges_then g.row.D (IsTrue g.F.Pages.told) (g.F.Pages.files c.args.folder.now) (g.F.Pages.files c.loop-ids.folder)
+pub returns-in_err-merge-clause-moves : goal.returns-in_err-merge-clause-moves
+returns-in_err-merge-clause-moves g c =
+    rearranges_then g.row.D (IsTrue g.F.Pages.told) (g.F.Pages.files c.args.folder.now) (g.F.Pages.files c.loop-ids.folder)
     (g.F.Pages.files c.merge.new.folder) c.args.self.now c.loop-ids.self c.merge.new.self c.next_merge.ensures.well.named
-    (c.loop-ids.invariant.moves c.next_merge.ensures.well) c.merge.ensures.moves).seen
-
-pub returns-in_err-merge-clause-saved : goal.returns-in_err-merge-clause-saved
-returns-in_err-merge-clause-saved g c =
-    (rearranges_then g.row.D (IsTrue g.F.Pages.told) (g.F.Pages.files c.args.folder.now) (g.F.Pages.files c.loop-ids.folder)
-    (g.F.Pages.files c.merge.new.folder) c.args.self.now c.loop-ids.self c.merge.new.self c.next_merge.ensures.well.named
-    (c.loop-ids.invariant.moves c.next_merge.ensures.well) c.merge.ensures.moves).saved
-
-pub returns-in_err-merge-clause-begun : goal.returns-in_err-merge-clause-begun
-returns-in_err-merge-clause-begun g c =
-    (rearranges_then g.row.D (IsTrue g.F.Pages.told) (g.F.Pages.files c.args.folder.now) (g.F.Pages.files c.loop-ids.folder)
-    (g.F.Pages.files c.merge.new.folder) c.args.self.now c.loop-ids.self c.merge.new.self c.next_merge.ensures.well.named
-    (c.loop-ids.invariant.moves c.next_merge.ensures.well) c.merge.ensures.moves).begun
+    (c.loop-ids.invariant.moves c.next_merge.ensures.well) c.merge.ensures.moves
 
 pub returns-in_err-merge-clause-buffer : goal.returns-in_err-merge-clause-buffer
 returns-in_err-merge-clause-buffer g c = c.merge.ensures.buffer ∙ c.loop-ids.invariant.buffer
@@ -247,37 +123,58 @@ returns-in_err-merge-clause-cause g c =
     c.from_residual-in_err-merge.result c.loop-ids.invariant.faults (same_cause (g.F.Pages.faults c.loop-ids.folder) (g.F.Pages.faults c.merge.new.folder)
     c.in_err-merge.field-0.0 c.from_residual-in_err-merge.result c.from_residual-in_err-merge.ensures.1 c.in_err-merge.ensures.cause)
 
-pub returns-in_err-merge-clause-damage : goal.returns-in_err-merge-clause-damage
-returns-in_err-merge-clause-damage g c = λ told agrees.
-    same_damage (IsMergeDamageOf (g.F.Pages.files c.merge.new.folder) c.args.self.now.given) c.in_err-merge.field-0.0 c.from_residual-in_err-merge.result
-    c.from_residual-in_err-merge.ensures.1
-    (subst (λ n. OnDamage {T = Unit {0}} (Err c.in_err-merge.field-0.0) (IsMergeDamageOf (g.F.Pages.files c.merge.new.folder) n))
-    (c.loop-ids.invariant.moves c.next_merge.ensures.well).stays.given (c.in_err-merge.ensures.damage told (c.loop-ids.invariant.entries.agrees told agrees)))
-
 pub returns-in_err-ids-clause-faithful : goal.returns-in_err-ids-clause-faithful
 returns-in_err-ids-clause-faithful g c = c.loop-ids.invariant.faithful
 
-pub returns-in_err-ids-clause-evident : goal.returns-in_err-ids-clause-evident
-returns-in_err-ids-clause-evident g c =
-    memory_damage (IsEvidentIn g.row.D c.args.self.now.parts (IsTrusted g.F.Pages.told g.row.D (g.F.Pages.files c.args.folder.now) c.args.self.now)
-    (g.F.Pages.files c.loop-ids.folder)) c.from_residual.result c.from_residual.ensures.1
+pub returns-in_err-ids-clause-damaged : goal.returns-in_err-ids-clause-damaged
+returns-in_err-ids-clause-damaged g c =
+    shows_none g.row.D (IsTrue g.F.Pages.told) (g.F.Pages.files c.args.folder.now) (g.F.Pages.files c.loop-ids.folder) c.args.self.now
+    _ (λ P. memory_damage P c.from_residual.result c.from_residual.ensures.1)
 
 pub returns-in_err-merge-clause-faithful : goal.returns-in_err-merge-clause-faithful
 returns-in_err-merge-clause-faithful g c = λ told faithful. c.merge.ensures.faithful told (c.loop-ids.invariant.faithful told faithful)
 
-pub returns-in_err-merge-clause-evident : goal.returns-in_err-merge-clause-evident
-returns-in_err-merge-clause-evident g c =
-    same_damage (IsEvidentIn g.row.D c.args.self.now.parts (IsTrusted g.F.Pages.told g.row.D (g.F.Pages.files c.args.folder.now) c.args.self.now)
-    (g.F.Pages.files c.merge.new.folder)) c.in_err-merge.field-0.0 c.from_residual-in_err-merge.result c.from_residual-in_err-merge.ensures.1
-    (on_evident_before {X = Unit {0}} g.row.D g.F.Pages.told (g.F.Pages.files c.args.folder.now) (g.F.Pages.files c.loop-ids.folder)
-    (g.F.Pages.files c.merge.new.folder) c.args.self.now c.loop-ids.self c.merge.new.self (Err c.in_err-merge.field-0.0) c.next_merge.ensures.well.named
-    (c.loop-ids.invariant.moves c.next_merge.ensures.well) c.merge.ensures.moves.kept c.loop-ids.invariant.faithful c.in_err-merge.ensures.evident)
+pub returns-in_err-merge-clause-damaged : goal.returns-in_err-merge-clause-damaged
+returns-in_err-merge-clause-damaged g c = record {
+  whole = λ told i seen.
+      let e = err_from_is_err_and c.from_residual-in_err-merge.result c.from_residual-in_err-merge.ensures.1 in
+      rw (e.1, e.2) (c.in_err-merge.ensures.damaged.whole told i ((c.loop-ids.invariant.moves c.next_merge.ensures.well).seen told i seen));
+  shown =
+      let e = err_from_is_err_and c.from_residual-in_err-merge.result c.from_residual-in_err-merge.ensures.1 in
+      rw (e.1, e.2)
+      (on_damage_weaker {T = Unit {0}} (Err c.in_err-merge.field-0.0) (IsMergeDamage g.row.D c.loop-ids.self.given c.loop-ids.self.names c.loop-ids.self.parts)
+      (IsMergeDamage g.row.D c.args.self.now.given c.args.self.now.names c.args.self.now.parts)
+      (damage_before g.row.D (IsTrue g.F.Pages.told) (g.F.Pages.files c.args.folder.now) (g.F.Pages.files c.loop-ids.folder) c.args.self.now c.loop-ids.self
+      (c.loop-ids.invariant.moves c.next_merge.ensures.well)) c.in_err-merge.ensures.damaged.shown);
+  damage = λ told agrees. same_damage (IsMergeDamageOf (g.F.Pages.files c.merge.new.folder) c.args.self.now.given) c.in_err-merge.field-0.0
+      c.from_residual-in_err-merge.result c.from_residual-in_err-merge.ensures.1
+      (subst (λ n. OnDamage {T = Unit {0}} (Err c.in_err-merge.field-0.0) (IsMergeDamageOf (g.F.Pages.files c.merge.new.folder) n))
+      (c.loop-ids.invariant.moves c.next_merge.ensures.well).stays.given
+      (c.in_err-merge.ensures.damaged.damage told (c.loop-ids.invariant.entries.agrees told agrees)));
+  doubled = λ told agrees contents reads.
+      let e = err_from_is_err_and c.from_residual-in_err-merge.result c.from_residual-in_err-merge.ensures.1 in
+      let kept = c.loop-ids.invariant.entries in
+      let now = kept.entries told agrees contents reads in
+      rw (e.1, e.2)
+      (on_damage_weaker {T = Unit {0}} (Err c.in_err-merge.field-0.0) (IsDoubt c.loop-ids.self.given (live_in_parts now.0 c.loop-ids.self.parts))
+      (IsDoubt c.args.self.now.given (live_in_parts contents c.args.self.now.parts))
+      (λ d h. doubt_same c.args.self.now.given (live_in_parts contents c.args.self.now.parts) (live_in_parts now.0 c.loop-ids.self.parts) now.2 d
+      (subst (λ n. IsDoubt n (live_in_parts now.0 c.loop-ids.self.parts) d) (c.loop-ids.invariant.moves c.next_merge.ensures.well).stays.given h))
+      (c.in_err-merge.ensures.damaged.doubled told (kept.agrees told agrees) now.0 now.1));
+  evident = same_damage
+      (IsEvidentIn g.row.D c.args.self.now.parts (IsTrusted g.F.Pages.told g.row.D (g.F.Pages.files c.args.folder.now) c.args.self.now)
+      (g.F.Pages.files c.merge.new.folder)) c.in_err-merge.field-0.0 c.from_residual-in_err-merge.result c.from_residual-in_err-merge.ensures.1
+      (on_evident_before {X = Unit {0}} g.row.D g.F.Pages.told (g.F.Pages.files c.args.folder.now) (g.F.Pages.files c.loop-ids.folder)
+      (g.F.Pages.files c.merge.new.folder) c.args.self.now c.loop-ids.self c.merge.new.self (Err c.in_err-merge.field-0.0) c.next_merge.ensures.well.named
+      (c.loop-ids.invariant.moves c.next_merge.ensures.well) c.merge.ensures.moves.kept c.loop-ids.invariant.faithful c.in_err-merge.ensures.damaged.evident);
+}
 
 pub returns-clause-faithful : goal.returns-clause-faithful
 returns-clause-faithful g c = c.loop-ids.invariant.faithful
 
-pub returns-clause-evident : goal.returns-clause-evident
-returns-clause-evident g c = tt
+pub returns-clause-damaged : goal.returns-clause-damaged
+returns-clause-damaged g c =
+    shows_none g.row.D (IsTrue g.F.Pages.told) (g.F.Pages.files c.args.folder.now) (g.F.Pages.files c.loop-ids.folder) c.args.self.now _ (λ P. tt)
 
 pub returns-in_err-ids-clause-settled : goal.returns-in_err-ids-clause-settled
 returns-in_err-ids-clause-settled g c = never_ok _ c.from_residual.result c.from_residual.ensures.1 _

@@ -13,11 +13,12 @@ use Rattle.index_model.specs.State.{Index}
 use Rattle.segment_set.specs.Sets.{IsWell, SetData, buffer_at, parts_at, viewed_buffer, viewed_parts}
 use Rattle.segment_set.specs.Seen.{Sees, entries_seen}
 use Rattle.segment_set.specs.Faithful.{IsFaithful}
-use Rattle.segment_set.proofs.Sizes.{entry_fits, point_fits}
+use Rattle.segment_set.proofs.Sizes.{point_fits}
 use Rattle.segment_set.proofs.Viewed.{looked_buffer, looked_nearest, looked_parts, looked_read, looked_sees, looked_well, viewed_read}
 use Rattle.segment_set.proofs.Viewing.{looked_evident, looked_faithful}
 use Rattle.segment_set.proofs.set.SegmentSet.nearest.Given as given
 use Rattle.segment_set.proofs.set.SegmentSet.nearest.Goals as goal
+use Rattle.point_codec.proofs.Sizes.{entry_fits}
 
 -- the set as it was, by its fields
 abbrev was : (g : given.Over) (c : goal.After-nearest g) → SetData
@@ -99,20 +100,17 @@ returns-clause-reads g c told contents stands found is leaves are =
     leaves
     (subst (λ (ps : List LiveSegment). AreNearLeaves g.row.D c.args.at.now.c (bound_of c.args.k found) (heads_of ps) leaves) (sym (parts_are g c)) are)
 
-pub returns-clause-whole : goal.returns-clause-whole
-returns-clause-whole g c told i seen =
-    c.nearest.ensures.whole told (agreed g c i seen) seen.contents (looked_read _ _ _ i _ _ (parts_are g c) seen)
-
 pub returns-clause-faithful : goal.returns-clause-faithful
 returns-clause-faithful g c told keeps =
     subst (IsFaithful g.row.D (g.F.Pages.files c.nearest.new.folder)) (sym (same g c))
     (looked_faithful g.row.D _ _ _ (was g c) _ _ _ c.self.view_is c.nearest.ensures.calm told keeps)
 
-pub returns-clause-shown : goal.returns-clause-shown
-returns-clause-shown g c = subst (λ (ps : List LiveSegment). OnDamage c.nearest.result (IsPartDamage g.row.D ps)) (parts_are g c) c.nearest.ensures.shown
-
-pub returns-clause-evident : goal.returns-clause-evident
-returns-clause-evident g c =
-    looked_evident g.row.D _ _ _ _ _ (view_name c.args.view.now) c.view_of.result.0.now _ _ c.nearest.result c.self.view_is (parts_are g c)
-    c.nearest.ensures.calm
-    c.nearest.ensures.shown c.nearest.ensures.damage
+pub returns-clause-damaged : goal.returns-clause-damaged
+returns-clause-damaged g c = record {
+  whole = c.nearest.ensures.whole told (agreed g c i seen) seen.contents (looked_read _ _ _ i _ _ (parts_are g c) seen);
+  shown = subst (λ (ps : List LiveSegment). OnDamage c.nearest.result (IsPartDamage g.row.D ps)) (parts_are g c) c.nearest.ensures.shown;
+  damage = λ told agrees.
+      c.nearest.ensures.damage told (subst (λ (u : SetData). Agrees (g.F.Pages.files c.args.folder.now) u.cache) (sym c.self.view_is) agrees);
+  evident = looked_evident g.row.D _ _ _ _ _ (view_name c.args.view.now) c.view_of.result.0.now _ _ c.nearest.result c.self.view_is (parts_are g c)
+      c.nearest.ensures.calm c.nearest.ensures.shown c.nearest.ensures.damage;
+}

@@ -1,7 +1,7 @@
 use Rattle.std.proofs.Common.{◌≡◌, ◌≤◌, ◌∙◌, ℕ, false, List, Option, Some, sym, subst}
 use Rattle.std.specs.Prelude.{All, IsTrue}
 use Rattle.std.specs.List.{AllZip}
-use Rattle.std.proofs.lemmas.Result.{err_from_is_err_and, on_err_weaker}
+use Rattle.std.proofs.lemmas.Result.{on_err_weaker}
 use Rattle.outer_io.specs.declared.file_name.FileName.{FileName}
 use Rattle.outer_io.specs.declared.file_name.FileName.TheVariants.{Commit, Live}
 use Rattle.outer_io.specs.Files.{Files, bytes_of}
@@ -13,36 +13,27 @@ use Rattle.merge_policy.specs.Choice.{free_count}
 use Rattle.stored_index.specs.Kept.{ListsFile}
 use Rattle.stored_index.specs.Stored.{IsStored}
 use Rattle.index_model.specs.State.{at_rest}
-use Rattle.segment_view.specs.LiveSegments.{LiveSegment, live_in_parts}
+use Rattle.segment_view.specs.LiveSegments.{LiveSegment}
 use Rattle.file_names.specs.Names.{is_named}
 use Rattle.segment_set.specs.Sets.{BegunMerge, pins_of, sizes_of}
 use Rattle.segment_set.specs.Kept.{Follows, IsCommitOf}
-use Rattle.segment_set.specs.Damages.{IsDoubt, IsMergeDamage, IsMergeDamageOf}
 use Rattle.segment_set.specs.Saved.{HasNextGeneration, IsSaved, StaysButSaved}
-use Rattle.segment_set.specs.Faithful.{IsFaithful}
-use Rattle.index_opening.specs.Evidence.{IsEvidentIn}
 use Rattle.segment_set.proofs.Carried.{keeps_then, stays_then}
-use Rattle.segment_set.proofs.Saving.{all_fresh, all_next, all_written, canon_saved, cause_after, if_ok_both, if_ok_map}
+use Rattle.segment_set.proofs.Saving.{all_fresh, all_next, all_written, canon_saved, cause_after, if_ok_both}
 use Rattle.segment_set.proofs.Saving.{no_damage, ok_always, sees_saved, stays_saved, well_saved}
 use Rattle.segment_set.proofs.SavedCommit.{saved_is_stored}
 use Rattle.segment_set.proofs.Refused.{at_error, never_ok, never_value, same_cause, same_damage}
 use Rattle.segment_set.proofs.Settled.{left_settled}
 use Rattle.segment_set.specs.Settles.{Flushes, SetMoment, moment}
+use Rattle.segment_set.proofs.Shows.{shows_none, shows_on}
+use Rattle.segment_set.proofs.Chosen.{if_ok}
 use Rattle.segment_set.proofs.set.SegmentSet.save.Goals as goal
-
-pub returns-in_err-flush-clause-whole : goal.returns-in_err-flush-clause-whole
-returns-in_err-flush-clause-whole g c = λ told i seen.
-    let e = err_from_is_err_and c.from_residual.result c.from_residual.ensures.1 in rw (e.1, e.2) (c.in_err-flush.ensures.whole told i seen)
-
-pub returns-in_err-flush-clause-doubled : goal.returns-in_err-flush-clause-doubled
-returns-in_err-flush-clause-doubled g c = λ told agrees es read.
-    let e = err_from_is_err_and c.from_residual.result c.from_residual.ensures.1 in rw (e.1, e.2) (c.in_err-flush.ensures.doubled told agrees es read)
 
 pub returns-clause-seen : goal.returns-clause-seen
 returns-clause-seen g c = λ told i seen.
     let m = c.list_segments.ensures in
     sees_saved g.row.D (IsTrue g.F.Pages.told) (g.F.Pages.files c.flush.new.folder) (g.F.Pages.files c.list_segments.new.folder) c.flush.new.self
-    c.list_segments.new.self i told m.well m.kept m.alone (c.in_ok-flush.ensures.seen told i seen)
+    c.list_segments.new.self i told m.well m.kept m.alone (c.in_ok-flush.ensures.moves.seen told i seen)
 
 pub returns-clause-emptied : goal.returns-clause-emptied
 returns-clause-emptied g c = ok_always c.list_segments.result _ (c.list_segments.ensures.alone.buffer ∙ c.in_ok-flush.ensures.emptied)
@@ -56,87 +47,18 @@ returns-clause-levels g c =
     subst (λ (ps : List LiveSegment). free_count level (sizes_of ps) (pins_of t.begun ps) ≤ 10) (sym alone.parts)
     (subst (λ (b : Option BegunMerge). free_count level (sizes_of s.parts) (pins_of b s.parts) ≤ 10) (sym alone.begun) (c.in_ok-flush.ensures.levels level)))
 
-pub returns-clause-fresh : goal.returns-clause-fresh
-returns-clause-fresh g c =
-    let s = c.flush.new.self in
-    let t = c.list_segments.new.self in
-    let files = g.F.Pages.files c.list_segments.new.folder in
-    if_ok_map c.list_segments.result (λ (k : CommitData). AllZip (IsSaved (IsTrue g.F.Pages.told) s.names t.names files) k.listed s.parts)
-    (λ (k : CommitData). All (λ (l : Listed). is_named c.args.self.now.names.names (Live l.segment l.generation) ≡ false) k.listed)
-    (λ k all. all_fresh (IsTrue g.F.Pages.told) c.args.self.now.names s.names t.names files k.listed s.parts c.in_ok-flush.ensures.kept.more all)
-    c.list_segments.ensures.listed
-
-pub returns-clause-live : goal.returns-clause-live
-returns-clause-live g c = λ told.
-    let s = c.flush.new.self in
-    let t = c.list_segments.new.self in
-    let files = g.F.Pages.files c.list_segments.new.folder in
-    if_ok_map c.list_segments.result (λ (k : CommitData). AllZip (IsSaved (IsTrue g.F.Pages.told) s.names t.names files) k.listed s.parts)
-    (λ (k : CommitData).
-    AllZip (λ (l : Listed) (p : LiveSegment). IsLiveFile l.segment l.generation (bytes_of (files (Live l.segment l.generation))) p.live) k.listed t.parts)
-    (λ k all. all_written (IsTrue g.F.Pages.told) s.names t.names files k.listed s.parts t.parts told c.list_segments.ensures.alone.parts all)
-    c.list_segments.ensures.listed
-
-pub returns-clause-stored : goal.returns-clause-stored
-returns-clause-stored g c = λ told i seen.
-    let s = c.flush.new.self in
-    let t = c.list_segments.new.self in
-    let m = c.list_segments.ensures in
-    let mid = g.F.Pages.files c.flush.new.folder in
-    let now = g.F.Pages.files c.list_segments.new.folder in
-    let there = sees_saved g.row.D (IsTrue g.F.Pages.told) mid now s t i told m.well m.kept m.alone (c.in_ok-flush.ensures.seen told i seen) in
-    if_ok_both c.list_segments.result (λ (k : CommitData). IsCommitOf g.row.D t k)
-    (λ (k : CommitData). AllZip (IsSaved (IsTrue g.F.Pages.told) s.names t.names now) k.listed s.parts)
-    (λ (k : CommitData).
-    (files : Files) → IsCommitFile (bytes_of (files Commit)) k → ((m : FileName) → ListsFile k m → files m ≡ now m) → IsStored files (Some (at_rest i)))
-    (λ k commit all.
-    saved_is_stored g.row.D (IsTrue g.F.Pages.told) s.names now t k i told (well_saved g.row.D (IsTrue g.F.Pages.told) mid now s t m.well m.kept m.alone)
-    (m.alone.buffer ∙ c.in_ok-flush.ensures.emptied) commit
-    (subst (AllZip (IsSaved (IsTrue g.F.Pages.told) s.names t.names now) k.listed) (sym m.alone.parts) all) there)
-    m.commit m.listed
-
 pub returns-clause-stays : goal.returns-clause-stays
 returns-clause-stays g c =
-    stays_then c.args.self.now c.flush.new.self c.list_segments.new.self c.in_ok-flush.ensures.stays
+    stays_then c.args.self.now c.flush.new.self c.list_segments.new.self c.in_ok-flush.ensures.moves.stays
     (stays_saved c.flush.new.self c.list_segments.new.self c.list_segments.ensures.alone)
 
-pub returns-clause-kept : goal.returns-clause-kept
-returns-clause-kept g c =
-    keeps_then (IsTrue g.F.Pages.told) c.args.self.now.names c.flush.new.self.names c.list_segments.new.self.names (g.F.Pages.files c.args.folder.now)
-    (g.F.Pages.files c.flush.new.folder) (g.F.Pages.files c.list_segments.new.folder)
-    c.in_ok-flush.ensures.kept c.list_segments.ensures.kept
-
-pub returns-clause-follows : goal.returns-clause-follows
-returns-clause-follows g c = subst (Follows c.args.self.now.names c.args.self.now.parts) (sym c.list_segments.ensures.alone.parts) c.in_ok-flush.ensures.follows
-
 pub returns-clause-begun : goal.returns-clause-begun
-returns-clause-begun g c = c.list_segments.ensures.alone.begun ∙ c.in_ok-flush.ensures.begun
-
-pub returns-clause-canon : goal.returns-clause-canon
-returns-clause-canon g c = λ told.
-    canon_saved g.row.D (IsTrue g.F.Pages.told) c.args.self.now.names (g.F.Pages.files c.flush.new.folder) (g.F.Pages.files c.list_segments.new.folder)
-    c.flush.new.self c.list_segments.new.self told
-    c.list_segments.ensures.well c.list_segments.ensures.kept c.in_ok-flush.ensures.kept.more c.list_segments.ensures.alone (c.in_ok-flush.ensures.canon told)
+returns-clause-begun g c = c.list_segments.ensures.alone.begun ∙ c.in_ok-flush.ensures.moves.begun
 
 pub returns-clause-cause : goal.returns-clause-cause
 returns-clause-cause g c =
     cause_after (g.F.Pages.faults c.args.folder.now) (g.F.Pages.faults c.flush.new.folder) (g.F.Pages.faults c.list_segments.new.folder) c.list_segments.result
     c.in_ok-flush.ensures.cause.fine c.list_segments.ensures.cause
-
-pub returns-clause-whole : goal.returns-clause-whole
-returns-clause-whole g c = λ told i seen. c.list_segments.ensures.whole
-
-pub returns-clause-shown : goal.returns-clause-shown
-returns-clause-shown g c =
-    no_damage c.list_segments.result (IsMergeDamage g.row.D c.args.self.now.given c.args.self.now.names c.args.self.now.parts) c.list_segments.ensures.whole
-
-pub returns-clause-damage : goal.returns-clause-damage
-returns-clause-damage g c = λ told agrees.
-    no_damage c.list_segments.result (IsMergeDamageOf (g.F.Pages.files c.list_segments.new.folder) c.args.self.now.given) c.list_segments.ensures.whole
-
-pub returns-clause-doubled : goal.returns-clause-doubled
-returns-clause-doubled g c = λ told agrees es read.
-    no_damage c.list_segments.result (IsDoubt c.args.self.now.given (live_in_parts es c.args.self.now.parts)) c.list_segments.ensures.whole
 
 pub returns-in_err-flush-clause-rested : goal.returns-in_err-flush-clause-rested
 returns-in_err-flush-clause-rested g c = λ settled. c.in_err-flush.ensures.rested settled
@@ -145,7 +67,7 @@ pub returns-clause-rested : goal.returns-clause-rested
 returns-clause-rested g c = λ settled. c.list_segments.ensures.reads ∙ c.in_ok-flush.ensures.rested settled
 
 pub returns-in_err-flush-clause-seen : goal.returns-in_err-flush-clause-seen
-returns-in_err-flush-clause-seen g c = c.in_err-flush.ensures.seen
+returns-in_err-flush-clause-seen g c = c.in_err-flush.ensures.moves.seen
 
 pub returns-in_err-flush-clause-emptied : goal.returns-in_err-flush-clause-emptied
 returns-in_err-flush-clause-emptied g c = never_ok _ c.from_residual.result c.from_residual.ensures.1 _
@@ -154,73 +76,91 @@ pub returns-in_err-flush-clause-levels : goal.returns-in_err-flush-clause-levels
 returns-in_err-flush-clause-levels g c = never_ok _ c.from_residual.result c.from_residual.ensures.1 _
 
 pub returns-in_err-flush-clause-stays : goal.returns-in_err-flush-clause-stays
-returns-in_err-flush-clause-stays g c = c.in_err-flush.ensures.stays
-
-pub returns-in_err-flush-clause-kept : goal.returns-in_err-flush-clause-kept
-returns-in_err-flush-clause-kept g c = c.in_err-flush.ensures.kept
-
-pub returns-in_err-flush-clause-follows : goal.returns-in_err-flush-clause-follows
-returns-in_err-flush-clause-follows g c = c.in_err-flush.ensures.follows
+returns-in_err-flush-clause-stays g c = c.in_err-flush.ensures.moves.stays
 
 pub returns-in_err-flush-clause-begun : goal.returns-in_err-flush-clause-begun
-returns-in_err-flush-clause-begun g c = c.in_err-flush.ensures.begun
-
-pub returns-in_err-flush-clause-canon : goal.returns-in_err-flush-clause-canon
-returns-in_err-flush-clause-canon g c = c.in_err-flush.ensures.canon
+returns-in_err-flush-clause-begun g c = c.in_err-flush.ensures.moves.begun
 
 pub returns-in_err-flush-clause-cause : goal.returns-in_err-flush-clause-cause
 returns-in_err-flush-clause-cause g c =
     same_cause (g.F.Pages.faults c.args.folder.now) (g.F.Pages.faults c.flush.new.folder) c.in_err-flush.field-0.0 c.from_residual.result
     c.from_residual.ensures.1 c.in_err-flush.ensures.cause
 
-pub returns-in_err-flush-clause-shown : goal.returns-in_err-flush-clause-shown
-returns-in_err-flush-clause-shown g c =
-    same_damage (IsMergeDamage g.row.D c.args.self.now.given c.args.self.now.names c.args.self.now.parts) c.in_err-flush.field-0.0 c.from_residual.result
-    c.from_residual.ensures.1 c.in_err-flush.ensures.shown
+pub returns-in_err-flush-clause-rewrites : goal.returns-in_err-flush-clause-rewrites
+returns-in_err-flush-clause-rewrites g c = record {
+  kept = c.in_err-flush.ensures.moves.kept;
+  follows = c.in_err-flush.ensures.moves.follows;
+  canon = c.in_err-flush.ensures.moves.canon;
+  faithful = λ told keeps. c.in_err-flush.ensures.faithful told keeps;
+}
 
-pub returns-in_err-flush-clause-damage : goal.returns-in_err-flush-clause-damage
-returns-in_err-flush-clause-damage g c = λ told agrees.
-    same_damage (IsMergeDamageOf (g.F.Pages.files c.flush.new.folder) c.args.self.now.given) c.in_err-flush.field-0.0 c.from_residual.result
-    c.from_residual.ensures.1 (c.in_err-flush.ensures.damage told agrees)
+pub returns-in_err-flush-clause-damaged : goal.returns-in_err-flush-clause-damaged
+returns-in_err-flush-clause-damaged g c =
+    shows_on g.row.D (IsTrue g.F.Pages.told) (g.F.Pages.files c.args.folder.now) (g.F.Pages.files c.flush.new.folder) c.args.self.now
+    _ _ c.in_err-flush.ensures.damaged
+    (λ P. same_damage P c.in_err-flush.field-0.0 c.from_residual.result c.from_residual.ensures.1)
 
-pub returns-in_err-flush-clause-faithful : goal.returns-in_err-flush-clause-faithful
-returns-in_err-flush-clause-faithful g c = λ told keeps. c.in_err-flush.ensures.faithful told keeps
+pub returns-in_err-flush-clause-saves : goal.returns-in_err-flush-clause-saves
+returns-in_err-flush-clause-saves g c = record {
+  saved = never_value _ c.from_residual.result c.from_residual.ensures.1 _;
+  commit = never_value _ c.from_residual.result c.from_residual.ensures.1 _;
+  fresh = never_value _ c.from_residual.result c.from_residual.ensures.1 _;
+  live = λ told. never_value _ c.from_residual.result c.from_residual.ensures.1 _;
+  stored = λ told i seen. never_value _ c.from_residual.result c.from_residual.ensures.1 _;
+}
 
-pub returns-in_err-flush-clause-evident : goal.returns-in_err-flush-clause-evident
-returns-in_err-flush-clause-evident g c =
-    same_damage (IsEvidentIn g.row.D c.args.self.now.parts (IsTrue g.F.Pages.told × IsFaithful g.row.D (g.F.Pages.files c.args.folder.now) c.args.self.now)
-    (g.F.Pages.files c.flush.new.folder))
-    c.in_err-flush.field-0.0 c.from_residual.result c.from_residual.ensures.1 c.in_err-flush.ensures.evident
+pub returns-clause-saves : goal.returns-clause-saves
+returns-clause-saves g c = record {
+  saved = c.list_segments.ensures.saved;
+  commit = c.list_segments.ensures.commit;
+  fresh =
+      let s = c.flush.new.self in
+      let t = c.list_segments.new.self in
+      let files = g.F.Pages.files c.list_segments.new.folder in
+      if_ok c.list_segments.result (λ (k : CommitData). AllZip (IsSaved (IsTrue g.F.Pages.told) s.names t.names files) k.listed s.parts)
+      (λ (k : CommitData). All (λ (l : Listed). is_named c.args.self.now.names.names (Live l.segment l.generation) ≡ false) k.listed)
+      (λ k all. all_fresh (IsTrue g.F.Pages.told) c.args.self.now.names s.names t.names files k.listed s.parts c.in_ok-flush.ensures.moves.kept.more all)
+      c.list_segments.ensures.listed;
+  live = λ told.
+      let s = c.flush.new.self in
+      let t = c.list_segments.new.self in
+      let files = g.F.Pages.files c.list_segments.new.folder in
+      if_ok c.list_segments.result (λ (k : CommitData). AllZip (IsSaved (IsTrue g.F.Pages.told) s.names t.names files) k.listed s.parts)
+      (λ (k : CommitData). AllZip (λ (l : Listed) (p : LiveSegment). IsLiveFile l.segment l.generation (bytes_of (files (Live l.segment l.generation))) p.live)
+      k.listed t.parts)
+      (λ k all. all_written (IsTrue g.F.Pages.told) s.names t.names files k.listed s.parts t.parts told c.list_segments.ensures.alone.parts all)
+      c.list_segments.ensures.listed;
+  stored = λ told i seen.
+      let s = c.flush.new.self in
+      let t = c.list_segments.new.self in
+      let m = c.list_segments.ensures in
+      let mid = g.F.Pages.files c.flush.new.folder in
+      let now = g.F.Pages.files c.list_segments.new.folder in
+      let there = sees_saved g.row.D (IsTrue g.F.Pages.told) mid now s t i told m.well m.kept m.alone (c.in_ok-flush.ensures.moves.seen told i seen) in
+      if_ok_both c.list_segments.result (λ (k : CommitData). IsCommitOf g.row.D t k)
+      (λ (k : CommitData). AllZip (IsSaved (IsTrue g.F.Pages.told) s.names t.names now) k.listed s.parts)
+      (λ (k : CommitData). (files : Files) → IsCommitFile (bytes_of (files Commit)) k → ((m : FileName) → ListsFile k m → files m ≡ now m)
+      → IsStored files (Some (at_rest i)))
+      (λ k commit all. saved_is_stored g.row.D (IsTrue g.F.Pages.told) s.names now t k i told
+      (well_saved g.row.D (IsTrue g.F.Pages.told) mid now s t m.well m.kept m.alone) (m.alone.buffer ∙ c.in_ok-flush.ensures.emptied) commit
+      (subst (AllZip (IsSaved (IsTrue g.F.Pages.told) s.names t.names now) k.listed) (sym m.alone.parts) all) there) m.commit m.listed;
+}
 
-pub returns-in_err-flush-clause-saved : goal.returns-in_err-flush-clause-saved
-returns-in_err-flush-clause-saved g c = never_value _ c.from_residual.result c.from_residual.ensures.1 _
+pub returns-clause-rewrites : goal.returns-clause-rewrites
+returns-clause-rewrites g c = record {
+  kept = keeps_then (IsTrue g.F.Pages.told) c.args.self.now.names c.flush.new.self.names c.list_segments.new.self.names (g.F.Pages.files c.args.folder.now)
+      (g.F.Pages.files c.flush.new.folder) (g.F.Pages.files c.list_segments.new.folder) c.in_ok-flush.ensures.moves.kept c.list_segments.ensures.kept;
+  follows = subst (Follows c.args.self.now.names c.args.self.now.parts) (sym c.list_segments.ensures.alone.parts) c.in_ok-flush.ensures.moves.follows;
+  canon = λ told. canon_saved g.row.D (IsTrue g.F.Pages.told) c.args.self.now.names (g.F.Pages.files c.flush.new.folder)
+      (g.F.Pages.files c.list_segments.new.folder) c.flush.new.self c.list_segments.new.self told c.list_segments.ensures.well c.list_segments.ensures.kept
+      c.in_ok-flush.ensures.moves.kept.more c.list_segments.ensures.alone (c.in_ok-flush.ensures.moves.canon told);
+  faithful = λ told keeps. c.list_segments.ensures.faithful told (c.in_ok-flush.ensures.faithful told keeps);
+}
 
-pub returns-in_err-flush-clause-commit : goal.returns-in_err-flush-clause-commit
-returns-in_err-flush-clause-commit g c = never_value _ c.from_residual.result c.from_residual.ensures.1 _
-
-pub returns-in_err-flush-clause-fresh : goal.returns-in_err-flush-clause-fresh
-returns-in_err-flush-clause-fresh g c = never_value _ c.from_residual.result c.from_residual.ensures.1 _
-
-pub returns-in_err-flush-clause-live : goal.returns-in_err-flush-clause-live
-returns-in_err-flush-clause-live g c = λ told. never_value _ c.from_residual.result c.from_residual.ensures.1 _
-
-pub returns-in_err-flush-clause-stored : goal.returns-in_err-flush-clause-stored
-returns-in_err-flush-clause-stored g c = λ told i seen. never_value _ c.from_residual.result c.from_residual.ensures.1 _
-
-pub returns-clause-saved : goal.returns-clause-saved
-returns-clause-saved g c = c.list_segments.ensures.saved
-
-pub returns-clause-commit : goal.returns-clause-commit
-returns-clause-commit g c = c.list_segments.ensures.commit
-
-pub returns-clause-faithful : goal.returns-clause-faithful
-returns-clause-faithful g c = λ told keeps. c.list_segments.ensures.faithful told (c.in_ok-flush.ensures.faithful told keeps)
-
-pub returns-clause-evident : goal.returns-clause-evident
-returns-clause-evident g c =
-    no_damage c.list_segments.result
-    (IsEvidentIn g.row.D c.args.self.now.parts (IsTrue g.F.Pages.told × IsFaithful g.row.D (g.F.Pages.files c.args.folder.now) c.args.self.now)
-    (g.F.Pages.files c.list_segments.new.folder)) c.list_segments.ensures.whole
+pub returns-clause-damaged : goal.returns-clause-damaged
+returns-clause-damaged g c =
+    shows_none g.row.D (IsTrue g.F.Pages.told) (g.F.Pages.files c.args.folder.now) (g.F.Pages.files c.list_segments.new.folder) c.args.self.now
+    _ (λ P. no_damage c.list_segments.result P c.list_segments.ensures.whole)
 
 pub returns-in_err-flush-clause-flushed : goal.returns-in_err-flush-clause-flushed
 returns-in_err-flush-clause-flushed g c = never_value _ c.from_residual.result c.from_residual.ensures.1 _
@@ -235,7 +175,7 @@ returns-clause-flushed g c =
     let s = c.flush.new.self in
     let t = c.list_segments.new.self in
     let files = g.F.Pages.files c.list_segments.new.folder in
-    if_ok_map c.list_segments.result (λ (k : CommitData). AllZip (IsSaved (IsTrue g.F.Pages.told) s.names t.names files) k.listed s.parts)
+    if_ok c.list_segments.result (λ (k : CommitData). AllZip (IsSaved (IsTrue g.F.Pages.told) s.names t.names files) k.listed s.parts)
     (λ (k : CommitData). (u : SetMoment) × Flushes g.row.D (IsTrue g.F.Pages.told) (moment (g.F.Pages.files c.args.folder.now) c.args.self.now) u
     × StaysButSaved u.set t × All (HasNextGeneration u.set.names) k.listed)
     (λ k all. (

@@ -5,7 +5,6 @@ use Rattle.segment_set.specs.Sets.{SetData}
 use Rattle.segment_set.specs.Kept.{IsNeeded}
 use Rattle.segment_set.proofs.Sizes.{set_fits}
 use Rattle.segment_set.proofs.Sweeping.{all_needed, front_before, front_still, gone_all, swept_none, swept_then}
-use Rattle.segment_set.proofs.Needed.{needed_still}
 use Rattle.segment_set.proofs.set.SegmentSet.sweep.Goals as goal
 
 pub names-init : goal.names-init
@@ -49,8 +48,8 @@ returns-clause-faithful g c = λ told keeps. c.names.invariant.faithful told kee
 pub returns-in_err-place-clause-faithful : goal.returns-in_err-place-clause-faithful
 returns-in_err-place-clause-faithful g c = λ told keeps. c.in_err-place.ensures.faithful told (c.names.invariant.faithful told keeps)
 
-pub returns-clause-swept : goal.returns-clause-swept
-returns-clause-swept g c = λ m there.
+pub returns-clause-only : goal.returns-clause-only
+returns-clause-only g c = λ m there.
     let le : length c.names.self.names.names ≤ c.names.place =
     omega (arith, c.names-test.false, ap length (c.as_slice.ensures ∙ ap (λ (u : SetData). u.names.names) c.self.view_is)) in
     all_needed c.args.self.now c.args.c.now c.names.self.names.names c.names.place le c.names.invariant.front m there
@@ -63,27 +62,11 @@ returns-clause-gone g c = λ told m there not_so.
     c.names.invariant.swept told
     (all_needed c.args.self.now c.args.c.now c.names.self.names.names c.names.place le c.names.invariant.front) m there not_so
 
-pub returns-in_err-place-clause-needed : goal.returns-in_err-place-clause-needed
-returns-in_err-place-clause-needed g c = λ told m need.
-    c.in_err-place.ensures.swept.needed told m (needed_still c.args.self.now c.names.self c.args.c.now m c.names.invariant.swept.alone need)
-    ∙ c.names.invariant.swept.needed told m need
+pub returns-clause-swept : goal.returns-clause-swept
+returns-clause-swept g c = c.names.invariant.swept
 
-pub returns-in_err-place-clause-others : goal.returns-in_err-place-clause-others
-returns-in_err-place-clause-others g c = λ told m none.
-    (swept_then (IsTrue g.F.Pages.told) c.args.c.now c.args.self.now c.names.self c.sweep_at.new.self (g.F.Pages.files c.args.folder.now)
+pub returns-in_err-place-clause-swept : goal.returns-in_err-place-clause-swept
+returns-in_err-place-clause-swept g c =
+    swept_then (IsTrue g.F.Pages.told) c.args.c.now c.args.self.now c.names.self c.sweep_at.new.self (g.F.Pages.files c.args.folder.now)
     (g.F.Pages.files c.names.folder) (g.F.Pages.files c.sweep_at.new.folder)
-    c.names.invariant.swept c.in_err-place.ensures.swept).others told m none
-
-pub returns-in_err-place-clause-named : goal.returns-in_err-place-clause-named
-returns-in_err-place-clause-named g c = λ m need there.
-    c.in_err-place.ensures.swept.named m (needed_still c.args.self.now c.names.self c.args.c.now m c.names.invariant.swept.alone need)
-    (c.names.invariant.swept.named m need there)
-
-pub returns-clause-left : goal.returns-clause-left
-returns-clause-left g c = λ told m there none. c.names.invariant.swept.gone told m there none
-
-pub returns-in_err-place-clause-left : goal.returns-in_err-place-clause-left
-returns-in_err-place-clause-left g c = λ told m there none.
-    (swept_then (IsTrue g.F.Pages.told) c.args.c.now c.args.self.now c.names.self c.sweep_at.new.self (g.F.Pages.files c.args.folder.now)
-    (g.F.Pages.files c.names.folder) (g.F.Pages.files c.sweep_at.new.folder)
-    c.names.invariant.swept c.in_err-place.ensures.swept).gone told m there none
+    c.names.invariant.swept c.in_err-place.ensures.swept

@@ -99,19 +99,17 @@ returns-clause-reads g c n are =
     (sym (parts_are g c))
     are)
 
-pub returns-clause-whole : goal.returns-clause-whole
-returns-clause-whole g c told i seen =
-    c.visit.ensures.whole told (agreed g c i seen) seen.contents (looked_read _ _ _ i _ _ (parts_are g c) seen)
-
 pub returns-clause-faithful : goal.returns-clause-faithful
 returns-clause-faithful g c told keeps =
     subst (IsFaithful g.row.D (g.F.Pages.files c.visit.new.folder)) (sym (same g c))
     (looked_faithful g.row.D _ _ _ (was g c) _ _ _ c.self.view_is c.visit.ensures.calm told keeps)
 
-pub returns-clause-shown : goal.returns-clause-shown
-returns-clause-shown g c = subst (λ (ps : List LiveSegment). OnDamage c.visit.result (IsPartDamage g.row.D ps)) (parts_are g c) c.visit.ensures.shown
-
-pub returns-clause-evident : goal.returns-clause-evident
-returns-clause-evident g c =
-    looked_evident g.row.D _ _ _ _ _ (view_name c.args.view.now) c.view_of.result.0.now _ _ c.visit.result c.self.view_is (parts_are g c) c.visit.ensures.calm
-    c.visit.ensures.shown c.visit.ensures.damage
+pub returns-clause-damaged : goal.returns-clause-damaged
+returns-clause-damaged g c = record {
+  whole = c.visit.ensures.whole told (agreed g c i seen) seen.contents (looked_read _ _ _ i _ _ (parts_are g c) seen);
+  shown = subst (λ (ps : List LiveSegment). OnDamage c.visit.result (IsPartDamage g.row.D ps)) (parts_are g c) c.visit.ensures.shown;
+  damage = λ told agrees.
+      c.visit.ensures.damage told (subst (λ (u : SetData). Agrees (g.F.Pages.files c.args.folder.now) u.cache) (sym c.self.view_is) agrees);
+  evident = looked_evident g.row.D _ _ _ _ _ (view_name c.args.view.now) c.view_of.result.0.now _ _ c.visit.result c.self.view_is (parts_are g c)
+      c.visit.ensures.calm c.visit.ensures.shown c.visit.ensures.damage;
+}
