@@ -7,7 +7,7 @@ use Rattle.std.proofs.lemmas.List.Elements.{filter_agree}
 use Rattle.point_codec.specs.Points.{Item}
 use Rattle.live_bits.specs.LiveSet.{LiveSet, live_set_without}
 use Rattle.segment_file.specs.Sinks.{set_without_entries}
-use Rattle.segment_file.specs.SinkLaws.{clears_in_turn, with_live}
+use Rattle.segment_file.proofs.Sinks.{cleared_both, with_live}
 
 all_kept : (ns : List ℕ) → filter (λ (n : ℕ). not false) ns ≡ ns
 all_kept [] = refl
@@ -35,7 +35,7 @@ cleared_one x s =
 pub cleared_more : (items : List Item) (i : ℕ) (x : Item) (doc : ℕ) (old mid new : LiveSet) → take (i + 1) items ≡ take i items ++ x ∷ [] → doc ≡ x.doc
     → mid ≡ set_without_entries (take i items) old → new ≡ live_set_without doc mid → new ≡ set_without_entries (take (i + 1) items) old
 cleared_more items i x doc old mid new more is before after =
-    clears_in_turn old mid new old (take i items) (x ∷ []) before
+    cleared_both old mid new (take i items) (x ∷ []) before
     (after ∙ ap (λ (n : ℕ). live_set_without n mid) is ∙ cleared_one x mid)
     ∙ ap (λ (xs : List Item). set_without_entries xs old) (sym more)
 

@@ -11,6 +11,7 @@ pub mod HeadReads
 pub mod Subtrees
 pub mod LeafPages
 pub mod Entries
+pub mod Sinks
 pub mod Cleared
 pub mod Paged
 pub mod Laid

@@ -8,4 +8,3 @@ pub mod FieldsSeen
 pub mod Gathers
 pub mod Pieced
 pub mod Sinks
-pub mod SinkLaws

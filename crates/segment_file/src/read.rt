@@ -16,7 +16,7 @@ ghost use Rattle.page_cache.specs.Reading.{ReadsCached};
 ghost use Rattle.segment_file.specs.Heads.{page_of};
 ghost use Rattle.segment_file.specs.Segments.{HoldsTree, IsHeadOf, IsSegment};
 ghost use Rattle.segment_file.specs.Gathers.{AreLeavesWith, Gathers, ReadsEach, last_page};
-ghost use Rattle.segment_file.specs.Sinks.{set_without_entries};
+ghost use Rattle.segment_file.specs.Sinks.{Adds, set_without_entries};
 ghost use Rattle.segment_file.specs.Damages.{IsLeafDamage, IsLeafDamageOf};
 
 use crate::head::SegmentHead;
@@ -73,9 +73,13 @@ pub fn read_entries<const D: usize, F: Pages>(
     let room = live
         .live_count()
         .saturating_add(u32::from(head.leaf_size()));
-    let mut entries = Vec::with_capacity(alloc, room.min(head.entries()) as usize)?;
-    gather_all(alloc, folder, cache, head, live, &mut entries)?;
-    Ok(entries)
+    let list = Vec::with_capacity(alloc, room.min(head.entries()) as usize)?;
+    let mut sink = LeafSink::Entries(list);
+    gather_all(alloc, folder, cache, head, live, &mut sink)?;
+    match sink {
+        LeafSink::Entries(entries) => Ok(entries),
+        LeafSink::Numbers(_numbers) => unreachable!(),
+    }
 }
 
 /// The live numbers of which the segment has no entry. Each leaf page is read once at most, and no entry is kept: the
@@ -107,19 +111,23 @@ pub fn numbers_without_entry<const D: usize, F: Pages>(
         → IsSegment D (bytes_of (F.files folder.old (Segment head.now.id))) head.now items
         → NotDamaged result }
 {
-    let mut left = live.copy(alloc)?;
-    gather_all(alloc, folder, cache, head, live, &mut left)?;
-    Ok(left)
+    let numbers = live.copy(alloc)?;
+    let mut sink = LeafSink::Numbers(numbers);
+    gather_all(alloc, folder, cache, head, live, &mut sink)?;
+    match sink {
+        LeafSink::Numbers(left) => Ok(left),
+        LeafSink::Entries(_entries) => unreachable!(),
+    }
 }
 
 /// Adds the entries of all leaves to the sink.
-fn gather_all<const D: usize, F: Pages, S: LeafSink<D>>(
+fn gather_all<const D: usize, F: Pages>(
     alloc: Global,
     folder: &mut F,
     cache: &mut PageCache,
     head: &SegmentHead<D>,
     live: &LiveBits,
-    sink: &mut S,
+    sink: &mut LeafSink<D>,
 ) -> Result<(), PageFault>
     ensures reading { ReadsCached F.told (λ i. i ≡ head.now.id) (F.files folder.old) (F.files folder.new)
         cache.old cache.new (F.faults folder.old) (F.faults folder.new) result }
@@ -131,8 +139,8 @@ fn gather_all<const D: usize, F: Pages, S: LeafSink<D>>(
         → (root : Region) (t : IndexTree) → HasTree D head.now.index root t
         → OnOk result
         (AreLeavesWith D (bytes_of (F.files folder.old (Segment head.now.id))) head.now 0 front t
-        (λ items. S.adds sink.old live.now items sink.new)) }
-    ensures added { OnOk result ((items : List Item) × S.adds sink.old live.now items sink.new) }
+        (λ items. Adds sink.old live.now items sink.new)) }
+    ensures added { OnOk result ((items : List Item) × Adds sink.old live.now items sink.new) }
     ensures shown { (root : Region) (t : IndexTree) → HasTree D head.now.index root t
         → OnDamage result (IsLeafDamage D head.now 0 front t) }
     ensures damage { IsTrue F.told → Agrees (F.files folder.old) cache.old
@@ -146,14 +154,14 @@ fn gather_all<const D: usize, F: Pages, S: LeafSink<D>>(
 }
 
 /// Adds the entries of all leaves at or below the node.
-fn gather<const D: usize, F: Pages, S: LeafSink<D>>(
+fn gather<const D: usize, F: Pages>(
     alloc: Global,
     folder: &mut F,
     cache: &mut PageCache,
     head: &SegmentHead<D>,
     live: &LiveBits,
     node: &NodeAt<'_, D>,
-    sink: &mut S,
+    sink: &mut LeafSink<D>,
 ) -> Result<(), PageFault>
     ensures reading { ReadsCached F.told (λ i. i ≡ head.now.id) (F.files folder.old) (F.files folder.new)
         cache.old cache.new (F.faults folder.old) (F.faults folder.new) result }
@@ -168,8 +176,8 @@ fn gather<const D: usize, F: Pages, S: LeafSink<D>>(
         → IsAt node.now first s path t
         → OnOk result
         (AreLeavesWith D (bytes_of (F.files folder.old (Segment head.now.id))) head.now first s t
-        (λ items. S.adds sink.old live.now items sink.new)) }
-    ensures added { OnOk result ((items : List Item) × S.adds sink.old live.now items sink.new) }
+        (λ items. Adds sink.old live.now items sink.new)) }
+    ensures added { OnOk result ((items : List Item) × Adds sink.old live.now items sink.new) }
     ensures shown { (first : ℕ) (s : Spot) (path : Region) (t : IndexTree) → IsAt node.now first s path t
         → OnDamage result (IsLeafDamage D head.now first s t) }
     ensures damage { IsTrue F.told → Agrees (F.files folder.old) cache.old
@@ -191,14 +199,14 @@ fn gather<const D: usize, F: Pages, S: LeafSink<D>>(
 }
 
 /// Adds the entries of a leaf.
-fn gather_leaf<const D: usize, F: Pages, S: LeafSink<D>>(
+fn gather_leaf<const D: usize, F: Pages>(
     alloc: Global,
     folder: &mut F,
     cache: &mut PageCache,
     head: &SegmentHead<D>,
     live: &LiveBits,
     node: &NodeAt<'_, D>,
-    sink: &mut S,
+    sink: &mut LeafSink<D>,
 ) -> Result<(), PageFault>
     requires { node.now.leaves ≡ 1 }
     ensures reading { ReadsCached F.told (λ i. i ≡ head.now.id) (F.files folder.old) (F.files folder.new)
@@ -214,8 +222,8 @@ fn gather_leaf<const D: usize, F: Pages, S: LeafSink<D>>(
         → IsAt node.now first s path t
         → OnOk result
         (AreLeavesWith D (bytes_of (F.files folder.old (Segment head.now.id))) head.now first s t
-        (λ items. S.adds sink.old live.now items sink.new)) }
-    ensures added { OnOk result ((items : List Item) × S.adds sink.old live.now items sink.new) }
+        (λ items. Adds sink.old live.now items sink.new)) }
+    ensures added { OnOk result ((items : List Item) × Adds sink.old live.now items sink.new) }
     ensures shown { (first : ℕ) (s : Spot) (path : Region) (t : IndexTree) → IsAt node.now first s path t
         → OnDamage result (IsLeafDamage D head.now first s t) }
     ensures damage { IsTrue F.told → Agrees (F.files folder.old) cache.old

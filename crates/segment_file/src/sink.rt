@@ -1,56 +1,35 @@
 //! What the leaves of a segment are read into.
 
-ghost use Rattle.std.specs.Prelude.{◌≡◌, ◌≤◌, ◌+◌, ◌++◌, ◌∷◌, ◌<◌, List, [], Some, length, slice_get, filter, OnOk};
+ghost use Rattle.std.specs.Prelude.{◌≡◌, ◌≤◌, ◌+◌, ◌++◌, ◌∷◌, ◌<◌, [], Some, length, slice_get, filter, OnOk};
 ghost use Rattle.std.specs.Prelude.{vec_capacity, vec_len};
 ghost use Rattle.point_codec.specs.Points.{Item};
 ghost use Rattle.point_codec.specs.Seen.{items_of};
-ghost use Rattle.live_bits.specs.LiveSet.{LiveSet, is_live};
-ghost use Rattle.segment_file.specs.Sinks.{AddInTurn, set_without_entries};
-ghost use Rattle.segment_file.specs.SinkLaws.{appends_in_turn, clears_in_turn};
+ghost use Rattle.live_bits.specs.LiveSet.{is_live};
+ghost use Rattle.segment_file.specs.Sinks.{Adds, set_without_entries};
 
 use byte_cursor::Memory;
 use leaf_codec::LeafView;
 use live_bits::LiveBits;
 use point_codec::Entry;
 
-/// What the entries of leaves are added to, one leaf after the other, beside the live numbers of the segment.
-///
-/// `adds` says of a sink, live numbers and entries what the sink is after these were added.
-pub(crate) trait LeafSink<const D: usize> {
-    ghost adds: { Self → LiveSet → List Item → Self → Type 0 };
+/// What the entries of leaves are added to, one leaf after the other.
+#[derive(Drop)]
+pub(crate) enum LeafSink<const D: usize> {
+    /// The live entries, in the order of the leaves.
+    Entries(Vec<Entry<D>>),
+    /// The live numbers of which no entry was added.
+    Numbers(LiveBits),
+}
 
-    ghost in_turn: { AddInTurn adds };
-
+impl<const D: usize> LeafSink<D> {
     /// Adds the entries of a leaf.
-    fn add_leaf(&mut self, view: &LeafView<'_, D>, live: &LiveBits) -> Result<(), Memory>
-        ensures { OnOk result (adds self.old live.now view.now self.new) };
-}
-
-/// The live entries are put behind those of the list.
-impl<const D: usize> LeafSink<D> for Vec<Entry<D>> {
-    ghost adds = { λ old live items new.
-        items_of new.items ≡ items_of old.items ++ filter (λ x. is_live live x.doc) items };
-
-    ghost in_turn = { appends_in_turn (λ v. items_of v.items) };
-
-    fn add_leaf(&mut self, view: &LeafView<'_, D>, live: &LiveBits) -> Result<(), Memory>
-        ensures { OnOk result
-            (items_of self.new.items ≡ items_of self.old.items ++ filter (λ x. is_live live.now x.doc) view.now) }
+    pub(crate) fn add_leaf(&mut self, view: &LeafView<'_, D>, live: &LiveBits) -> Result<(), Memory>
+        ensures { OnOk result (Adds self.old live.now view.now self.new) }
     {
-        push_live(view, live, self)
-    }
-}
-
-/// The number of each entry is taken out of the set.
-impl<const D: usize> LeafSink<D> for LiveBits {
-    ghost adds = { λ old live items new. new ≡ set_without_entries items old };
-
-    ghost in_turn = { clears_in_turn };
-
-    fn add_leaf(&mut self, view: &LeafView<'_, D>, _live: &LiveBits) -> Result<(), Memory>
-        ensures { OnOk result (self.new ≡ set_without_entries view.now self.old) }
-    {
-        clear_all(view, self);
+        match self {
+            LeafSink::Entries(entries) => push_live(view, live, entries)?,
+            LeafSink::Numbers(left) => clear_all(view, left),
+        }
         Ok(())
     }
 }

@@ -12,6 +12,8 @@ use Rattle.segment_file.specs.Damages.{IsLeafDamage}
 use Rattle.segment_file.specs.Heads.{page_of}
 use Rattle.segment_file.specs.Gathers.{AreLeavesWith, ReadsEach, last_page}
 use Rattle.segment_file.proofs.Subtrees.{OnOk-weaker, left_damage, right_damage, leaves_join}
+use Rattle.segment_file.specs.Sinks.{Adds}
+use Rattle.segment_file.proofs.Sinks.{adds_in_turn}
 use Rattle.segment_file.proofs.LeafPages.{left_reads, right_last, both_read}
 use Rattle.segment_file.proofs.read.+gather.Goals as goal
 
@@ -80,13 +82,13 @@ returns-in_ok-gather-in-Some-clause-gathers g t c = λ told agrees first s path 
     c.gather-in-Some.ensures.gathers told after (first + leaf_count k.l) (right_begin s k.l k.r) (right_of path k.dimension k.value) k.r k.right_is in
     OnOk-weaker c.gather-in-Some.result _ _
     (λ r. subst (λ (v : IndexTree).
-    AreLeavesWith g.row.D bytes c.args.head.now first s v (λ items. g.S.LeafSink.adds c.args.sink.now c.args.live.now items c.gather-in-Some.new.sink))
+    AreLeavesWith g.row.D bytes c.args.head.now first s v (λ items. Adds c.args.sink.now c.args.live.now items c.gather-in-Some.new.sink))
     (sym k.is)
     (leaves_join g.row.D bytes c.args.head.now first s k.l k.r k.dimension k.value
-    (λ items. g.S.LeafSink.adds c.args.sink.now c.args.live.now items c.gather.new.sink)
-    (λ items. g.S.LeafSink.adds c.gather.new.sink c.args.live.now items c.gather-in-Some.new.sink)
-    (λ items. g.S.LeafSink.adds c.args.sink.now c.args.live.now items c.gather-in-Some.new.sink)
-    (g.S.LeafSink.in_turn c.args.sink.now c.gather.new.sink c.gather-in-Some.new.sink c.args.live.now)
+    (λ items. Adds c.args.sink.now c.args.live.now items c.gather.new.sink)
+    (λ items. Adds c.gather.new.sink c.args.live.now items c.gather-in-Some.new.sink)
+    (λ items. Adds c.args.sink.now c.args.live.now items c.gather-in-Some.new.sink)
+    (adds_in_turn c.args.sink.now c.gather.new.sink c.gather-in-Some.new.sink c.args.live.now)
     left (rw (c.gather.ensures.reading.files told) at r)))
     right
 
@@ -94,7 +96,7 @@ pub returns-in_ok-gather-in-Some-clause-added : goal.returns-in_ok-gather-in-Som
 returns-in_ok-gather-in-Some-clause-added g t c =
     let (xs, front) = c.in_ok-gather-in-Some.ensures.added in
     OnOk-weaker c.gather-in-Some.result _ _
-    (λ (ys, back). (xs ++ ys, g.S.LeafSink.in_turn c.args.sink.now c.gather.new.sink c.gather-in-Some.new.sink c.args.live.now xs ys front back))
+    (λ (ys, back). (xs ++ ys, adds_in_turn c.args.sink.now c.gather.new.sink c.gather-in-Some.new.sink c.args.live.now xs ys front back))
     c.gather-in-Some.ensures.added
 
 pub returns-in_err-gather-in-Some-clause-pages : goal.returns-in_err-gather-in-Some-clause-pages

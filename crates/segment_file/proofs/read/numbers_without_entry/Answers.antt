@@ -14,16 +14,19 @@ returns-in_err-gather_all-clause-whole g c = λ told agrees items p.
     let e = err_from_is_err_and c.from_residual-in_err-gather_all.result c.from_residual-in_err-gather_all.ensures.1 in
     rw (e.1, e.2) (c.in_err-gather_all.ensures.whole told agrees items p)
 
+pub unreachable-requires : goal.unreachable-requires
+unreachable-requires g c = (rw c.in-Entries.is at c.in_ok-gather_all.ensures.added).1
+
 pub returns-clause-spelled : goal.returns-clause-spelled
 unfolding IsSegment IsHeadOf
 returns-clause-spelled g c = λ told agrees p.
-    let got = c.in_ok-gather_all.ensures.gathers told agrees p.root p.tree p.spells.has in (
+    let got = rw c.in-Numbers.is at (c.in_ok-gather_all.ensures.gathers told agrees p.root p.tree p.spells.has) in (
       got.items,
       record { head_is = p; root = p.root; tree = p.tree; has = p.spells.has; holds = got.holds },
-      got.so ∙ ap (set_without_entries got.items) c.in_ok-left.ensures,
+      got.so ∙ ap (set_without_entries got.items) c.in_ok-numbers.ensures,
     )
 
 pub returns-clause-live : goal.returns-clause-live
 returns-clause-live g c =
-    let (items, added) = c.in_ok-gather_all.ensures.added in
-    (items, added ∙ ap (set_without_entries items) c.in_ok-left.ensures)
+    let (items, added) = rw c.in-Numbers.is at c.in_ok-gather_all.ensures.added in
+    (items, added ∙ ap (set_without_entries items) c.in_ok-numbers.ensures)

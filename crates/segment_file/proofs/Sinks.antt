@@ -1,24 +1,27 @@
--- Lists and sets are added to in turn.
+-- Adding some entries and then others is adding them all.
 use Rattle.std.proofs.Common.{◌≡◌, ℕ, Bool, true, false, not, ◌&&◌, ◌||◌, eqb, cond, List, [], ◌∷◌, ◌++◌}
 use Rattle.std.proofs.Common.{refl, sym, ap, ◌∙◌, append_assoc}
 use Rattle.std.specs.List.{filter, list_any}
 use Rattle.std.proofs.lemmas.List.Elements.{filter-append}
 use Rattle.std.proofs.lemmas.List.Folds.{list_any-append}
 use Rattle.point_codec.specs.Points.{Item}
+use Rattle.point_codec.specs.Seen.{items_of}
 use Rattle.live_bits.specs.LiveSet.{LiveSet, is_live}
-use Rattle.segment_file.specs.Sinks.{AddInTurn, set_without_entries}
+use Rattle.segment_file.specs.declared.sink.LeafSink.{LeafSink}
+use Rattle.segment_file.specs.declared.sink.LeafSink.TheVariants.{Entries, Numbers}
+use Rattle.segment_file.specs.Sinks.{Adds, set_without_entries}
 
 -- the live ones of these entries
 abbrev live_of : LiveSet → List Item → List Item
 live_of live items = filter (λ x. is_live live x.doc) items
 
 -- entries put behind a list
-pub appends_in_turn : {S : Type 0} (read : S → List Item)
-    → AddInTurn (λ (old : S) (live : LiveSet) (items : List Item) (new : S). read new ≡ read old ++ live_of live items)
-appends_in_turn read old mid new live xs ys front back =
+appended_both : (old mid new : List Item) (live : LiveSet) (xs ys : List Item) → mid ≡ old ++ live_of live xs → new ≡ mid ++ live_of live ys
+    → new ≡ old ++ live_of live (xs ++ ys)
+appended_both old mid new live xs ys front back =
     back ∙ ap (λ (z : List Item). z ++ live_of live ys) front
-    ∙ append_assoc (read old) (live_of live xs) (live_of live ys)
-    ∙ ap (λ (z : List Item). read old ++ z) (sym (filter-append (λ (x : Item). is_live live x.doc) xs ys))
+    ∙ append_assoc old (live_of live xs) (live_of live ys)
+    ∙ ap (λ (z : List Item). old ++ z) (sym (filter-append (λ (x : Item). is_live live x.doc) xs ys))
 
 -- ---- numbers taken out of a set
 
@@ -54,7 +57,18 @@ without_both xs ys s =
     (filter_twice (λ n. not (has xs n)) (λ n. not (has ys n)) (λ n. not (has (xs ++ ys) n))
     (λ n. ap not (list_any-append (λ (x : Item). eqb x.doc n) xs ys) ∙ neither (has xs n) (has ys n)) s.live)
 
-pub clears_in_turn :
-    AddInTurn (λ (old live : LiveSet) (items : List Item) (new : LiveSet). new ≡ set_without_entries items old)
-clears_in_turn old mid new live xs ys front back =
-    back ∙ ap (set_without_entries ys) front ∙ without_both xs ys old
+pub cleared_both : (old mid new : LiveSet) (xs ys : List Item) → mid ≡ set_without_entries xs old → new ≡ set_without_entries ys mid
+    → new ≡ set_without_entries (xs ++ ys) old
+cleared_both old mid new xs ys front back = back ∙ ap (set_without_entries ys) front ∙ without_both xs ys old
+
+-- ---- either sink
+
+pub adds_in_turn : {D : ℕ} (old mid new : LeafSink D) (live : LiveSet) (xs ys : List Item) → Adds old live xs mid → Adds mid live ys new
+    → Adds old live (xs ++ ys) new
+adds_in_turn (Entries a) (Entries b) (Entries c) live xs ys front back =
+    appended_both (items_of a.items) (items_of b.items) (items_of c.items) live xs ys front back
+adds_in_turn (Entries a) (Entries b) (Numbers c) live xs ys front back = absurd back
+adds_in_turn (Entries a) (Numbers b) new live xs ys front back = absurd front
+adds_in_turn (Numbers a) (Entries b) new live xs ys front back = absurd front
+adds_in_turn (Numbers a) (Numbers b) (Entries c) live xs ys front back = absurd back
+adds_in_turn (Numbers a) (Numbers b) (Numbers c) live xs ys front back = cleared_both a b c xs ys front back
