@@ -1,4 +1,4 @@
-use Rattle.std.proofs.Common.{Err, ap, arith, refl, subst, ◌∙◌}
+use Rattle.std.proofs.Common.{Err, ap, subst, ◌∙◌}
 use Rattle.std.specs.Prelude.{IfNone, IfSome}
 use Rattle.std.specs.List.{count_by}
 use Rattle.std.proofs.lemmas.Result.{err_from_is_err_and}
@@ -7,7 +7,7 @@ use Rattle.leaf_codec.specs.LeafOrder.{NoneTwice}
 use Rattle.documents.specs.Entries.{has_entry}
 use Rattle.document_checks.specs.Crowded.{AreFew, IsLeastCrowded}
 use Rattle.segment_view.proofs.Shown.{read_shown}
-use Rattle.folder_check.proofs.Found.{fewer_left, found_of, numbers_of}
+use Rattle.folder_check.proofs.Found.{found_of}
 use Rattle.folder_check.proofs.Pages.{leaves_read}
 use Rattle.folder_check.proofs.reading.read_segment.Goals as goal
 
@@ -38,32 +38,3 @@ returns-clause-found g c = λ told agrees own.
     (subst (λ es. IfNone c.in_ok-told.told.1 (NoneTwice (items_of es) × AreFew (items_of es))) c.as_slice.ensures.value c.in_ok-told.ensures.none)
     (subst (λ es. IfSome c.in_ok-told.told.1 (λ number. IsLeastCrowded number (items_of es))) c.as_slice.ensures.value c.in_ok-told.ensures.some)
     (c.len.ensures ∙ c.in_ok-entries.entries.ok.0)
-
--- ---- by the numbers alone
-
-pub returns-in_err-left-clause-shown : goal.returns-in_err-left-clause-shown
-returns-in_err-left-clause-shown g c =
-    let e = err_from_is_err_and c.from_residual-in_err-left.result c.from_residual-in_err-left.ensures.1 in
-    rw (e.1, e.2)
-    (read_shown {T = Unit {0}} g.row.D c.args.head.now c.index.result.now (Err c.in_err-left.field-0.0) c.index.ensures.ranges c.index.ensures.value
-    c.is_spelled.ensures c.in_err-left.ensures.shown)
-
-pub returns-in_err-left-clause-reads : goal.returns-in_err-left-clause-reads
-returns-in_err-left-clause-reads g c = λ told own.
-    leaves_read g.row.D (g.F.Pages.files c.args.folder.now) c.args.head.now _ _ own c.in_err-left.ensures.pages
-
-pub overflow_sub-found : goal.overflow_sub-found
-overflow_sub-found g c =
-    let (items, is) = c.in_ok-left.ensures.live in
-    omega (arith, fewer_left c.args.live.now c.in_ok-left.left items is, c.live_count.ensures.value, c.live_count-2.ensures.value)
-
-pub returns-in_ok-left-clause-reads : goal.returns-in_ok-left-clause-reads
-returns-in_ok-left-clause-reads g c = λ told own.
-    leaves_read g.row.D (g.F.Pages.files c.args.folder.now) c.args.head.now _ _ own c.in_ok-left.ensures.pages
-
-pub returns-in_ok-left-clause-found : goal.returns-in_ok-left-clause-found
-returns-in_ok-left-clause-found g c = λ told agrees own.
-    let (items, held, is) = c.in_ok-left.ensures.spelled told agrees own in
-    numbers_of g.row.D (g.F.Pages.files c.args.folder.now) c.args.head.now c.args.live.now c.in_ok-left.left items _ c.live_count.ensures.set
-    (omega (arith, c.entries.ensures, c.live_count.ensures.value)) held is
-    (omega (arith, c.live_count.ensures.value, c.live_count-2.ensures.value)) refl (omega (arith, c.entries.ensures, c.from.ensures))
