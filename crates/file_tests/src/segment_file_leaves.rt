@@ -12,7 +12,9 @@ use live_bits::LiveBits;
 use outer_io::{FileName, MemFolder};
 use page_cache::{LeafNote, PageCache};
 use point_codec::{Entry, Point};
-use segment_file::{SegmentHead, bad_leaf, leaf_in, load_leaf, open_segment, read_entries};
+use segment_file::{
+    SegmentHead, bad_leaf, leaf_in, load_leaf, numbers_without_entry, open_segment, read_entries,
+};
 use std::process::Abort;
 use std::test::Fail;
 
@@ -102,6 +104,18 @@ fn live_entries_are_read_in_each_form_and_their_page_once(rt: HostRuntime) -> Re
         reads_live(&rt, &mut folder, &mut cache, &head, 1)?;
         reads_live(&rt, &mut folder, &mut cache, &head, 0)?;
     }
+    Ok(())
+}
+
+#[test]
+fn numbers_without_an_entry_are_found(rt: HostRuntime) -> Result<(), Fail> {
+    let (mut folder, head) = stored(&rt, &OWN_HEAD, &OWN, &LEAVES)?;
+    let mut cache = PageCache::new(rt.alloc(), 1)?;
+    let live = LiveBits::of_docs(rt.alloc(), &[0, 3, 9])?;
+    let left = numbers_without_entry(rt.alloc(), &mut folder, &mut cache, &head, &live)
+        .ok()
+        .ok_or("no numbers")?;
+    same(&rt, (left.live_count(), left.is_live(9)), (1, true));
     Ok(())
 }
 

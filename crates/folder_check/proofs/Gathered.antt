@@ -15,7 +15,7 @@ use Rattle.stored_index.specs.Stored.{HoldsFiles}
 use Rattle.segment_view.specs.LiveSegments.{LiveSegment, lives_of, live_segment}
 use Rattle.index_opening.specs.Opened.{IsOpened}
 use Rattle.folder_check.specs.declared.findings.Finding.{Finding}
-use Rattle.folder_check.specs.Found.{HasAll, IsFinding, IsFoundOf, all_entries}
+use Rattle.folder_check.specs.Found.{AreTallied, HasAll, IsFinding, IsFoundOf, all_entries}
 use Rattle.folder_check.proofs.Entries.{all_pass, live_number}
 
 -- what the files of a listed segment hold, whether or not each live number has an entry
@@ -97,9 +97,25 @@ all_held files c (s ∷ ss) [] fs h found all = absurd h
 all_held files c (s ∷ ss) (d ∷ ds) [] h found all = absurd found
 all_held files c (s ∷ ss) (d ∷ ds) (f ∷ fs) h found all = (one_held files c s d f h.0 found.0 all.0, all_held files c ss ds fs h.1 found.1 all.1)
 
+-- and this was found of their live entries
+abbrev pub IsTalliedIn : SegmentData → Finding → Type 0
+IsTalliedIn d f = AreTallied (live_entries d) f
+
+pub all_tallied : (files : Files) (c : CommitData) (listed : List Listed) (held : List SegmentData) (findings : List Finding)
+    → AllZip (HoldsBut files c) listed held → AllZip IsFoundIn held findings
+    → AllZip HasAll listed findings → AllZip IsTalliedIn held findings
+all_tallied files c [] [] [] h found all = tt
+all_tallied files c [] [] (f ∷ fs) h found all = absurd found
+all_tallied files c [] (d ∷ ds) fs h found all = absurd h
+all_tallied files c (s ∷ ss) [] fs h found all = absurd h
+all_tallied files c (s ∷ ss) (d ∷ ds) [] h found all = absurd found
+all_tallied files c (s ∷ ss) (d ∷ ds) (f ∷ fs) h found all =
+    (found.0.tallied (sym all.0 ∙ sym h.0.live_count), all_tallied files c ss ds fs h.1 found.1 all.1)
+
 -- ---- how many live entries there are
 
-pub entries_found : (held : List SegmentData) (findings : List Finding) → AllZip IsFoundIn held findings → all_entries findings ≡ length (all_live_entries held)
+pub entries_found : (held : List SegmentData) (findings : List Finding) → AllZip IsTalliedIn held findings
+    → all_entries findings ≡ length (all_live_entries held)
 entries_found [] [] all = refl
 entries_found [] (f ∷ fs) all = absurd all
 entries_found (d ∷ ds) [] all = absurd all

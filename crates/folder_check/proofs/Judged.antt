@@ -33,7 +33,8 @@ use Rattle.index_opening.specs.Opened.{IsOpened}
 use Rattle.folder_check.specs.declared.findings.Finding.{Finding}
 use Rattle.folder_check.specs.Found.{AreFine, IsFinding, Beyond, Crowding, HasAll, IsBeyondGiven, IsCrowding, IsLacking, IsWrong, Lacking, all_entries}
 use Rattle.folder_check.proofs.Entries.{number_live, one_fails}
-use Rattle.folder_check.proofs.Gathered.{HoldsBut, IsFoundIn, all_held, entries_found, gathered, gathered_found, gathered_holds, gathered_lives}
+use Rattle.folder_check.proofs.Gathered.{HoldsBut, IsFoundIn, IsTalliedIn, all_held, all_tallied, entries_found, gathered, gathered_found}
+use Rattle.folder_check.proofs.Gathered.{gathered_holds, gathered_lives}
 use Rattle.folder_check.proofs.Pairs.{get_in, zip_at, zip_long, zip_over}
 
 -- all that is known of what the files of a commit's segments hold before what was found is looked through
@@ -48,19 +49,19 @@ commit_of : (c : CommitData) {bytes : List ℕ} → IsCommitFile bytes c → IsC
 commit_of c says = says.spells.commit
 
 -- what was found of a segment
-finding_at : (held : List SegmentData) (findings : List Finding) → AllZip IsFoundIn held findings → (d : SegmentData) → Contains held d
-    → (f : Finding) × Contains findings f × IsFoundIn d f
+finding_at : (held : List SegmentData) (findings : List Finding) → AllZip IsTalliedIn held findings → (d : SegmentData) → Contains held d
+    → (f : Finding) × Contains findings f × IsTalliedIn d f
 finding_at [] fs all d h = nil_none d _ h
 finding_at (e ∷ es) [] all d h = absurd all
 finding_at (e ∷ es) (f ∷ fs) all d h = elim (cons_cases e es d h) [
-  | inl here ↦ (f, cons_head f fs, subst (λ (x : SegmentData). IsFoundIn x f) here all.0)
+  | inl here ↦ (f, cons_head f fs, subst (λ (x : SegmentData). IsTalliedIn x f) here all.0)
   | inr later ↦ let rest = finding_at es fs all.1 d later in (rest.0, cons_tail f fs rest.0 rest.1, rest.2)
 ]
 
 -- and of which segment
-segment_at : (held : List SegmentData) (findings : List Finding) → AllZip IsFoundIn held findings → (f : Finding) → Contains findings f
-    → (d : SegmentData) × Contains held d × IsFoundIn d f
-segment_at held findings all f h = partner_of IsFoundIn held findings all f h
+segment_at : (held : List SegmentData) (findings : List Finding) → AllZip IsTalliedIn held findings → (f : Finding) → Contains findings f
+    → (d : SegmentData) × Contains held d × IsTalliedIn d f
+segment_at held findings all f h = partner_of IsTalliedIn held findings all f h
 
 module _ (files : Files) (c : CommitData) (held : List SegmentData) (findings : List Finding) (g : AreGathered files c held findings) where
   -- ---- nothing is wrong
@@ -74,9 +75,12 @@ module _ (files : Files) (c : CommitData) (held : List SegmentData) (findings : 
           let live = (of_filter (λ (y : Item). is_live d.live y.doc) d.entries x h).1 in
           absurd (omega (arith, g.below x.doc le, some_place x.doc (live_sets held) d.live (in_map (λ (e : SegmentData). e.live) held d there) live))
 
-  makes : All (λ f. f.crowded ≡ None) findings → (d : SegmentData) → Contains held d → MakeDocs c.next (live_entries d)
-  makes none d there =
-      let f = finding_at held findings g.found d there in
+  tallied : AllZip HasAll c.listed findings → AllZip IsTalliedIn held findings
+  tallied all = all_tallied files c c.listed held findings g.but g.found all
+
+  makes : AllZip HasAll c.listed findings → All (λ f. f.crowded ≡ None) findings → (d : SegmentData) → Contains held d → MakeDocs c.next (live_entries d)
+  makes all none d there =
+      let f = finding_at held findings (tallied all) d there in
       let few : NoneTwice (live_entries d) × AreFew (live_entries d) =
       subst (λ (o : Option ℕ). IfNone o (NoneTwice (live_entries d) × AreFew (live_entries d)))
       (All-contains (λ (h : Finding). h.crowded ≡ None) findings f.0 none f.1) f.2.none in
@@ -90,7 +94,7 @@ module _ (files : Files) (c : CommitData) (held : List SegmentData) (findings : 
   pub fine_holds : AreFine c.listed c.given findings → (docs : List Document) × HoldsIndex files c docs
   fine_holds fine =
       let made = docs_of_each c.next held g.alone
-      (All-weaker (Contains held) (λ (d : SegmentData). MakeDocs c.next (live_entries d)) (makes fine.none) held (All-contains_itself held)) in (
+      (All-weaker (Contains held) (λ (d : SegmentData). MakeDocs c.next (live_entries d)) (makes fine.all fine.none) held (All-contains_itself held)) in (
         made.0,
         record {
           commit = g.says;
@@ -98,9 +102,39 @@ module _ (files : Files) (c : CommitData) (held : List SegmentData) (findings : 
           segments = all_held files c c.listed held findings g.but g.found fine.all;
           alone = g.alone;
           are_docs = made.1;
-          few = subst (λ n. n ≤ c.given) (entries_found held findings g.found) fine.few;
+          few = subst (λ n. n ≤ c.given) (entries_found held findings (tallied fine.all)) fine.few;
         },
       )
+
+  -- ---- how many entries there may be
+
+  live_short : (s : Listed) (d : SegmentData) → HoldsBut files c s d → s.entries ≤ 16777216 → length (live_entries d) ≤ 16777216
+  live_short s d h most =
+      let long = segment_counted c.dims (bytes_of (files (Segment s.segment))) d.head d.entries h.segment in
+      omega (
+        arith,
+        long,
+        h.count,
+        most,
+        length-filter (λ (x : Item). is_live d.live x.doc) d.entries,
+        count_by-le-length (λ (x : Item). is_live d.live x.doc) d.entries,
+      )
+
+  finding_short : AllZip HasAll c.listed findings → (f : Finding) → Contains findings f → f.entries ≤ 16777216
+  finding_short all f h =
+      let at = segment_at held findings (tallied all) f h in
+      let part = partner_of (HoldsBut files c) c.listed held g.but at.0 at.1 in
+      let listed = All-contains (IsListed c.next_segment) c.listed part.0 (commit_of c g.says).segments.each part.1 in
+      omega (arith, at.2.entries, live_short part.0 at.0 part.2 listed.most)
+
+  pub entries_fit : AllZip HasAll c.listed findings → all_entries findings < 2 ^ 64
+  entries_fit all =
+      let sum = sum_by-le (λ (f : Finding). f.entries) 16777216 findings
+      (All-weaker (Contains findings) (λ (f : Finding). f.entries ≤ 16777216) (finding_short all) findings (All-contains_itself findings)) in
+      let long = zip_long IsFoundIn held findings g.found in
+      let listed = zip_long (HoldsBut files c) c.listed held g.but in
+      let few = (commit_of c g.says).ranges.few in
+      omega (arith, sum, long, listed, few)
 
   -- ---- something is
 
@@ -117,52 +151,22 @@ module _ (files : Files) (c : CommitData) (held : List SegmentData) (findings : 
     -- a segment in which a number is crowded has no documents
     crowding_undefined : AllZip HasAll c.listed findings → (d : Damage) → IsCrowding findings d → IsUndefined files
     crowding_undefined all d (number, tells, least) =
-        let at = segment_at held findings g.found least.finding least.there in
+        let at = segment_at held findings (tallied all) least.finding least.there in
         let e : SegmentData = at.0 in
         let crowded : IsLeastCrowded number (live_entries e) = subst (λ (o : Option ℕ). IfSome o (λ n. IsLeastCrowded n (live_entries e))) least.is at.2.some in
         no_documents once files c held g.says (all_held files c c.listed held findings g.but g.found all)
         (λ docs are few. never_crowded c.next number (live_entries e) crowded.crowded
         (All-contains (λ (d : SegmentData). MakeDocs c.next (live_entries d)) held e (each_of_docs c.next held docs are) at.1))
 
-    beyond_undefined : AllZip HasAll c.listed findings → (d : Damage) → IsBeyondGiven c.given findings d → all_entries findings < 2 ^ 64 → IsUndefined files
-    beyond_undefined all d b fits =
+    beyond_undefined : AllZip HasAll c.listed findings → (d : Damage) → IsBeyondGiven c.given findings d → IsUndefined files
+    beyond_undefined all d b =
         no_documents once files c held g.says (all_held files c c.listed held findings g.but g.found all)
-        (λ docs are few. omega (arith, few, b.more, b.is fits, entries_found held findings g.found))
+        (λ docs are few. omega (arith, few, b.more, b.is (entries_fit all), entries_found held findings (tallied all)))
 
-    pub wrong_undefined : (d : Damage) → all_entries findings < 2 ^ 64 → IsWrong c.listed c.given findings d → IsUndefined files
-    wrong_undefined d fits (Lacking l) = lacking_undefined d l
-    wrong_undefined d fits (Crowding all crowd) = crowding_undefined all d crowd
-    wrong_undefined d fits (Beyond all none b) = beyond_undefined all d b fits
-
-  -- ---- how many entries there may be
-
-  live_short : (s : Listed) (d : SegmentData) → HoldsBut files c s d → s.entries ≤ 16777216 → length (live_entries d) ≤ 16777216
-  live_short s d h most =
-      let long = segment_counted c.dims (bytes_of (files (Segment s.segment))) d.head d.entries h.segment in
-      omega (
-        arith,
-        long,
-        h.count,
-        most,
-        length-filter (λ (x : Item). is_live d.live x.doc) d.entries,
-        count_by-le-length (λ (x : Item). is_live d.live x.doc) d.entries,
-      )
-
-  finding_short : (f : Finding) → Contains findings f → f.entries ≤ 16777216
-  finding_short f h =
-      let at = segment_at held findings g.found f h in
-      let part = partner_of (HoldsBut files c) c.listed held g.but at.0 at.1 in
-      let listed = All-contains (IsListed c.next_segment) c.listed part.0 (commit_of c g.says).segments.each part.1 in
-      omega (arith, at.2.entries, live_short part.0 at.0 part.2 listed.most)
-
-  pub entries_fit : all_entries findings < 2 ^ 64
-  entries_fit =
-      let sum = sum_by-le (λ (f : Finding). f.entries) 16777216 findings
-      (All-weaker (Contains findings) (λ (f : Finding). f.entries ≤ 16777216) finding_short findings (All-contains_itself findings)) in
-      let long = zip_long IsFoundIn held findings g.found in
-      let listed = zip_long (HoldsBut files c) c.listed held g.but in
-      let few = (commit_of c g.says).ranges.few in
-      omega (arith, sum, long, listed, few)
+    pub wrong_undefined : (d : Damage) → IsWrong c.listed c.given findings d → IsUndefined files
+    wrong_undefined d (Lacking l) = lacking_undefined d l
+    wrong_undefined d (Crowding all crowd) = crowding_undefined all d crowd
+    wrong_undefined d (Beyond all none b) = beyond_undefined all d b
 
 -- it is known where all segments are opened and their leaves are read
 pub gather_all : (T : Type 0) (D : ℕ) (files : Files) (c : CommitData) (parts : List LiveSegment) (findings : List Finding) → T → c.dims ≡ D

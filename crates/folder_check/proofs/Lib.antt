@@ -1,5 +1,6 @@
 pub mod Entries
 pub mod Totals
+pub mod OneEach
 pub mod Counted
 pub mod Pairs
 pub mod Gathered

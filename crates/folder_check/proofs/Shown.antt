@@ -21,7 +21,7 @@ use Rattle.index_opening.specs.Evidence.{HasNoBody, HoldsEntries, InSegment, IsE
 use Rattle.index_opening.specs.Evidence.{InCommit, InLive, IsFilePair, IsFound, NamesLooked, OfFiles}
 use Rattle.folder_check.specs.declared.findings.Finding.{Finding}
 use Rattle.folder_check.specs.Found.{Beyond, Crowding, HasAll, IsBeyondGiven, IsCrowding, IsLacking, IsWrong, Lacking}
-use Rattle.folder_check.proofs.Gathered.{HoldsBut, IsFoundIn, all_held, entries_found}
+use Rattle.folder_check.proofs.Gathered.{HoldsBut, IsFoundIn, IsTalliedIn, all_held, all_tallied, entries_found}
 use Rattle.folder_check.proofs.Judged.{AreGathered, entries_fit}
 use Rattle.folder_check.proofs.Pairs.{get_in, zip_at, zip_over}
 
@@ -41,9 +41,12 @@ module _ (files : Files) (c : CommitData) (held : List SegmentData) (findings : 
       let by : HoldsEntries files c l.segment at.0 = record { id = at.1.id; segment = at.1.segment; live = at.1.live } in
       InLive c g.says l.segment (get_in c.listed l.place l.segment l.listed_there) at.0 by refl (sym at.1.live_count) at.2.found
 
-  crowding_carried : (d : Damage) → IsCrowding findings d → IsTrueOf (IsTwice files) files d
-  crowding_carried d (number, tells, least) =
-      let at = partner_of IsFoundIn held findings g.found least.finding least.there in
+  tallied : AllZip HasAll c.listed findings → AllZip IsTalliedIn held findings
+  tallied all = all_tallied files c c.listed held findings g.but g.found all
+
+  crowding_carried : AllZip HasAll c.listed findings → (d : Damage) → IsCrowding findings d → IsTrueOf (IsTwice files) files d
+  crowding_carried all d (number, tells, least) =
+      let at = partner_of IsTalliedIn held findings (tallied all) least.finding least.there in
       let e : SegmentData = at.0 in
       let part = partner_of (HoldsBut files c) c.listed held g.but e at.1 in
       let s : Listed = part.0 in
@@ -58,11 +61,11 @@ module _ (files : Files) (c : CommitData) (held : List SegmentData) (findings : 
   given_pair : AllZip HasAll c.listed findings → (d : Damage) (b : IsBeyondGiven c.given findings d) → IsFilePair files Commit c.given b.found
   given_pair all d b =
       InCommit c g.says held (all_held files c c.listed held findings g.but g.found all) refl refl
-      (b.is (entries_fit files c held findings g) ∙ entries_found held findings g.found)
+      (b.is (entries_fit files c held findings g all) ∙ entries_found held findings (tallied all))
 
   wrong_carried : (d : Damage) → IsWrong c.listed c.given findings d → IsTrueOf (IsTwice files) files d
   wrong_carried d (Lacking l) = subst (IsTrueOf (IsTwice files) files) (sym l.tells) (OfFiles (lacking_pair d l))
-  wrong_carried d (Crowding all crowd) = crowding_carried d crowd
+  wrong_carried d (Crowding all crowd) = crowding_carried all d crowd
   wrong_carried d (Beyond all none b) = subst (IsTrueOf (IsTwice files) files) (sym b.tells) (OfFiles (given_pair all d b))
 
   wrong_named : (d : Damage) → IsWrong c.listed c.given findings d → NamesLooked files d

@@ -25,7 +25,7 @@ pub total_sum : (f g : ℕ → ℕ) (n : ℕ) → total (λ m. f m + g m) n ≡ 
 total_sum f g zero = refl
 total_sum f g (suc n) = omega (arith, total_sum f g n)
 
-other_number : (x n : ℕ) → (x ≡ n → ⊥) → eqb x n ≡ false
+pub other_number : (x n : ℕ) → (x ≡ n → ⊥) → eqb x n ≡ false
 other_number x n ne = false_from_ne_true (eqb x n) (λ e. ne (eqb-true x n e))
 
 -- one number is counted once

@@ -37,7 +37,7 @@ use Rattle.folder_check.specs.declared.findings.Finding.{Finding}
 use Rattle.folder_check.specs.Found.{AreFine, HasSegment, IsFinding, IsWrong}
 use Rattle.folder_check.specs.Checked.{IsChecking, both_pages, checked_pages}
 use Rattle.folder_check.proofs.Gathered.{gathered}
-use Rattle.folder_check.proofs.Judged.{AreGathered, entries_fit, fine_holds, gather_all, wrong_undefined}
+use Rattle.folder_check.proofs.Judged.{AreGathered, fine_holds, gather_all, wrong_undefined}
 
 -- ---- what is known of the segments that were opened
 
@@ -106,7 +106,7 @@ pub on_wrong_undefined : {X : Type 0} (once : EntriesOnce) (files : Files) (c : 
     → OnDamage r (IsWrong c.listed c.given findings) → OnDamage r (λ _. IsUndefined files)
 on_wrong_undefined once files c findings r (held, g) =
     on_damage_weaker r (IsWrong c.listed c.given findings) (λ _. IsUndefined files)
-    (λ d wrong. wrong_undefined files c held findings g once d (entries_fit files c held findings g) wrong)
+    (λ d wrong. wrong_undefined files c held findings g once d wrong)
 
 pub on_fine_holds : {X : Type 0} (files : Files) (c : CommitData) (findings : List Finding) (r : Result X PageFault)
     → (held : List SegmentData) × AreGathered files c held findings

@@ -20,12 +20,16 @@ use Rattle.folder_check.specs.declared.findings.Finding.{Finding}
 abbrev pub live_of : LiveSegment → List Item → List Item
 live_of p items = filter (λ x. is_live p.live x.doc) items
 
--- this was found of the entries of a segment
+-- this was found of live entries: the least crowded number, if there is one, and how many they are
+pub record AreTallied (live : List Item) (f : Finding) : Type 0 where
+  pub none : IfNone f.crowded (NoneTwice live × AreFew live)
+  pub some : IfSome f.crowded (λ number. IsLeastCrowded number live)
+  pub entries : f.entries ≡ length live
+
+-- this was found of the entries of a segment; the live ones are tallied where each live number has one
 pub record IsFoundOf (p : LiveSegment) (items : List Item) (f : Finding) : Type 0 where
   pub found : f.found ≡ count_by (λ number. has_entry number items) p.live.live
-  pub none : IfNone f.crowded (NoneTwice (live_of p items) × AreFew (live_of p items))
-  pub some : IfSome f.crowded (λ number. IsLeastCrowded number (live_of p items))
-  pub entries : f.entries ≡ length (live_of p items)
+  pub tallied : f.found ≡ length p.live.live → AreTallied (live_of p items) f
 
 -- and these entries are those of its file
 pub record IsFinding (D : ℕ) (files : Files) (p : LiveSegment) (f : Finding) : Type 0 where

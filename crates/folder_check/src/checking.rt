@@ -38,7 +38,8 @@ use std::alloc::Global;
 /// - the least live number that has one point twice or more than 16 entries (Doubled);
 /// - more live entries than points were given (Unequal, the Commit file).
 ///
-/// Of one segment at a time the live entries are in memory, and a bit for each number. No file changes.
+/// Of one segment at a time the live entries are in memory, and a bit for each number; of a segment with as many
+/// entries as live numbers, a bit for each number alone. No file changes.
 pub fn check<F: Folder>(alloc: Global, folder: &mut F, text: &mut Vec<u8>) -> Result<(), PageFault>
     ensures tells { IsTrue F.told
         → OnOk result

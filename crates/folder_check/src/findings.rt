@@ -15,7 +15,7 @@ use page_cache::{Damage, PageFault};
 /// What the leaves of a segment have.
 #[derive(Clone, Copy, PartialEq, Eq, Debug)]
 pub(crate) struct Finding {
-    /// How many of its live numbers have an entry.
+    /// How many of its live numbers have an entry. The rest says something only where all have one.
     pub(crate) found: u32,
     /// The least live number that has one point twice, or more than 16 entries.
     pub(crate) crowded: Option<u32>,

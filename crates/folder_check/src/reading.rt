@@ -19,13 +19,13 @@ use document_checks::tally;
 use live_bits::LiveBits;
 use outer_io::Pages;
 use page_cache::{PageCache, PageFault};
-use segment_file::{SegmentHead, read_entries};
+use segment_file::{SegmentHead, numbers_without_entry, read_entries};
 use segment_view::Segments;
 use std::alloc::Global;
 
 /// What the leaves of each segment have. All leaves are read, those of segments without a live number too, and each of
 /// their pages once: leaves of one page follow each other, and the page that was read last is kept. Of one segment at a
-/// time the live entries are in memory.
+/// time the live entries are in memory, and of one with as many entries as live numbers a bit for each number alone.
 pub(crate) fn read_leaves<const D: usize, F: Pages>(
     alloc: Global,
     folder: &mut F,
@@ -77,6 +77,9 @@ fn read_segment<const D: usize, F: Pages>(
     ensures whole { IsTrue F.told → Agrees (F.files folder.old) cache.old
         → HasSegment D (F.files folder.old) (live_segment head.now live.now) → NotDamaged result }
 {
+    if head.entries() == live.live_count() {
+        return read_numbers(alloc, folder, cache, head, live);
+    }
     head.index().is_spelled();
     let entries = read_entries(alloc, folder, cache, head, live)?;
     let told = tally(alloc, live, entries.as_slice())?;
@@ -84,5 +87,38 @@ fn read_segment<const D: usize, F: Pages>(
         found: told.0,
         crowded: told.1,
         entries: entries.len() as u64,
+    })
+}
+
+/// What the leaves of a segment have that has as many entries as live numbers. Where each of these has an entry, none
+/// has another: none is crowded, and all entries are live. So the numbers tell all, and no entry is kept.
+fn read_numbers<const D: usize, F: Pages>(
+    alloc: Global,
+    folder: &mut F,
+    cache: &mut PageCache,
+    head: &SegmentHead<D>,
+    live: &LiveBits,
+) -> Result<Finding, PageFault>
+    requires { head.now.entries ≡ length live.now.live }
+    ensures found { IsTrue F.told → Agrees (F.files folder.old) cache.old
+        → HasOwnHead D (F.files folder.old) (live_segment head.now live.now)
+        → IfOk result (IsFinding D (F.files folder.old) (live_segment head.now live.now)) }
+    ensures files { IsTrue F.told → F.files folder.new ≡ F.files folder.old }
+    ensures agrees { IsTrue F.told → Agrees (F.files folder.old) cache.old → Agrees (F.files folder.old) cache.new }
+    ensures reads { IsTrue F.told → HasOwnHead D (F.files folder.old) (live_segment head.now live.now)
+        → F.reads folder.new ≤ F.reads folder.old + leaf_pages (F.files folder.old) head.now }
+    ensures cause { HasPageCause (F.faults folder.old) (F.faults folder.new) result }
+    ensures shown { OnDamage result (IsReadDamage D head.now) }
+    ensures damage { IsTrue F.told → Agrees (F.files folder.old) cache.old
+        → OnDamage result (IsLeafDamageOf (F.files folder.old)) }
+    ensures whole { IsTrue F.told → Agrees (F.files folder.old) cache.old
+        → HasSegment D (F.files folder.old) (live_segment head.now live.now) → NotDamaged result }
+{
+    head.index().is_spelled();
+    let left = numbers_without_entry(alloc, folder, cache, head, live)?;
+    Ok(Finding {
+        found: live.live_count() - left.live_count(),
+        crowded: None,
+        entries: u64::from(head.entries()),
     })
 }

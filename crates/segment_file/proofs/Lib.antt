@@ -11,6 +11,8 @@ pub mod HeadReads
 pub mod Subtrees
 pub mod LeafPages
 pub mod Entries
+pub mod Sinks
+pub mod Cleared
 pub mod Paged
 pub mod Laid
 pub mod LaidTree

@@ -1,14 +1,12 @@
 -- What is said of a node's children, said of the node.
-use Rattle.std.proofs.Common.{◌≡◌, ◌+◌, ◌-◌, ◌/◌, ℕ, List, ◌++◌, refl, sym, ap, subst, ◌∙◌, arith, inl, inr, append_assoc, Result, Ok, Err, ◌≤◌}
-use Rattle.std.specs.Prelude.{filter, OnOk, ℤ}
+use Rattle.std.proofs.Common.{◌≡◌, ◌+◌, ◌-◌, ◌/◌, ℕ, List, ◌++◌, refl, sym, subst, arith, inl, inr, Result, Ok, Err, ◌≤◌}
+use Rattle.std.specs.Prelude.{OnOk, ℤ}
 use Rattle.point_codec.specs.Points.{Item, Region}
-use Rattle.live_bits.specs.LiveSet.{LiveSet, is_live}
 use Rattle.inner_pack.specs.Places.{Spot}
 use Rattle.inner_pack.specs.Trees.{IndexTree, Leaf, Split, leaf_count, IsShaped}
 use Rattle.inner_pack.specs.Bodies.{right_begin}
 use Rattle.page_cache.specs.declared.faults.Damage.{Damage}
 use Rattle.page_cache.specs.declared.faults.Damage.TheVariants as damage
-use Rattle.std.proofs.lemmas.List.Elements.{filter-append}
 use Rattle.segment_file.specs.Heads.{Head, page_of}
 use Rattle.outer_io.specs.declared.file_name.FileName.TheVariants.{Segment}
 use Rattle.inner_pack.specs.Nodes.{IsAt}
@@ -16,7 +14,7 @@ use Rattle.inner_pack.specs.declared.node.NodeAt.{NodeAt}
 use Rattle.page_cache.specs.FilePages.{IsFilePage}
 use Rattle.segment_file.specs.Segments.{HoldsLeaf, HoldsTree}
 use Rattle.segment_file.specs.Damages.{IsNoLeaf, IsLeafPage, IsLeafDamage}
-use Rattle.segment_file.specs.Gathers.{Gathers}
+use Rattle.segment_file.specs.Gathers.{AreLeavesWith}
 
 pub count_shaped : (n : ℕ) (t : IndexTree) → IsShaped n t → leaf_count t ≡ n
 count_shaped n (Leaf len own) h = sym h
@@ -71,16 +69,14 @@ right_damage D head first s l r k x (damage.Unequal file said found) h = h
 right_damage D head first s l r k x (damage.Beyond doc next) h = h
 right_damage D head first s l r k x (damage.Doubled doc) h = h
 
--- what the leaves of both children give is what those of the node give
-pub gathers_join : (D : ℕ) (bytes : List ℕ) (head : Head) (first : ℕ) (s : Spot) (l r : IndexTree) (k : ℕ) (x : ℤ) (live : LiveSet) (old mid new : List Item)
-    → Gathers D bytes head first s l live old mid → Gathers D bytes head (first + leaf_count l) (right_begin s l r) r live mid new
-    → Gathers D bytes head first s (Split k x l r) live old new
-gathers_join D bytes head first s l r k x live old mid new a b = record {
+-- where what is said of entries holds of two lists joined, it is said of the leaves of both children
+pub leaves_join : (D : ℕ) (bytes : List ℕ) (head : Head) (first : ℕ) (s : Spot) (l r : IndexTree) (k : ℕ) (x : ℤ) (P Q R : List Item → Type 0)
+    → ((xs ys : List Item) → P xs → Q ys → R (xs ++ ys)) → AreLeavesWith D bytes head first s l P
+    → AreLeavesWith D bytes head (first + leaf_count l) (right_begin s l r) r Q → AreLeavesWith D bytes head first s (Split k x l r) R
+leaves_join D bytes head first s l r k x P Q R join a b = record {
   items = a.items ++ b.items;
   holds = record { front_items = a.items; back_items = b.items; front_holds = a.holds; back_holds = b.holds; joined = refl };
-  grew = b.grew ∙ ap (λ (z : List Item). z ++ filter (λ (y : Item). is_live live y.doc) b.items) a.grew
-      ∙ append_assoc old (filter (λ (y : Item). is_live live y.doc) a.items) (filter (λ (y : Item). is_live live y.doc) b.items)
-      ∙ ap (λ (z : List Item). old ++ z) (sym (filter-append (λ (y : Item). is_live live y.doc) a.items b.items));
+  so = join a.items b.items a.so b.so;
 }
 
 -- the page of a leaf whose file has it

@@ -9,12 +9,18 @@ use Rattle.page_cache.specs.Cache.{IsKept}
 use Rattle.segment_file.specs.Heads.{Head, page_of}
 use Rattle.segment_file.specs.Segments.{HoldsTree}
 
--- the leaves of the subtree are spelled, and their live entries were put behind the others
-pub record Gathers (D : ℕ) (bytes : List ℕ) (head : Head) (first : ℕ) (s : Spot) (t : IndexTree) (live : LiveSet)
-    (old new : List Item) : Type 0 where
+-- the leaves of the subtree are spelled, and of their entries from left to right this is so
+pub record AreLeavesWith (D : ℕ) (bytes : List ℕ) (head : Head) (first : ℕ) (s : Spot) (t : IndexTree)
+    (P : List Item → Type 0) : Type 0 where
   pub items : List Item
   pub holds : HoldsTree D bytes head first s t items
-  pub grew : new ≡ old ++ filter (λ x. is_live live x.doc) items
+  pub so : P items
+
+-- the leaves of the subtree are spelled, and their live entries were put behind the others
+abbrev pub Gathers : (D : ℕ) (bytes : List ℕ) → Head → (first : ℕ) → Spot → IndexTree → LiveSet
+    → (old new : List Item) → Type 0
+Gathers D bytes head first s t live old new =
+    AreLeavesWith D bytes head first s t (λ items. new ≡ old ++ filter (λ x. is_live live x.doc) items)
 
 -- the leaf page in which the last leaf of a subtree stands whose first leaf begins at s
 abbrev pub last_page : Spot → IndexTree → ℕ

@@ -7,3 +7,4 @@ pub mod Kept
 pub mod FieldsSeen
 pub mod Gathers
 pub mod Pieced
+pub mod Sinks

@@ -16,6 +16,7 @@ mod open;
 mod payloads;
 mod pieces;
 mod read;
+mod sink;
 mod write;
 
 pub use head::SegmentHead;
@@ -23,5 +24,5 @@ pub use laws::{one_head, one_live_set, one_segment, segments_are_counted};
 pub use leaf::{bad_leaf, leaf_in, load_leaf};
 pub use live::{read_live, write_live};
 pub use open::open_segment;
-pub use read::read_entries;
+pub use read::{numbers_without_entry, read_entries};
 pub use write::write_segment;

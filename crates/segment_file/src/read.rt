@@ -1,7 +1,6 @@
-//! All live entries of a segment.
+//! All entries of a segment, read leaf by leaf.
 
-ghost use Rattle.std.specs.Prelude.{◌≡◌, ◌≤◌, ◌+◌, ◌++◌, ◌∷◌, ◌<◌, ℕ, List, [], Some, length, slice_get, filter};
-ghost use Rattle.std.specs.Prelude.{true, All, IsTrue, IfOk, OnOk, vec_capacity, vec_len};
+ghost use Rattle.std.specs.Prelude.{◌≡◌, ◌≤◌, ◌+◌, ℕ, List, [], filter, true, All, IsTrue, IfOk, OnOk};
 ghost use Rattle.outer_io.specs.Files.{bytes_of};
 ghost use Rattle.outer_io.specs.declared.file_name.FileName.TheVariants.{Segment};
 ghost use Rattle.point_codec.specs.Points.{Item, Region};
@@ -16,14 +15,14 @@ ghost use Rattle.page_cache.specs.Evidence.{OnDamage, NotDamaged};
 ghost use Rattle.page_cache.specs.Reading.{ReadsCached};
 ghost use Rattle.segment_file.specs.Heads.{page_of};
 ghost use Rattle.segment_file.specs.Segments.{HoldsTree, IsHeadOf, IsSegment};
-ghost use Rattle.segment_file.specs.Gathers.{Gathers, ReadsEach, last_page};
+ghost use Rattle.segment_file.specs.Gathers.{AreLeavesWith, Gathers, ReadsEach, last_page};
+ghost use Rattle.segment_file.specs.Sinks.{Adds, set_without_entries};
 ghost use Rattle.segment_file.specs.Damages.{IsLeafDamage, IsLeafDamageOf};
 
 use crate::head::SegmentHead;
 use crate::leaf::{bad_leaf, leaf_in, load_leaf};
-use byte_cursor::Memory;
+use crate::sink::LeafSink;
 use inner_pack::NodeAt;
-use leaf_codec::LeafView;
 use live_bits::LiveBits;
 use outer_io::Pages;
 use page_cache::{PageCache, PageFault};
@@ -74,13 +73,87 @@ pub fn read_entries<const D: usize, F: Pages>(
     let room = live
         .live_count()
         .saturating_add(u32::from(head.leaf_size()));
-    let mut entries = Vec::with_capacity(alloc, room.min(head.entries()) as usize)?;
-    let root = head.index().walk();
-    gather(alloc, folder, cache, head, live, &root, &mut entries)?;
-    Ok(entries)
+    let list = Vec::with_capacity(alloc, room.min(head.entries()) as usize)?;
+    let mut sink = LeafSink::Entries(list);
+    gather_all(alloc, folder, cache, head, live, &mut sink)?;
+    match sink {
+        LeafSink::Entries(entries) => Ok(entries),
+        LeafSink::Numbers(_numbers) => unreachable!(),
+    }
 }
 
-/// Appends the live entries of all leaves at or below the node.
+/// The live numbers of which the segment has no entry. Each leaf page is read once at most, and no entry is kept: the
+/// call takes memory of the set's bits. Ok only where each leaf of this head is spelled in its page.
+pub fn numbers_without_entry<const D: usize, F: Pages>(
+    alloc: Global,
+    folder: &mut F,
+    cache: &mut PageCache,
+    head: &SegmentHead<D>,
+    live: &LiveBits,
+) -> Result<LiveBits, PageFault>
+    ensures reading { ReadsCached F.told (λ i. i ≡ head.now.id) (F.files folder.old) (F.files folder.new)
+        cache.old cache.new (F.faults folder.old) (F.faults folder.new) result }
+    // each leaf page once at most, whatever the cache held
+    ensures pages { (root : Region) (t : IndexTree) → HasTree D head.now.index root t
+        → F.reads folder.new ≤ F.reads folder.old + pages_of t }
+    ensures spelled { IsTrue F.told → Agrees (F.files folder.old) cache.old
+        → IsHeadOf D (bytes_of (F.files folder.old (Segment head.now.id))) head.now
+        → IfOk result
+        (λ s. (items : List Item) × IsSegment D (bytes_of (F.files folder.old (Segment head.now.id))) head.now items
+        × (s ≡ set_without_entries items live.now)) }
+    // whatever the folder gives
+    ensures live { IfOk result (λ s. (items : List Item) × (s ≡ set_without_entries items live.now)) }
+    ensures shown { (root : Region) (t : IndexTree) → HasTree D head.now.index root t
+        → OnDamage result (IsLeafDamage D head.now 0 front t) }
+    ensures damage { IsTrue F.told → Agrees (F.files folder.old) cache.old
+        → OnDamage result (IsLeafDamageOf (F.files folder.old)) }
+    ensures whole { IsTrue F.told → Agrees (F.files folder.old) cache.old → (items : List Item)
+        → IsSegment D (bytes_of (F.files folder.old (Segment head.now.id))) head.now items
+        → NotDamaged result }
+{
+    let numbers = live.copy(alloc)?;
+    let mut sink = LeafSink::Numbers(numbers);
+    gather_all(alloc, folder, cache, head, live, &mut sink)?;
+    match sink {
+        LeafSink::Numbers(left) => Ok(left),
+        LeafSink::Entries(_entries) => unreachable!(),
+    }
+}
+
+/// Adds the entries of all leaves to the sink.
+fn gather_all<const D: usize, F: Pages>(
+    alloc: Global,
+    folder: &mut F,
+    cache: &mut PageCache,
+    head: &SegmentHead<D>,
+    live: &LiveBits,
+    sink: &mut LeafSink<D>,
+) -> Result<(), PageFault>
+    ensures reading { ReadsCached F.told (λ i. i ≡ head.now.id) (F.files folder.old) (F.files folder.new)
+        cache.old cache.new (F.faults folder.old) (F.faults folder.new) result }
+    ensures reads { (root : Region) (t : IndexTree) → HasTree D head.now.index root t
+        → F.reads folder.new ≤ F.reads folder.old + head.now.index.leaves }
+    ensures pages { (root : Region) (t : IndexTree) → HasTree D head.now.index root t
+        → F.reads folder.new ≤ F.reads folder.old + pages_of t }
+    ensures gathers { IsTrue F.told → Agrees (F.files folder.old) cache.old
+        → (root : Region) (t : IndexTree) → HasTree D head.now.index root t
+        → OnOk result
+        (AreLeavesWith D (bytes_of (F.files folder.old (Segment head.now.id))) head.now 0 front t
+        (λ items. Adds sink.old live.now items sink.new)) }
+    ensures added { OnOk result ((items : List Item) × Adds sink.old live.now items sink.new) }
+    ensures shown { (root : Region) (t : IndexTree) → HasTree D head.now.index root t
+        → OnDamage result (IsLeafDamage D head.now 0 front t) }
+    ensures damage { IsTrue F.told → Agrees (F.files folder.old) cache.old
+        → OnDamage result (IsLeafDamageOf (F.files folder.old)) }
+    ensures whole { IsTrue F.told → Agrees (F.files folder.old) cache.old → (items : List Item)
+        → IsSegment D (bytes_of (F.files folder.old (Segment head.now.id))) head.now items
+        → NotDamaged result }
+{
+    let root = head.index().walk();
+    gather(alloc, folder, cache, head, live, &root, sink)
+}
+
+/// Adds the entries of all leaves at or below the node.
 fn gather<const D: usize, F: Pages>(
     alloc: Global,
     folder: &mut F,
@@ -88,7 +161,7 @@ fn gather<const D: usize, F: Pages>(
     head: &SegmentHead<D>,
     live: &LiveBits,
     node: &NodeAt<'_, D>,
-    entries: &mut Vec<Entry<D>>,
+    sink: &mut LeafSink<D>,
 ) -> Result<(), PageFault>
     ensures reading { ReadsCached F.told (λ i. i ≡ head.now.id) (F.files folder.old) (F.files folder.new)
         cache.old cache.new (F.faults folder.old) (F.faults folder.new) result }
@@ -102,10 +175,9 @@ fn gather<const D: usize, F: Pages>(
         → (first : ℕ) (s : Spot) (path : Region) (t : IndexTree)
         → IsAt node.now first s path t
         → OnOk result
-        (Gathers D (bytes_of (F.files folder.old (Segment head.now.id))) head.now first s t live.now
-        (items_of entries.old.items) (items_of entries.new.items)) }
-    ensures live { All (λ x. is_live live.now x.doc ≡ true) (items_of entries.old.items)
-        → All (λ x. is_live live.now x.doc ≡ true) (items_of entries.new.items) }
+        (AreLeavesWith D (bytes_of (F.files folder.old (Segment head.now.id))) head.now first s t
+        (λ items. Adds sink.old live.now items sink.new)) }
+    ensures added { OnOk result ((items : List Item) × Adds sink.old live.now items sink.new) }
     ensures shown { (first : ℕ) (s : Spot) (path : Region) (t : IndexTree) → IsAt node.now first s path t
         → OnDamage result (IsLeafDamage D head.now first s t) }
     ensures damage { IsTrue F.told → Agrees (F.files folder.old) cache.old
@@ -119,14 +191,14 @@ fn gather<const D: usize, F: Pages>(
 {
     match node.children() {
         Some((left, right)) => {
-            gather(alloc, folder, cache, head, live, &left, entries)?;
-            gather(alloc, folder, cache, head, live, &right, entries)
+            gather(alloc, folder, cache, head, live, &left, sink)?;
+            gather(alloc, folder, cache, head, live, &right, sink)
         }
-        None => gather_leaf(alloc, folder, cache, head, live, node, entries),
+        None => gather_leaf(alloc, folder, cache, head, live, node, sink),
     }
 }
 
-/// Appends the live entries of a leaf.
+/// Adds the entries of a leaf.
 fn gather_leaf<const D: usize, F: Pages>(
     alloc: Global,
     folder: &mut F,
@@ -134,7 +206,7 @@ fn gather_leaf<const D: usize, F: Pages>(
     head: &SegmentHead<D>,
     live: &LiveBits,
     node: &NodeAt<'_, D>,
-    entries: &mut Vec<Entry<D>>,
+    sink: &mut LeafSink<D>,
 ) -> Result<(), PageFault>
     requires { node.now.leaves ≡ 1 }
     ensures reading { ReadsCached F.told (λ i. i ≡ head.now.id) (F.files folder.old) (F.files folder.new)
@@ -149,10 +221,9 @@ fn gather_leaf<const D: usize, F: Pages>(
         → (first : ℕ) (s : Spot) (path : Region) (t : IndexTree)
         → IsAt node.now first s path t
         → OnOk result
-        (Gathers D (bytes_of (F.files folder.old (Segment head.now.id))) head.now first s t live.now
-        (items_of entries.old.items) (items_of entries.new.items)) }
-    ensures live { All (λ x. is_live live.now x.doc ≡ true) (items_of entries.old.items)
-        → All (λ x. is_live live.now x.doc ≡ true) (items_of entries.new.items) }
+        (AreLeavesWith D (bytes_of (F.files folder.old (Segment head.now.id))) head.now first s t
+        (λ items. Adds sink.old live.now items sink.new)) }
+    ensures added { OnOk result ((items : List Item) × Adds sink.old live.now items sink.new) }
     ensures shown { (first : ℕ) (s : Spot) (path : Region) (t : IndexTree) → IsAt node.now first s path t
         → OnDamage result (IsLeafDamage D head.now first s t) }
     ensures damage { IsTrue F.told → Agrees (F.files folder.old) cache.old
@@ -168,64 +239,6 @@ fn gather_leaf<const D: usize, F: Pages>(
     let Some(view) = leaf_in(cache, head, node, place) else {
         return Err(bad_leaf(cache, head, node, place));
     };
-    push_live(&view, live, entries)?;
+    sink.add_leaf(&view, live)?;
     Ok(())
-}
-
-/// Appends those of the leaf's entries that are live.
-fn push_live<const D: usize>(
-    view: &LeafView<'_, D>,
-    live: &LiveBits,
-    entries: &mut Vec<Entry<D>>,
-) -> Result<(), Memory>
-    ensures all { OnOk result
-        (items_of entries.new.items ≡ items_of entries.old.items ++ filter (λ x. is_live live.now x.doc) view.now) }
-    ensures live { All (λ x. is_live live.now x.doc ≡ true) (items_of entries.old.items)
-        → All (λ x. is_live live.now x.doc ≡ true) (items_of entries.new.items) }
-{
-    entries.reserve(view.count() as usize)?;
-    push_reserved(view, live, entries);
-    Ok(())
-}
-
-/// Appends those of the leaf's entries that are live, for all of which there is room.
-fn push_reserved<const D: usize>(
-    view: &LeafView<'_, D>,
-    live: &LiveBits,
-    entries: &mut Vec<Entry<D>>,
-)
-    requires { vec_len entries.old + length view.now ≤ vec_capacity entries.old }
-    ensures all { items_of entries.new.items
-        ≡ items_of entries.old.items ++ filter (λ x. is_live live.now x.doc) view.now }
-    ensures live { All (λ x. is_live live.now x.doc ≡ true) (items_of entries.old.items)
-        → All (λ x. is_live live.now x.doc ≡ true) (items_of entries.new.items) }
-{
-    for i in 0..view.count() {
-        push_if_live(view, i, live, entries);
-    }
-}
-
-/// Appends entry `i` of the leaf where it is live. There is room for it.
-fn push_if_live<const D: usize>(
-    view: &LeafView<'_, D>,
-    i: u16,
-    live: &LiveBits,
-    entries: &mut Vec<Entry<D>>,
-)
-    requires within { i < length view.now }
-    requires room { vec_len entries.old < vec_capacity entries.old }
-    ensures one { (x : Item) → slice_get view.now i ≡ Some x
-        → items_of entries.new.items ≡ items_of entries.old.items ++ filter (λ y. is_live live.now y.doc) (x ∷ []) }
-    ensures room { (vec_len entries.new ≤ vec_len entries.old + 1)
-        × (vec_capacity entries.new ≡ vec_capacity entries.old) }
-    ensures live { All (λ x. is_live live.now x.doc ≡ true) (items_of entries.old.items)
-        → All (λ x. is_live live.now x.doc ≡ true) (items_of entries.new.items) }
-{
-    let doc = view.doc(i);
-    if live.is_live(doc) {
-        entries.push_reserved(Entry {
-            doc,
-            point: view.point(i),
-        });
-    }
 }

@@ -1,8 +1,7 @@
-use Rattle.std.proofs.Common.{◌≡◌, ◌+◌, ◌∙◌, ℕ, ap, sym, subst, arith}
+use Rattle.std.proofs.Common.{◌≡◌, ◌+◌, ◌++◌, ◌∙◌, ℕ, ap, sym, subst, arith}
 use Rattle.std.proofs.lemmas.Result.{err_from_is_err_and}
 use Rattle.outer_io.specs.Files.{bytes_of}
 use Rattle.outer_io.specs.declared.file_name.FileName.TheVariants.{Segment}
-use Rattle.point_codec.specs.Seen.{items_of}
 use Rattle.point_codec.specs.Cells.{left_of, right_of}
 use Rattle.inner_pack.specs.Trees.{IndexTree, leaf_count}
 use Rattle.inner_pack.specs.Bodies.{right_begin}
@@ -11,8 +10,10 @@ use Rattle.page_cache.proofs.Damages.{fault_weaker, on_damage_weaker}
 use Rattle.segment_file.specs.Segments.{HoldsTree}
 use Rattle.segment_file.specs.Damages.{IsLeafDamage}
 use Rattle.segment_file.specs.Heads.{page_of}
-use Rattle.segment_file.specs.Gathers.{Gathers, ReadsEach, last_page}
-use Rattle.segment_file.proofs.Subtrees.{OnOk-weaker, left_damage, right_damage, gathers_join}
+use Rattle.segment_file.specs.Gathers.{AreLeavesWith, ReadsEach, last_page}
+use Rattle.segment_file.proofs.Subtrees.{OnOk-weaker, left_damage, right_damage, leaves_join}
+use Rattle.segment_file.specs.Sinks.{Adds}
+use Rattle.segment_file.proofs.Sinks.{adds_in_turn}
 use Rattle.segment_file.proofs.LeafPages.{left_reads, right_last, both_read}
 use Rattle.segment_file.proofs.read.+gather.Goals as goal
 
@@ -81,14 +82,22 @@ returns-in_ok-gather-in-Some-clause-gathers g t c = λ told agrees first s path 
     c.gather-in-Some.ensures.gathers told after (first + leaf_count k.l) (right_begin s k.l k.r) (right_of path k.dimension k.value) k.r k.right_is in
     OnOk-weaker c.gather-in-Some.result _ _
     (λ r. subst (λ (v : IndexTree).
-    Gathers g.row.D bytes c.args.head.now first s v c.args.live.now (items_of c.args.entries.now.items) (items_of c.gather-in-Some.new.entries.items))
+    AreLeavesWith g.row.D bytes c.args.head.now first s v (λ items. Adds c.args.sink.now c.args.live.now items c.gather-in-Some.new.sink))
     (sym k.is)
-    (gathers_join g.row.D bytes c.args.head.now first s k.l k.r k.dimension k.value c.args.live.now (items_of c.args.entries.now.items)
-    (items_of c.gather.new.entries.items) (items_of c.gather-in-Some.new.entries.items) left (rw (c.gather.ensures.reading.files told) at r)))
+    (leaves_join g.row.D bytes c.args.head.now first s k.l k.r k.dimension k.value
+    (λ items. Adds c.args.sink.now c.args.live.now items c.gather.new.sink)
+    (λ items. Adds c.gather.new.sink c.args.live.now items c.gather-in-Some.new.sink)
+    (λ items. Adds c.args.sink.now c.args.live.now items c.gather-in-Some.new.sink)
+    (adds_in_turn c.args.sink.now c.gather.new.sink c.gather-in-Some.new.sink c.args.live.now)
+    left (rw (c.gather.ensures.reading.files told) at r)))
     right
 
-pub returns-in_ok-gather-in-Some-clause-live : goal.returns-in_ok-gather-in-Some-clause-live
-returns-in_ok-gather-in-Some-clause-live g t c = λ h. c.gather-in-Some.ensures.live (c.gather.ensures.live h)
+pub returns-in_ok-gather-in-Some-clause-added : goal.returns-in_ok-gather-in-Some-clause-added
+returns-in_ok-gather-in-Some-clause-added g t c =
+    let (xs, front) = c.in_ok-gather-in-Some.ensures.added in
+    OnOk-weaker c.gather-in-Some.result _ _
+    (λ (ys, back). (xs ++ ys, adds_in_turn c.args.sink.now c.gather.new.sink c.gather-in-Some.new.sink c.args.live.now xs ys front back))
+    c.gather-in-Some.ensures.added
 
 pub returns-in_err-gather-in-Some-clause-pages : goal.returns-in_err-gather-in-Some-clause-pages
 returns-in_err-gather-in-Some-clause-pages g t c = λ first s path u at.

@@ -45,15 +45,15 @@ returns-clause-gathers g c = λ told agrees first s path t at.
     record {
       items = c.in-Some.view;
       holds = subst (λ (u : IndexTree). HoldsTree g.row.D bytes c.args.head.now first s u c.in-Some.view) (sym leaf) holds;
-      grew = c.in_ok-push_live.ensures.all;
+      so = c.in_ok-add_leaf.ensures;
     }
 
 pub returns-in_default-clause-pages : goal.returns-in_default-clause-pages
 returns-in_default-clause-pages g c = λ first s path t at.
     leaf_reads _ _ c.args.cache.now c.args.head.now s t c.load_leaf.ensures.reads (λ kept. (c.load_leaf.ensures.hit first s path t at kept).1)
 
-pub returns-in_err-push_live-clause-pages : goal.returns-in_err-push_live-clause-pages
-returns-in_err-push_live-clause-pages g c = λ first s path t at.
+pub returns-in_err-add_leaf-clause-pages : goal.returns-in_err-add_leaf-clause-pages
+returns-in_err-add_leaf-clause-pages g c = λ first s path t at.
     leaf_reads _ _ c.args.cache.now c.args.head.now s t c.load_leaf.ensures.reads (λ kept. (c.load_leaf.ensures.hit first s path t at kept).1)
 
 pub returns-clause-pages : goal.returns-clause-pages
@@ -64,3 +64,6 @@ pub returns-clause-last : goal.returns-clause-last
 returns-clause-last g c = λ first s path t at.
     let place = c.in_ok-place.ensures.place first s path t at in
     leaf_last g.row.D c.args.node.now c.load_leaf.new.cache c.args.head.now c.in_ok-place.place first s path t at place c.in_ok-place.ensures.kept
+
+pub returns-clause-added : goal.returns-clause-added
+returns-clause-added g c = (c.in-Some.view, c.in_ok-add_leaf.ensures)
