@@ -1,5 +1,6 @@
 -- What contracts see of a session, and when it guards the files of its folder.
-use Rattle.std.specs.Prelude.{◌≡◌, ◌≤◌, ◌⊎◌, ℕ, Bool, true, false, List, [], All, Contains, Option, None, Some}
+use Rattle.std.specs.Prelude.{◌≡◌, ◌≤◌, ◌⊎◌, ℕ, Bool, true, false, if◌then◌else◌, List, [], All, Contains}
+use Rattle.std.specs.Prelude.{Option, None, Some}
 use Rattle.outer_io.specs.declared.file_name.FileName.{FileName}
 use Rattle.outer_io.specs.declared.file_name.FileName.TheVariants.{Commit}
 use Rattle.outer_io.specs.Files.{Files, bytes_of}
@@ -112,11 +113,14 @@ pub record IsSound (D : ℕ) (s : SessionData) : Type 0 where
   pub sets : All (λ p. IsLiveSet p.live) s.set.parts
   pub well : IsWell D s.set
 
--- the segments that the last commit lists; none, where one was refused since
+-- the segments that a commit lists; none, where there is no commit
+abbrev pub lines_of : Option CommitData → List Listed
+lines_of None = []
+lines_of (Some c) = c.listed
+
+-- those that the last one lists; none, where one was refused since
 abbrev pub last_lines : (refused : Bool) → Option CommitData → List Listed
-last_lines true commit = []
-last_lines false None = []
-last_lines false (Some c) = c.listed
+last_lines refused commit = if refused then [] else lines_of commit
 
 -- The session's commit was written anew. The files of live bits that it lists have names that weren't in the list, but
 -- where the last commit lists a segment with as many live numbers, by a file that is named: it is listed so again.
