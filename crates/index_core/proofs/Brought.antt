@@ -16,11 +16,12 @@ use Rattle.segment_view.specs.LiveSegments.{LiveSegment}
 use Rattle.segment_set.specs.Sets.{SetData}
 use Rattle.segment_set.specs.Kept.{HasCanonical, IsCommitOf}
 use Rattle.segment_set.proofs.Carried.{canon_file}
+use Rattle.segment_set.proofs.Covered.{IsListedAs}
 use Rattle.index_core.specs.Brought.{BringsCommit, IsBuilt, IsWhole, KeepsCommit, WasListed}
 use Rattle.index_core.specs.Sessions.{AreTraced, GuardsSet, IsListedWith, ListsOnlyNamed}
 use Rattle.index_core.specs.Steps.{SaysCommit}
 use Rattle.index_core.proofs.Committing.{some_same}
-use Rattle.index_core.proofs.Guarding.{IsListedAs, says_some, zip_both}
+use Rattle.index_core.proofs.Guarding.{says_some, zip_both}
 
 -- ---- a commit that was written
 

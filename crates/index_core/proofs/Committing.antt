@@ -18,7 +18,6 @@ use Rattle.commit_list.specs.CommitFiles.{IsCommitFile, IsWrittenCommit}
 use Rattle.commit_list.specs.Layout.{commit_body}
 use Rattle.commit_list.proofs.CommitPages.{one_file}
 use Rattle.segment_file.specs.LiveFiles.{IsLiveFile}
-use Rattle.segment_file.proofs.LiveReads.{set_is}
 use Rattle.segment_file.specs.Segments.{IsSegment}
 use Rattle.stored_index.specs.Segments.{SegmentData, all_live_entries, live_sets, places}
 use Rattle.stored_index.specs.Stored.{HoldAll, HoldsFiles, IsStored, index_of}
@@ -30,10 +29,12 @@ use Rattle.segment_view.specs.LiveSegments.{AreRead, Contents, IsRead, LiveSegme
 use Rattle.segment_set.specs.Sets.{SetData}
 use Rattle.segment_set.specs.Seen.{Sees}
 use Rattle.segment_set.specs.Kept.{IsAsCommitted, IsCommitOf, StaysButFiles}
-use Rattle.index_core.specs.Sessions.{CoversPart, Guards, HasDims, IsLast, IsLastCommit, IsSound, IsUnchanged, ListsOnlyNamed, SessionData}
+use Rattle.index_core.specs.Sessions.{Guards, HasDims, IsCommitAnew, IsLast, IsLastCommit, IsSound, IsUnchanged, ListsOnlyNamed, SessionData, last_lines}
 use Rattle.index_core.specs.Steps.{KeepsOver, SaysCommit, Stores}
 use Rattle.index_core.proofs.Guarding.{cons_first, cons_rest, says_some}
-use Rattle.index_core.proofs.Numbers.{same_live}
+use Rattle.segment_set.specs.Saved.{CoversPart, IsLastOrFresh, KeepsLine}
+use Rattle.segment_set.proofs.Covered.{live_file_set}
+use Rattle.segment_set.proofs.Numbers.{same_live}
 use Rattle.segment_set.proofs.SavedCommit.{data_of, sets_of, entries_of}
 
 -- ---- whether something changed
@@ -81,11 +82,17 @@ as_committed D s m t c of empty same stays = record {
   empty = ap (λ (u : SetData). u.buffer) stays.is ∙ ap (λ (u : SetData). u.buffer) same ∙ empty;
 }
 
--- ---- a commit since which nothing changed
+-- it was written anew
+pub commit_anew : (s t : SessionData) (c : CommitData) (lines : List Listed) → lines ≡ last_lines s.refused s.commit → t.commit ≡ Some c
+    → All (IsLastOrFresh s.set.names lines) c.listed → All (KeepsLine s.set.names lines) c.listed → IsCommitAnew s t
+commit_anew s t c lines are is fresh kept = record {
+  commit = c;
+  is = is;
+  fresh = subst (λ (ls : List Listed). All (IsLastOrFresh s.set.names ls) c.listed) are fresh;
+  kept = subst (λ (ls : List Listed). All (KeepsLine s.set.names ls) c.listed) are kept;
+}
 
-live_file_set : (segment generation : ℕ) (bytes : List ℕ) (live : LiveSet) → IsLiveFile segment generation bytes live → IsLiveSet live
-unfolding IsLiveFile
-live_file_set segment generation bytes live file = set_is segment generation live file.body file.set
+-- ---- a commit since which nothing changed
 
 -- the files of a listed segment hold the part that they cover, where as many numbers are live in it as it is listed with
 holds_part : (D : ℕ) (files : Files) (contents : Contents) (c : CommitData) (l : Listed) (p : LiveSegment) → c.dims ≡ D → p.head.leaf ≡ c.leaf

@@ -1,5 +1,6 @@
 -- What a session guards stays so, through calls on its set, a commit and a sweep.
-use Rattle.std.proofs.Common.{◌≡◌, ◌<◌, ℕ, true, false, List, [], ◌∷◌, length, Option, None, Some, refl, sym, ap, subst, ◌∙◌, ◌⊎◌, inl, inr, ⊎_elim, arith}
+use Rattle.std.proofs.Common.{◌≡◌, ◌<◌, ℕ, Bool, true, false, List, [], ◌∷◌, length, Option, None}
+use Rattle.std.proofs.Common.{Some, refl, sym, ap, subst, ◌∙◌, ◌⊎◌, inl, inr, ⊎_elim, arith}
 use Rattle.std.specs.List.{AllPairs, AllZip, Contains}
 use Rattle.std.proofs.lemmas.Bool.{both_ways}
 use Rattle.std.proofs.lemmas.List.Kept.{AllPairs-from_increasing}
@@ -19,9 +20,11 @@ use Rattle.stored_index.proofs.Pairwise.{partner_of}
 use Rattle.segment_view.specs.LiveSegments.{LiveSegment}
 use Rattle.file_names.specs.Names.{NameList, is_named}
 use Rattle.segment_set.specs.Sets.{SetData}
-use Rattle.segment_set.specs.Kept.{Follows, IsCommitOf, IsNeeded, IsSubset, KeepsNamed}
-use Rattle.segment_set.proofs.Carried.{within_itself, within_then}
-use Rattle.index_core.specs.Sessions.{CoversPart, Guards, GuardsSet, IsLast, IsLastCommit, ListsOnlyNamed, SessionData}
+use Rattle.segment_set.specs.Kept.{Follows, IsCommitOf, IsNeeded, KeepsNamed}
+use Rattle.segment_set.specs.Saved.{AreCovering, CoversPart}
+use Rattle.segment_set.proofs.Carried.{within_itself}
+use Rattle.segment_set.proofs.Covered.{IsListedAs, part_after}
+use Rattle.index_core.specs.Sessions.{Guards, GuardsSet, IsLast, IsLastCommit, ListsOnlyNamed, SessionData, last_lines}
 
 -- ---- lists
 
@@ -62,16 +65,6 @@ set_after D told f g s t is_told keeps leaf guards = ⊎_elim
     }))
     guards
 
-pub part_after : (f g : Files) (l : Listed) (p q : LiveSegment) → g (Live l.segment l.generation) ≡ f (Live l.segment l.generation) → p.head ≡ q.head
-    → IsSubset p.live q.live → CoversPart f l q → CoversPart g l p
-part_after f g l p q same head within covers = record {
-  entries = covers.entries ∙ ap (λ (h : Head). h.entries) (sym head);
-  live = covers.live;
-  file = subst (λ (b : Option (List ℕ)). IsLiveFile l.segment l.generation (bytes_of b) covers.live) (sym same) covers.file;
-  count = covers.count;
-  covers = within_then p.live q.live covers.live within covers.covers;
-}
-
 pub last_after : (D : ℕ) (told : Type 0) (f g : Files) (s t : SetData) (commit : Option CommitData) → told → KeepsNamed told s.names t.names f g
     → Follows s.names s.parts t.parts → GuardsSet D f s
     → IsLast f s commit → IsLast g t commit
@@ -102,6 +95,23 @@ kept_after_calls D told f g s names is_told keeps guards = ⊎_elim
     (λ none. kept_none f g none (keeps.commit is_told ∙ none))
     (λ h. kept_named f g (is_named s.names.names) (keeps.commit is_told) (λ c says. names_listed D f s c (inr h) says) (keeps.files is_told))
     guards
+
+-- ---- what the last commit lists
+
+-- its lines cover the segments of now, where none was refused since; else there are none
+pub covered : (D : ℕ) (f : Files) (s : SessionData) (lines : List Listed) → lines ≡ last_lines s.refused s.commit → Guards D f s → AreCovering f lines s.set
+covered D f s lines are guards = subst (λ (ls : List Listed). AreCovering f ls s.set) (sym are) (by s.refused s.commit guards.last)
+  where
+    by : (refused : Bool) (commit : Option CommitData) → (refused ≡ false → IsLast f s.set commit) → AreCovering f (last_lines refused commit) s.set
+    by true commit last = record { named = λ l inside. nil_none l _ inside; covers = λ l p inside there same. nil_none l _ inside }
+    by false None last = record { named = λ l inside. nil_none l _ inside; covers = λ l p inside there same. nil_none l _ inside }
+    by false (Some c) last = record {
+      named = λ l inside. (
+        names_listed D f s.set c guards.set (last refl).says (Segment l.segment) (l, inside, refl),
+        names_listed D f s.set c guards.set (last refl).says (Live l.segment l.generation) (l, inside, refl, refl),
+      );
+      covers = (last refl).covers;
+    }
 
 -- ---- a commit that lists the segments of now
 
@@ -134,13 +144,6 @@ beside R c parts rules ids all l p inside there same =
     let m = partner_of R c.listed parts all p there in
     subst (λ (k : Listed). R k p)
     (one_listed c.listed m.0 l (AllPairs-from_increasing (ids_of c.listed) rules.segments.rising) m.1 inside (ids m.0 p m.2 ∙ sym same)) m.2
-
--- it is listed with the part's entries and live numbers, and its file of live bits holds just these
-pub record IsListedAs (files : Files) (l : Listed) (p : LiveSegment) : Type 0 where
-  pub segment : l.segment ≡ p.head.id
-  pub entries : l.entries ≡ p.head.entries
-  pub count : l.live ≡ length p.live.live
-  pub file : IsLiveFile l.segment l.generation (bytes_of (files (Live l.segment l.generation))) p.live
 
 pub covers_all : (files : Files) (c : CommitData) (parts : List LiveSegment) → IsCommitFile (bytes_of (files Commit)) c
     → AllZip (IsListedAs files) c.listed parts

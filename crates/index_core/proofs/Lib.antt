@@ -1,6 +1,5 @@
 pub mod Guarding
 pub mod SetGuards
-pub mod Numbers
 pub mod Committing
 pub mod WrittenCommit
 pub mod Answering

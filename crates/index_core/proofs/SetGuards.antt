@@ -14,7 +14,8 @@ use Rattle.file_names.specs.Names.{is_named}
 use Rattle.segment_set.specs.Sets.{SetData}
 use Rattle.segment_set.specs.Kept.{IsAtRest}
 use Rattle.index_core.specs.Sessions.{Guards, IsLast, SessionData}
-use Rattle.index_core.proofs.Guarding.{cons_first, cons_rest, IsListedAs, covers_all}
+use Rattle.segment_set.proofs.Covered.{IsListedAs}
+use Rattle.index_core.proofs.Guarding.{cons_first, cons_rest, covers_all}
 
 -- ---- a set anew
 

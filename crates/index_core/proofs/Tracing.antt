@@ -27,12 +27,13 @@ use Rattle.segment_set.specs.Kept.{AreCanonical, Follows, IsAtRest, IsCommitOf, 
 use Rattle.index_opening.specs.Evidence.{CrowdsPart, InSegment, IsCrowdedIn, IsEvident, IsEvidentIn, IsTwice}
 use Rattle.segment_set.specs.Faithful.{IsFaithful}
 use Rattle.segment_set.proofs.Carried.{canon_file, within_cleared, within_itself}
+use Rattle.segment_set.proofs.Covered.{part_after}
 use Rattle.segment_set.proofs.Crowds.{crowd_before, none_crowded}
 use Rattle.index_opening.proofs.Evident.{on_evident_twice}
 use Rattle.index_core.specs.Sessions.{AreTraced, Guards, GuardsSet, IsLast, IsLastCommit, IsListedWith, IsTraced, SessionData, Trusts}
 use Rattle.index_core.specs.Effects.{BringsCanonical, IsOfBefore}
 use Rattle.index_core.proofs.Bringing.{brings_written}
-use Rattle.index_core.proofs.Guarding.{IsSwept, guards_written, moved_says, names_listed, part_after}
+use Rattle.index_core.proofs.Guarding.{IsSwept, guards_written, moved_says, names_listed}
 use Rattle.index_core.proofs.SetGuards.{guards_attached}
 
 -- ---- a crowd

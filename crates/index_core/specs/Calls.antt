@@ -39,7 +39,7 @@ pub record IsDurable {T : Type 0} (D : ℕ) (told : Type 0) (old new : Files) (s
 -- it was written anew; with no merge begun it lists few segments of each level.
 pub record IsCommitted (D : ℕ) (told : Type 0) (old new : Files) (s t : SessionData) : Type 0 where
   pub unchanged : IsUnchanged t
-  pub anew : (IsUnchanged s → ⊥) → IsCommitAnew s.set.names t
+  pub anew : (IsUnchanged s → ⊥) → IsCommitAnew s t
   pub levels : (IsUnchanged s → ⊥) → s.set.begun ≡ None → CommitsFewOfLevels t.commit
   pub few : told → Guards D old s → s.set.begun ≡ None → KeepsLevels old new
   pub tracked : told → (m : FileName) → IsTracked old new s.set.names t.set.names m

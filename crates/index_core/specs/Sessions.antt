@@ -1,18 +1,19 @@
 -- What contracts see of a session, and when it guards the files of its folder.
-use Rattle.std.specs.Prelude.{◌≡◌, ◌≤◌, ◌⊎◌, ℕ, Bool, true, false, List, length, All, Contains, Option, None, Some}
+use Rattle.std.specs.Prelude.{◌≡◌, ◌≤◌, ◌⊎◌, ℕ, Bool, true, false, if◌then◌else◌, List, [], All, Contains}
+use Rattle.std.specs.Prelude.{Option, None, Some}
 use Rattle.outer_io.specs.declared.file_name.FileName.{FileName}
-use Rattle.outer_io.specs.declared.file_name.FileName.TheVariants.{Commit, Live}
+use Rattle.outer_io.specs.declared.file_name.FileName.TheVariants.{Commit}
 use Rattle.outer_io.specs.Files.{Files, bytes_of}
-use Rattle.live_bits.specs.LiveSet.{LiveSet, IsLiveSet}
-use Rattle.segment_file.specs.LiveFiles.{IsLiveFile}
+use Rattle.live_bits.specs.LiveSet.{IsLiveSet}
 use Rattle.commit_list.specs.declared.listed.Listed.{Listed}
 use Rattle.commit_list.specs.Commits.{CommitData}
 use Rattle.commit_list.specs.CommitFiles.{IsCommitFile}
 use Rattle.stored_index.specs.Kept.{ListsFile}
 use Rattle.segment_view.specs.LiveSegments.{LiveSegment}
-use Rattle.file_names.specs.Names.{NameList, is_named}
+use Rattle.file_names.specs.Names.{is_named}
 use Rattle.segment_set.specs.Sets.{SetData, IsWell}
-use Rattle.segment_set.specs.Kept.{HasCanonical, IsAsCommitted, IsSubset, StaysButCache}
+use Rattle.segment_set.specs.Kept.{HasCanonical, IsAsCommitted, StaysButCache}
+use Rattle.segment_set.specs.Saved.{CoversPart, IsLastOrFresh, KeepsLine}
 use Rattle.segment_set.specs.Faithful.{IsFaithful}
 
 -- the dimensions of a commit, where there is one
@@ -42,14 +43,6 @@ pub record ListsOnlyNamed (D : ℕ) (files : Files) (s : SetData) : Type 0 where
 
 abbrev pub GuardsSet : ℕ → Files → SetData → Type 0
 GuardsSet D files s = (files Commit ≡ None) ⊎ ListsOnlyNamed D files s
-
--- the listed live file of the segment has at least what is live in it now
-pub record CoversPart (files : Files) (l : Listed) (p : LiveSegment) : Type 0 where
-  pub entries : l.entries ≡ p.head.entries
-  pub live : LiveSet
-  pub file : IsLiveFile l.segment l.generation (bytes_of (files (Live l.segment l.generation))) live
-  pub count : length live.live ≡ l.live
-  pub covers : IsSubset p.live live
 
 -- the Commit file says this commit, whose live files cover the segments of now that it lists
 pub record IsLastCommit (files : Files) (s : SetData) (c : CommitData) : Type 0 where
@@ -120,8 +113,19 @@ pub record IsSound (D : ℕ) (s : SessionData) : Type 0 where
   pub sets : All (λ p. IsLiveSet p.live) s.set.parts
   pub well : IsWell D s.set
 
--- the session's commit was written anew: no file of live bits that it lists has a name that was in the list
-pub record IsCommitAnew (names : NameList) (s : SessionData) : Type 0 where
+-- the segments that a commit lists; none, where there is no commit
+abbrev pub lines_of : Option CommitData → List Listed
+lines_of None = []
+lines_of (Some c) = c.listed
+
+-- those that the last one lists; none, where one was refused since
+abbrev pub last_lines : (refused : Bool) → Option CommitData → List Listed
+last_lines refused commit = if refused then [] else lines_of commit
+
+-- The session's commit was written anew. The files of live bits that it lists have names that weren't in the list, but
+-- where the last commit lists a segment with as many live numbers, by a file that is named: it is listed so again.
+pub record IsCommitAnew (s t : SessionData) : Type 0 where
   pub commit : CommitData
-  pub is : s.commit ≡ Some commit
-  pub fresh : All (λ l. is_named names.names (Live l.segment l.generation) ≡ false) commit.listed
+  pub is : t.commit ≡ Some commit
+  pub fresh : All (IsLastOrFresh s.set.names (last_lines s.refused s.commit)) commit.listed
+  pub kept : All (KeepsLine s.set.names (last_lines s.refused s.commit)) commit.listed

@@ -112,7 +112,7 @@ pub record OnlyCommits (D : ℕ) (told : Type 0) (committing : Bool) (old new : 
 pub record CommitsAnew (told : Type 0) (old new : StepMoment) (result : Result Applied PageFault) : Type 0 where
   pub idle : told → IsUnchanged old.session → new.files ≡ old.files
   pub unchanged : OnDone result (IsUnchanged new.session)
-  pub anew : (IsUnchanged old.session → ⊥) → OnDone result (IsCommitAnew old.session.set.names new.session)
+  pub anew : (IsUnchanged old.session → ⊥) → OnDone result (IsCommitAnew old.session new.session)
   pub levels : (IsUnchanged old.session → ⊥) → old.session.set.begun ≡ None
       → OnDone result (CommitsFewOfLevels new.session.commit)
 

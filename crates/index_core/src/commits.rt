@@ -17,7 +17,7 @@ ghost use Rattle.segment_set.specs.Seen.{Sees};
 ghost use Rattle.segment_set.specs.Faithful.{IsFaithful};
 ghost use Rattle.segment_set.specs.Sets.{IsNamed, IsSettled};
 ghost use Rattle.segment_set.specs.Kept.{Follows, IsCommitOf, StaysButFiles};
-ghost use Rattle.index_core.specs.Sessions.{AreTraced, Guards, GuardsSet, IsSound, IsUnchanged, StaysTrue};
+ghost use Rattle.index_core.specs.Sessions.{AreTraced, Guards, GuardsSet, IsSound, IsUnchanged, StaysTrue, last_lines};
 ghost use Rattle.index_core.specs.Calls.{HasNoDamage, IsCommitted, IsDurable, ShowsFault, SweepsAway};
 ghost use Rattle.index_core.specs.Closed.{IsSessionClosed, IsIdle};
 ghost use Rattle.index_core.specs.Costs.{ReadsAtMost};
@@ -28,7 +28,7 @@ ghost use Rattle.index_core.specs.Steps.{Applies, KeepsOver, SaysCommit, Stores}
 
 use crate::session::Session;
 use bkd_build::Gate;
-use commit_list::{Commit, write_commit};
+use commit_list::{Commit, Listed, write_commit};
 use index_model::Applied;
 use outer_io::{Failed, Folder};
 use page_cache::PageFault;
@@ -74,7 +74,8 @@ impl<const D: usize> Session<D> {
         if !self.is_changed() {
             return Ok(());
         }
-        let commit = self.set.save(rt, alloc, folder, gate)?;
+        let last = last_lines(&self.commit, self.refused);
+        let commit = self.set.save(rt, alloc, folder, last, gate)?;
         self.write(alloc, folder, commit)?;
         self.sweep(folder)
     }
@@ -237,5 +238,18 @@ impl<const D: usize> Session<D> {
         self.commit(rt, alloc, folder, gate)?;
         put_ok(out)?;
         Ok(Applied::Done)
+    }
+}
+
+/// The segments that the last commit lists; none, where one was refused since.
+fn last_lines(commit: &Option<Commit>, refused: bool) -> &[Listed]
+    ensures { result.now ≡ last_lines refused commit.now }
+{
+    if refused {
+        return &[];
+    }
+    match commit {
+        Some(commit) => commit.listed(),
+        None => &[],
     }
 }

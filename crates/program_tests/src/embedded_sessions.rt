@@ -148,6 +148,65 @@ fn a_save_that_fails(rt: HostRuntime) -> Result<(), Fail> {
     check_there(&rt, &folder, SAVED, NOT_SAVED)
 }
 
+/// Three segments of two documents. The first commit makes five calls: of live numbers three, and two for the commit.
+/// Of the second one, behind a deletion in one segment, there are four: of live numbers one, two for the commit, and a
+/// file that is taken away. The third one is refused, so that the next one has all live numbers of a next generation.
+const CHANGES: &[Row] = &[
+    (&[], "add 0 0", "doc 0\n", DONE),
+    (&[], "add 1 1", "doc 1\n", DONE),
+    (&[], "flush", "ok\n", DONE),
+    (&[], "add 2 2", "doc 2\n", DONE),
+    (&[], "add 3 3", "doc 3\n", DONE),
+    (&[], "flush", "ok\n", DONE),
+    (&[], "add 4 4", "doc 4\n", DONE),
+    (&[], "add 5 5", "doc 5\n", DONE),
+    (&[], "flush", "ok\n", DONE),
+    (&[5], "commit", "ok\n", DONE),
+    (&[], "delete 2", "deleted 1\n", DONE),
+    (&[4], "commit", "ok\n", DONE),
+    (&[], "delete 0", "deleted 1\n", DONE),
+    (&[1], "commit", "", FAILED),
+    (&[], "commit", "ok\n", DONE),
+    (&[], "box 0 0 9 9", "hits 4\n1\n3\n4\n5\n", DONE),
+];
+
+const CHANGED: &[FileName] = &[
+    FileName::Live {
+        segment: 0,
+        generation: 3,
+    },
+    FileName::Live {
+        segment: 1,
+        generation: 3,
+    },
+    FileName::Live {
+        segment: 2,
+        generation: 2,
+    },
+];
+
+const GONE: &[FileName] = &[
+    FileName::Live {
+        segment: 0,
+        generation: 2,
+    },
+    FileName::Live {
+        segment: 1,
+        generation: 2,
+    },
+    FileName::Live {
+        segment: 2,
+        generation: 1,
+    },
+];
+
+#[test]
+fn what_a_commit_writes(rt: HostRuntime) -> Result<(), Fail> {
+    let mut folder = empty_folder(rt.alloc());
+    check_rows(&rt, rt.alloc(), &mut folder, CHANGES)?;
+    check_there(&rt, &folder, CHANGED, GONE)
+}
+
 /// What is asked of the worked example, the reply, and whether it is done.
 const PLACES: &[(&str, &str, bool)] = &[
     ("add 13404954 52520008", "doc 0\n", true),

@@ -57,6 +57,8 @@ mod generating;
 #[cfg(test)]
 mod lists;
 #[cfg(test)]
+mod live_files;
+#[cfg(test)]
 mod load_faults;
 #[cfg(test)]
 mod loading;

@@ -58,7 +58,8 @@ const SNAPSHOT_AT_THE_END: &[Step] = &[
     Step::Call(RUN, &[], &[ALL], ""),
 ];
 
-/// Once the snapshot is released the next commit takes the files of both.
+/// Once the snapshot is released the next commit takes the files of both. It lists the merged one with the live numbers
+/// that it had.
 const RELEASED_SNAPSHOT: &[Step] = &[
     Step::Call(RUN, &[], TWO, ""),
     Step::Call(
@@ -73,11 +74,8 @@ const RELEASED_SNAPSHOT: &[Step] = &[
     Step::There(
         &[
             MERGED,
+            MERGED_LIVE,
             FileName::Segment(3),
-            FileName::Live {
-                segment: 2,
-                generation: 2,
-            },
             FileName::Live {
                 segment: 3,
                 generation: 1,
@@ -85,7 +83,13 @@ const RELEASED_SNAPSHOT: &[Step] = &[
         ],
         FILES,
     ),
-    Step::There(&[], &[MERGED_LIVE]),
+    Step::There(
+        &[],
+        &[FileName::Live {
+            segment: 2,
+            generation: 2,
+        }],
+    ),
 ];
 
 /// Behind a merge the first call fails that takes a file away: the commit stands, and all files do.

@@ -23,6 +23,8 @@ pub mod Spilled
 pub mod Ended
 pub mod Causes
 pub mod Places
+pub mod Numbers
+pub mod Covered
 pub mod Saving
 pub mod SavedSegments
 pub mod SavedCommit

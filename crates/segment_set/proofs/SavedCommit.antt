@@ -27,6 +27,7 @@ use Rattle.segment_set.specs.Sets.{IsNamed, IsWell, SetData}
 use Rattle.segment_set.specs.Seen.{Sees}
 use Rattle.segment_set.specs.Kept.{IsCommitOf}
 use Rattle.segment_set.specs.Saved.{IsSaved}
+use Rattle.segment_set.proofs.Covered.{IsListedAs}
 use Rattle.segment_set.proofs.SavedSegments.{zip_length, zip_left, zip_beside}
 
 -- ---- the commit
@@ -35,10 +36,12 @@ use Rattle.segment_set.proofs.SavedSegments.{zip_length, zip_left, zip_beside}
 abbrev pub IsLine : ℕ → Listed → LiveSegment → Type 0
 IsLine n l p = (l.segment ≡ p.head.id) × IsListed n l
 
-pub saved_lines : (told : Type 0) (before after : NameList) (files : Files) (n : ℕ) (listed : List Listed) (parts : List LiveSegment) → n ≡ after.next_segment
-    → AllZip (IsSaved told before after files) listed parts → AllZip (IsLine n) listed parts
-saved_lines told before after files n listed parts same =
-    zip_moved (IsSaved told before after files) (IsLine n) listed parts (λ l p there saved. (saved.segment, subst (λ m. IsListed m l) (sym same) saved.may))
+pub saved_lines : (told : Type 0) (last : List Listed) (before after : NameList) (files : Files) (n : ℕ) (listed : List Listed) (parts : List LiveSegment)
+    → n ≡ after.next_segment
+    → AllZip (IsSaved told last before after files) listed parts → AllZip (IsLine n) listed parts
+saved_lines told last before after files n listed parts same =
+    zip_moved (IsSaved told last before after files) (IsLine n) listed parts
+    (λ l p there saved. (saved.line.segment, subst (λ m. IsListed m l) (sym same) saved.may))
 
 pub is_commit : (D : ℕ) (s : SetData) (n : ℕ) (listed : List Listed) → IsWell D s → IsStrictlyIncreasing (ids_of s.parts) → AllZip (IsLine n) listed s.parts
     → IsCommit (record { dims = D; leaf = s.leaf; next = s.next; given = s.given; next_segment = n; listed = listed })
@@ -61,43 +64,45 @@ is_commit D s n listed well ascend all = record {
 }
 
 -- the files that are listed are named
-pub listed_named : (told : Type 0) (before : NameList) (files : Files) (names : NameList) (c : CommitData) (parts : List LiveSegment)
+pub listed_named : (told : Type 0) (last : List Listed) (before : NameList) (files : Files) (names : NameList) (c : CommitData) (parts : List LiveSegment)
     → All (IsNamed names) parts
-    → AllZip (IsSaved told before names files) c.listed parts
+    → AllZip (IsSaved told last before names files) c.listed parts
     → (m : FileName) → ListsFile c m → is_named names.names m ≡ true
-listed_named told before files names c parts named all (Segment id) (l, there, is) =
+listed_named told last before files names c parts named all (Segment id) (l, there, is) =
     subst (λ n. is_named names.names (Segment n) ≡ true) is
     (All-contains (λ (k : Listed). is_named names.names (Segment k.segment) ≡ true) c.listed l segments there)
   where
     segments : All (λ (k : Listed). is_named names.names (Segment k.segment) ≡ true) c.listed
     segments = zip_left (λ (k : Listed) (p : LiveSegment). is_named names.names (Segment k.segment) ≡ true)
         (λ (k : Listed). is_named names.names (Segment k.segment) ≡ true) c.listed parts (λ k p h. h)
-        (zip_beside (IsSaved told before names files) (λ (k : Listed) (p : LiveSegment). is_named names.names (Segment k.segment) ≡ true) (IsNamed names)
+        (zip_beside (IsSaved told last before names files) (λ (k : Listed) (p : LiveSegment). is_named names.names (Segment k.segment) ≡ true) (IsNamed names)
         c.listed
         parts
-        (λ k p saved is. ap (λ n. is_named names.names (Segment n)) saved.segment ∙ is) named all)
-listed_named told before files names c parts named all (Live id generation) (l, there, is, at) =
+        (λ k p saved is. ap (λ n. is_named names.names (Segment n)) saved.line.segment ∙ is) named all)
+listed_named told last before files names c parts named all (Live id generation) (l, there, is, at) =
     subst (λ n. is_named names.names (Live n generation) ≡ true) is
     (subst (λ n. is_named names.names (Live l.segment n) ≡ true) at
     (All-contains (λ (k : Listed). is_named names.names (Live k.segment k.generation) ≡ true) c.listed l
-    (zip_left (IsSaved told before names files) (λ (k : Listed). is_named names.names (Live k.segment k.generation) ≡ true) c.listed parts
-    (λ k p saved. saved.named) all) there))
-listed_named told before files names c parts named all Commit none = absurd none
-listed_named told before files names c parts named all CommitNew none = absurd none
+    (zip_left (IsSaved told last before names files) (λ (k : Listed). is_named names.names (Live k.segment k.generation) ≡ true) c.listed parts
+    (λ k p saved. saved.line.named) all) there))
+listed_named told last before files names c parts named all Commit none = absurd none
+listed_named told last before files names c parts named all CommitNew none = absurd none
 
-pub commit_of_set : (D : ℕ) (told : Type 0) (before : NameList) (files : Files) (s : SetData) (n : ℕ) (listed : List Listed) → n ≡ s.names.next_segment
-    → IsWell D s → AllZip (IsSaved told before s.names files) listed s.parts
+pub commit_of_set : (D : ℕ) (told : Type 0) (last : List Listed) (before : NameList) (files : Files) (s : SetData) (n : ℕ) (listed : List Listed)
+    → n ≡ s.names.next_segment
+    → IsWell D s → AllZip (IsSaved told last before s.names files) listed s.parts
     → IsCommitOf D s (record { dims = D; leaf = s.leaf; next = s.next; given = s.given; next_segment = n; listed = listed })
-commit_of_set D told before files s n listed same well all = record {
+commit_of_set D told last before files s n listed same well all = record {
   dims = refl;
   leaf = refl;
   next = refl;
   given = refl;
   next_segment = same;
-  lists = zip_moved (IsSaved told before s.names files)
+  lists = zip_moved (IsSaved told last before s.names files)
       (λ (l : Listed) (p : LiveSegment). (l.segment ≡ p.head.id) × (l.entries ≡ p.head.entries) × (l.live ≡ length p.live.live)) listed s.parts
-      (λ l p there saved. (saved.segment, saved.entries, saved.live)) all;
-  named = listed_named told before files s.names (record { dims = D; leaf = s.leaf; next = s.next; given = s.given; next_segment = n; listed = listed }) s.parts
+      (λ l p there saved. (saved.line.segment, saved.line.entries, saved.line.live)) all;
+  named = listed_named told last before files s.names (record { dims = D; leaf = s.leaf; next = s.next; given = s.given; next_segment = n; listed = listed })
+      s.parts
       well.named all;
 }
 
@@ -116,15 +121,14 @@ entries_of c [] = refl
 entries_of c (p ∷ ps) = ap (λ (xs : List Item). filter (λ (x : Item). is_live p.live x.doc) (c p.head.id) ++ xs) (entries_of c ps)
 
 -- what is known of a segment of the set and its line in the commit
-abbrev IsPartSaved : (D leaf : ℕ) (told : Type 0) (before : NameList) → Files → NameList → Contents → Listed → LiveSegment → Type 0
-IsPartSaved D leaf told before now names contents l p = IsSaved told before names now l p × IsRead D now contents p × (p.head.leaf ≡ leaf)
+abbrev IsPartSaved : (D leaf : ℕ) → Files → Contents → Listed → LiveSegment → Type 0
+IsPartSaved D leaf now contents l p = IsListedAs now l p × IsRead D now contents p × (p.head.leaf ≡ leaf)
 
 -- a commit that was saved of a set, whose buffer is empty, is stored once its file says it and as long as the files that it lists stay
-pub saved_is_stored : (D : ℕ) (told : Type 0) (before : NameList) (now : Files) (s : SetData) (c : CommitData) (i : Index) → told → IsWell D s → s.buffer ≡ []
-    → IsCommitOf D s c
-    → AllZip (IsSaved told before s.names now) c.listed s.parts → Sees D now s i
+pub saved_is_stored : (D : ℕ) (now : Files) (s : SetData) (c : CommitData) (i : Index) → IsWell D s → s.buffer ≡ [] → IsCommitOf D s c
+    → AllZip (IsListedAs now) c.listed s.parts → Sees D now s i
     → (files : Files) → IsCommitFile (bytes_of (files Commit)) c → ((m : FileName) → ListsFile c m → files m ≡ now m) → IsStored files (Some (at_rest i))
-saved_is_stored D told before now s c i t well empty commit all seen files says same =
+saved_is_stored D now s c i well empty commit all seen files says same =
     subst (λ (x : Index). IsStored files (Some x)) is (stored_from files c parts i.docs says held alone docs few)
   where
     contents : Contents
@@ -137,8 +141,7 @@ saved_is_stored D told before now s c i t well empty commit all seen files says 
     entries = entries_of contents s.parts ∙ sym (append-nil (live_in_parts contents s.parts))
         ∙ ap (λ (xs : List Item). live_in_parts contents s.parts ++ xs) (sym empty)
 
-    one : (l : Listed) (p : LiveSegment) → Contains c.listed l → IsPartSaved D s.leaf told before now s.names contents l p
-        → HoldsFiles files c l (data_of contents p)
+    one : (l : Listed) (p : LiveSegment) → Contains c.listed l → IsPartSaved D s.leaf now contents l p → HoldsFiles files c l (data_of contents p)
     one l p there (saved, read, leaf) =
         let bytes : bytes_of (files (Segment l.segment)) ≡ bytes_of (now (Segment p.head.id)) =
         ap bytes_of (same (Segment l.segment) (l, there, refl)) ∙ ap (λ n. bytes_of (now (Segment n))) saved.segment in
@@ -146,17 +149,17 @@ saved_is_stored D told before now s c i t well empty commit all seen files says 
           segment = subst (λ n. IsSegment n (bytes_of (files (Segment l.segment))) p.head (contents p.head.id)) (sym commit.dims)
               (subst (λ (b : List ℕ). IsSegment D b p.head (contents p.head.id)) (sym bytes) read.held);
           live = subst (λ (b : List ℕ). IsLiveFile l.segment l.generation b p.live)
-              (sym (ap bytes_of (same (Live l.segment l.generation) (l, there, refl, refl)))) (saved.written t);
+              (sym (ap bytes_of (same (Live l.segment l.generation) (l, there, refl, refl)))) saved.file;
           id = sym saved.segment;
           leaf_size = leaf ∙ sym commit.leaf;
           count = sym saved.entries;
-          live_count = sym saved.live;
+          live_count = sym saved.count;
           found = read.found;
         }
 
     held : HoldAll files c parts
-    held = zip_map (IsPartSaved D s.leaf told before now s.names contents) (HoldsFiles files c) (data_of contents) c.listed s.parts one
-        (zip_beside (IsSaved told before s.names now) (IsPartSaved D s.leaf told before now s.names contents)
+    held = zip_map (IsPartSaved D s.leaf now contents) (HoldsFiles files c) (data_of contents) c.listed s.parts one
+        (zip_beside (IsListedAs now) (IsPartSaved D s.leaf now contents)
         (λ (p : LiveSegment). IsRead D now contents p × (p.head.leaf ≡ s.leaf)) c.listed s.parts
         (λ l p saved facts. (saved, facts.0, facts.1)) (λ k d lt. (seen.stands.now k d lt, well.leaf_size k d lt)) all)
 

@@ -1,6 +1,7 @@
 -- A segment that is saved stays so, and the names of live bits.
-use Rattle.std.proofs.Common.{◌≡◌, ℕ, zero, suc, ◌≤◌, ◌<◌, Bool, true, false, get_or, List, [], ◌∷◌, ◌++◌, length, take, Some, refl, sym, ap, subst, arith}
-use Rattle.std.specs.List.{All, AllPairs, AllZip, slice_get}
+use Rattle.std.proofs.Common.{◌≡◌, ℕ, zero, suc, ◌≤◌, ◌<◌, Bool, true, false, get_or, List, [], ◌∷◌}
+use Rattle.std.proofs.Common.{◌++◌, length, take, Some, refl, sym, ap, subst, ◌∙◌, ◌⊎◌, inl, inr, arith}
+use Rattle.std.specs.List.{All, AllPairs, AllZip, Contains, slice_get}
 use Rattle.std.specs.List.Sorted.{IsStrictlyIncreasing}
 use Rattle.std.proofs.lemmas.Bool.{both_ways, false_from_ne_true}
 use Rattle.std.proofs.lemmas.Option.{get_or_from_slice_get, slice_get_within}
@@ -10,6 +11,7 @@ use Rattle.std.proofs.lemmas.List.Elements.{All-tail, Contains-append_left, Cont
 use Rattle.outer_io.specs.declared.file_name.FileName.{FileName}
 use Rattle.outer_io.specs.declared.file_name.FileName.TheVariants.{Live}
 use Rattle.outer_io.specs.Files.{Files, bytes_of}
+use Rattle.live_bits.specs.LiveSet.{LiveSet}
 use Rattle.documents.specs.Entries.{is_among}
 use Rattle.documents.proofs.Kept.{among_to}
 use Rattle.documents.proofs.Lists.{cons_head, in_map, of_map, pairs_head, pairs_tail}
@@ -21,7 +23,7 @@ use Rattle.segment_view.specs.LiveSegments.{LiveSegment, ids_of}
 use Rattle.file_names.specs.Names.{NameList, IsNextGeneration, is_named}
 use Rattle.file_names.proofs.Listed.{others_stay}
 use Rattle.segment_set.specs.Kept.{KeepsNamed}
-use Rattle.segment_set.specs.Saved.{IsSaved}
+use Rattle.segment_set.specs.Saved.{HasNoLine, IsAnew, IsLineOf, IsSaved}
 use Rattle.segment_set.proofs.Replaced.{id_of_part}
 use Rattle.segment_set.proofs.Carried.{unnamed_before}
 use Rattle.index_opening.proofs.Ordered.{zip_pushed}
@@ -67,58 +69,89 @@ parts_before (p ∷ ps) (suc i) d up lt =
 
 -- ---- a segment that is saved stays so
 
-pub saved_kept : (told : Type 0) (before mid after : NameList) (f g : Files) (l : Listed) (p : LiveSegment) → KeepsNamed told mid after f g
-    → after.next_segment ≡ mid.next_segment
-    → IsSaved told before mid f l p → IsSaved told before after g l p
-saved_kept told before mid after f g l p keeps next is = record {
-  segment = is.segment;
-  entries = is.entries;
-  live = is.live;
-  may = subst (λ n. IsListed n l) (sym next) is.may;
-  fresh = is.fresh;
-  named = keeps.more (Live l.segment l.generation) is.named;
-  rule = is.rule;
-  written = λ t. subst (λ b. IsLiveFile l.segment l.generation (bytes_of b) p.live) (sym (keeps.files t (Live l.segment l.generation) is.named)) (is.written t);
+pub line_kept : (mid after : NameList) (l : Listed) (p : LiveSegment) → ((m : FileName) → is_named mid.names m ≡ true → is_named after.names m ≡ true)
+    → IsLineOf mid l p → IsLineOf after l p
+line_kept mid after l p more line =
+    record { segment = line.segment; entries = line.entries; live = line.live; named = more (Live l.segment l.generation) line.named }
+
+-- what is written stays so
+anew_kept : (told : Type 0) (before mid after : NameList) (f g : Files) (l : Listed) (live : LiveSet) → KeepsNamed told mid after f g
+    → is_named mid.names (Live l.segment l.generation) ≡ true → IsAnew told before f l live → IsAnew told before g l live
+anew_kept told before mid after f g l live keeps named anew = record {
+  fresh = anew.fresh;
+  rule = anew.rule;
+  written = λ t.
+      subst (λ b. IsLiveFile l.segment l.generation (bytes_of b) live) (sym (keeps.files t (Live l.segment l.generation) named)) (anew.written t);
 }
 
--- since a time when the list had fewer names, but no fewer of this segment's live bits
-pub saved_since : (told : Type 0) (first before after : NameList) (files : Files) (l : Listed) (p : LiveSegment)
-    → ((m : FileName) → is_named first.names m ≡ true → is_named before.names m ≡ true)
-    → ((n : ℕ) → is_named before.names (Live p.head.id n) ≡ is_named first.names (Live p.head.id n)) → IsSaved told before after files l p
-    → IsSaved told first after files l p
-saved_since told first before after files l p more same is = record {
-  segment = is.segment;
-  entries = is.entries;
-  live = is.live;
-  may = is.may;
-  fresh = unnamed_before first.names before.names (Live l.segment l.generation) (more (Live l.segment l.generation)) is.fresh;
-  named = is.named;
-  rule = subst (λ (taken : ℕ → Bool). IsNextGeneration taken l.generation) (λ i n. like n i) is.rule;
-  written = is.written;
-}
-  where
-    like : (n : ℕ) → is_named before.names (Live l.segment n) ≡ is_named first.names (Live l.segment n)
-    like n = subst (λ (id : ℕ). is_named before.names (Live id n) ≡ is_named first.names (Live id n)) (sym is.segment) (same n)
-
-pub all_saved_kept : (told : Type 0) (before mid after : NameList) (f g : Files) (listed : List Listed) (parts : List LiveSegment)
+pub saved_kept : (told : Type 0) (last : List Listed) (before mid after : NameList) (f g : Files) (l : Listed) (p : LiveSegment)
     → KeepsNamed told mid after f g
     → after.next_segment ≡ mid.next_segment
-    → AllZip (IsSaved told before mid f) listed parts → AllZip (IsSaved told before after g) listed parts
-all_saved_kept told before mid after f g listed parts keeps next =
-    zip_moved (IsSaved told before mid f) (IsSaved told before after g) listed parts (λ l p there. saved_kept told before mid after f g l p keeps next)
+    → IsSaved told last before mid f l p → IsSaved told last before after g l p
+saved_kept told last before mid after f g l p keeps next is = record {
+  line = line_kept mid after l p keeps.more is.line;
+  may = subst (λ n. IsListed n l) (sym next) is.may;
+  set = is.set;
+  how = by is.how;
+}
+  where
+    by : (Contains last l × IsLineOf before l p) ⊎ (HasNoLine before last p × IsAnew told before f l p.live)
+        → (Contains last l × IsLineOf before l p) ⊎ (HasNoLine before last p × IsAnew told before g l p.live)
+    by (inl h) = inl h
+    by (inr h) = inr (h.0, anew_kept told before mid after f g l p.live keeps is.line.named h.1)
+
+-- since a time when the list had fewer names, but no fewer of this segment's live bits
+module _ (told : Type 0) (last : List Listed) (first before : NameList) (p : LiveSegment)
+    (more : (m : FileName) → is_named first.names m ≡ true → is_named before.names m ≡ true)
+    (same : (n : ℕ) → is_named before.names (Live p.head.id n) ≡ is_named first.names (Live p.head.id n)) where
+  -- of a line of the segment
+  like : (l : Listed) → l.segment ≡ p.head.id → (n : ℕ) → is_named before.names (Live l.segment n) ≡ is_named first.names (Live l.segment n)
+  like l is n = subst (λ (id : ℕ). is_named before.names (Live id n) ≡ is_named first.names (Live id n)) (sym is) (same n)
+
+  line_since : (l : Listed) → IsLineOf before l p → IsLineOf first l p
+  line_since l line = record {
+    segment = line.segment;
+    entries = line.entries;
+    live = line.live;
+    named = sym (like l line.segment l.generation) ∙ line.named;
+  }
+
+  anew_since : (files : Files) (l : Listed) → l.segment ≡ p.head.id → IsAnew told before files l p.live → IsAnew told first files l p.live
+  anew_since files l is anew = record {
+    fresh = unnamed_before first.names before.names (Live l.segment l.generation) (more (Live l.segment l.generation)) anew.fresh;
+    rule = subst (λ (taken : ℕ → Bool). IsNextGeneration taken l.generation) (λ i n. like l is n i) anew.rule;
+    written = anew.written;
+  }
+
+  pub saved_since : (after : NameList) (files : Files) (l : Listed) → IsSaved told last before after files l p → IsSaved told last first after files l p
+  saved_since after files l is = record { line = is.line; may = is.may; set = is.set; how = by is.how }
+    where
+      by : (Contains last l × IsLineOf before l p) ⊎ (HasNoLine before last p × IsAnew told before files l p.live)
+          → (Contains last l × IsLineOf first l p) ⊎ (HasNoLine first last p × IsAnew told first files l p.live)
+      by (inl h) = inl (h.0, line_since l h.1)
+      by (inr h) = inr (λ m there line. h.0 m there (line_kept first before m p more line), anew_since files l is.line.segment h.1)
+
+pub all_saved_kept : (told : Type 0) (last : List Listed) (before mid after : NameList) (f g : Files) (listed : List Listed) (parts : List LiveSegment)
+    → KeepsNamed told mid after f g
+    → after.next_segment ≡ mid.next_segment
+    → AllZip (IsSaved told last before mid f) listed parts → AllZip (IsSaved told last before after g) listed parts
+all_saved_kept told last before mid after f g listed parts keeps next =
+    zip_moved (IsSaved told last before mid f) (IsSaved told last before after g) listed parts
+    (λ l p there. saved_kept told last before mid after f g l p keeps next)
 
 -- one more
-pub saved_more : (told : Type 0) (before mid after : NameList) (f g : Files) (listed : List Listed) (parts more : List LiveSegment) (l : Listed)
-    (p : LiveSegment)
+pub saved_more : (told : Type 0) (last : List Listed) (before mid after : NameList) (f g : Files) (listed : List Listed) (parts more : List LiveSegment)
+    (l : Listed) (p : LiveSegment)
     → KeepsNamed told mid after f g
     → ((m : FileName) → is_named before.names m ≡ true → is_named mid.names m ≡ true)
     → ((n : ℕ) → is_named mid.names (Live p.head.id n) ≡ is_named before.names (Live p.head.id n))
     → after.next_segment ≡ mid.next_segment → more ≡ parts ++ p ∷ []
-    → AllZip (IsSaved told before mid f) listed parts → IsSaved told mid after g l p → AllZip (IsSaved told before after g) (listed ++ l ∷ []) more
-saved_more told before mid after f g listed parts more l p keeps earlier same next is all one =
-    subst (AllZip (IsSaved told before after g) (listed ++ l ∷ [])) (sym is)
-    (zip_pushed (IsSaved told before after g) listed parts l p (all_saved_kept told before mid after f g listed parts keeps next all)
-    (saved_since told before mid after g l p earlier same one))
+    → AllZip (IsSaved told last before mid f) listed parts → IsSaved told last mid after g l p
+    → AllZip (IsSaved told last before after g) (listed ++ l ∷ []) more
+saved_more told last before mid after f g listed parts more l p keeps earlier same next is all one =
+    subst (AllZip (IsSaved told last before after g) (listed ++ l ∷ [])) (sym is)
+    (zip_pushed (IsSaved told last before after g) listed parts l p (all_saved_kept told last before mid after f g listed parts keeps next all)
+    (saved_since told last before mid p earlier same after g l one))
 
 -- ---- names of live bits, one segment after another
 

@@ -1,7 +1,7 @@
 -- What is saved of a set.
-use Rattle.std.proofs.Common.{◌≡◌, ℕ, true, false, cond, List, Option, is_some, Result, Ok, Err, refl, sym, ap, subst, ◌∙◌, arith}
+use Rattle.std.proofs.Common.{◌≡◌, ℕ, true, false, cond, List, Option, is_some, Result, Ok, Err, refl, sym, ap, subst, ◌∙◌, ◌⊎◌, inl, inr, arith}
 use Rattle.std.specs.Prelude.{IfOk, OnOk}
-use Rattle.std.specs.List.{All, AllZip, list_any}
+use Rattle.std.specs.List.{All, AllZip, Contains, list_any}
 use Rattle.outer_io.specs.declared.file_name.FileName.{FileName}
 use Rattle.outer_io.specs.declared.file_name.FileName.TheVariants.{Commit, Live, Segment}
 use Rattle.outer_io.specs.Files.{Files, bytes_of}
@@ -27,9 +27,10 @@ use Rattle.file_names.specs.Names.{NameList, is_named}
 use Rattle.segment_set.specs.Sets.{IsNamed, IsWell, SetData}
 use Rattle.segment_set.specs.Seen.{Sees}
 use Rattle.segment_set.specs.Kept.{AreCanonical, KeepsNamed, StaysAlone}
-use Rattle.segment_set.specs.Saved.{HasNextGeneration, IsSaved, StaysButSaved}
+use Rattle.segment_set.specs.Saved.{HasNoLine, IsAnew, IsLastOrFresh, IsLastOrNext, IsLineOf, IsSaved, KeepsLine, StaysButSaved}
 use Rattle.segment_set.proofs.Carried.{canon_named, canon_then, follows_none, unnamed_before}
 use Rattle.segment_set.proofs.Standing.{sees_alike, sees_like}
+use Rattle.segment_set.proofs.Covered.{IsListedAs}
 use Rattle.segment_set.proofs.SavedSegments.{zip_left}
 
 -- ---- what every set keeps to, with other names
@@ -148,27 +149,52 @@ canon_saved D told first before after s t to well keeps more alone canon =
     (canon_then D told first s.names t.names before after s.parts s.parts to keeps more well.named canon (follows_none s.names s.parts)
     (canon_named D after s.names s.parts well.named))
 
-pub all_fresh : (told : Type 0) (first before after : NameList) (files : Files) (listed : List Listed) (parts : List LiveSegment)
-    → ((m : FileName) → is_named first.names m ≡ true → is_named before.names m ≡ true)
-    → AllZip (IsSaved told before after files) listed parts → All (λ (l : Listed). is_named first.names (Live l.segment l.generation) ≡ false) listed
-all_fresh told first before after files listed parts more all =
-    zip_left (IsSaved told before after files) (λ (l : Listed). is_named first.names (Live l.segment l.generation) ≡ false) listed parts
-    (λ l p saved. unnamed_before first.names before.names (Live l.segment l.generation) (more (Live l.segment l.generation)) saved.fresh) all
+-- what is known of each line that is listed
+module _ (told : Type 0) (last : List Listed) (before after : NameList) (files : Files) (listed : List Listed) (parts : List LiveSegment)
+    (all : AllZip (IsSaved told last before after files) listed parts) where
+  pub all_fresh : (first : NameList) → ((m : FileName) → is_named first.names m ≡ true → is_named before.names m ≡ true)
+      → All (IsLastOrFresh first last) listed
+  all_fresh first more = zip_left (IsSaved told last before after files) (IsLastOrFresh first last) listed parts (λ l p saved. by l p saved.how) all
+    where
+      by : (l : Listed) (p : LiveSegment) → (Contains last l × IsLineOf before l p) ⊎ (HasNoLine before last p × IsAnew told before files l p.live)
+          → IsLastOrFresh first last l
+      by l p (inl h) = inl h.0
+      by l p (inr h) = inr (unnamed_before first.names before.names (Live l.segment l.generation) (more (Live l.segment l.generation)) h.1.fresh)
 
-pub all_next : (told : Type 0) (before after : NameList) (files : Files) (listed : List Listed) (parts : List LiveSegment)
-    → AllZip (IsSaved told before after files) listed parts → All (HasNextGeneration before) listed
-all_next told before after files listed parts all =
-    zip_left (IsSaved told before after files) (HasNextGeneration before) listed parts (λ l p saved. saved.rule) all
+  pub all_kept : (first : NameList) → ((m : FileName) → is_named first.names m ≡ true → is_named before.names m ≡ true)
+      → All (KeepsLine first last) listed
+  all_kept first more =
+      zip_left (IsSaved told last before after files) (KeepsLine first last) listed parts (λ l p saved. by l p saved.line saved.how) all
+    where
+      by : (l : Listed) (p : LiveSegment) → IsLineOf after l p
+          → (Contains last l × IsLineOf before l p) ⊎ (HasNoLine before last p × IsAnew told before files l p.live)
+          → KeepsLine first last l
+      by l p line (inl h) = λ m there same named. h.0
+      by l p line (inr h) = λ m there same named. absurd (h.0 m there (record {
+        segment = same.0 ∙ line.segment;
+        entries = same.1 ∙ line.entries;
+        live = same.2 ∙ line.live;
+        named = more (Live m.segment m.generation) named;
+      }))
 
-pub all_written : (told : Type 0) (before after : NameList) (files : Files) (listed : List Listed) (parts others : List LiveSegment) → told → others ≡ parts
-    → AllZip (IsSaved told before after files) listed parts
+  pub all_next : All (IsLastOrNext before last) listed
+  all_next = zip_left (IsSaved told last before after files) (IsLastOrNext before last) listed parts (λ l p saved. by l p saved.how) all
+    where
+      by : (l : Listed) (p : LiveSegment) → (Contains last l × IsLineOf before l p) ⊎ (HasNoLine before last p × IsAnew told before files l p.live)
+          → IsLastOrNext before last l
+      by l p (inl h) = inl h.0
+      by l p (inr h) = inr h.1.rule
+
+-- the files of live bits hold what is live
+pub all_written : (files : Files) (listed : List Listed) (parts others : List LiveSegment) → others ≡ parts
+    → AllZip (IsListedAs files) listed parts
     → AllZip (λ (l : Listed) (p : LiveSegment). IsLiveFile l.segment l.generation (bytes_of (files (Live l.segment l.generation))) p.live) listed others
-all_written told before after files listed parts others t same all =
+all_written files listed parts others same all =
     subst (AllZip (λ (l : Listed) (p : LiveSegment). IsLiveFile l.segment l.generation (bytes_of (files (Live l.segment l.generation))) p.live) listed)
     (sym same)
-    (zip_moved (IsSaved told before after files)
+    (zip_moved (IsListedAs files)
     (λ (l : Listed) (p : LiveSegment). IsLiveFile l.segment l.generation (bytes_of (files (Live l.segment l.generation))) p.live) listed parts
-    (λ l p there saved. saved.written t) all)
+    (λ l p there is. is.file) all)
 
 -- ---- what an error says
 

@@ -1,5 +1,5 @@
 -- What calls of a set leave and what their faults show, one record for each effect.
-use Rattle.std.specs.Prelude.{◌≡◌, ◌≤◌, ◌+◌, ◌↔◌, ◌<◌, ◌^◌, ℕ, false, List, [], length, All, Option, None, Some}
+use Rattle.std.specs.Prelude.{◌≡◌, ◌≤◌, ◌+◌, ◌↔◌, ◌<◌, ◌^◌, ℕ, List, [], length, All, Option, None, Some}
 use Rattle.std.specs.Prelude.{Result, IfOk, OnOk, OnErr, IsErrOf}
 use Rattle.std.specs.List.{AllZip}
 use Rattle.outer_io.specs.Files.{Files, bytes_of}
@@ -8,6 +8,7 @@ use Rattle.outer_io.specs.declared.file_name.FileName.TheVariants as file
 use Rattle.page_cache.specs.declared.faults.Damage.{Damage}
 use Rattle.page_cache.specs.declared.faults.PageFault.{PageFault}
 use Rattle.page_cache.specs.Cache.{Agrees}
+use Rattle.commit_list.specs.declared.listed.Listed.{Listed}
 use Rattle.commit_list.specs.Commits.{CommitData}
 use Rattle.commit_list.specs.CommitFiles.{IsCommitFile}
 use Rattle.index_model.specs.State.{Index, State, at_rest}
@@ -19,7 +20,6 @@ use Rattle.segment_view.specs.LiveSegments.{LiveSegment, Contents, AreRead, live
 use Rattle.segment_view.specs.Damages.{IsPartDamage}
 use Rattle.index_opening.specs.Damages.{IsAttachDamage, IsAttachDamageOf}
 use Rattle.index_opening.specs.Evidence.{IsEvident, IsEvidentIn}
-use Rattle.file_names.specs.Names.{is_named}
 use Rattle.segment_set.specs.declared.faults.AddFault.{AddFault}
 use Rattle.segment_set.specs.declared.faults.AddFault.TheVariants as add
 use Rattle.segment_set.specs.Sets.{BegunMerge, SetData}
@@ -28,6 +28,7 @@ use Rattle.segment_set.specs.Kept.{AreCanonical, Follows, IsCommitOf, KeepsNamed
 use Rattle.segment_set.specs.Merged.{IsEnded}
 use Rattle.segment_set.specs.Merges.{Replaces, living}
 use Rattle.segment_set.specs.Settles.{SetMoment, IsLeft}
+use Rattle.segment_set.specs.Saved.{AreCovering, IsLastOrFresh, KeepsLine}
 use Rattle.segment_set.specs.Damages.{IsDoubt, IsMergeDamage, IsMergeDamageOf}
 use Rattle.segment_set.specs.Faithful.{IsFaithful}
 use Rattle.segment_set.specs.Faults.{OnAddDamage}
@@ -73,17 +74,18 @@ pub record ShowsAttachDamage (told : Type 0) (files : Files) (c : CommitData) (O
 
 -- ---- what single calls do
 
--- The commit that is answered lists the segments of now. Its files are named, those of its live bits are new and hold
--- what is live, and a folder with its files stores the index that the set is seen as.
-pub record Saves (D : ℕ) (told : Type 0) (files new_files : Files) (s t : SetData)
+-- The commit that is answered lists the segments of now. Its files are named. Those of live bits are new but where the
+-- last commit lists the segment with as many live numbers, by a file that is named. Where the last commit's lines cover
+-- the segments, they hold what is live, and a folder with the commit's files stores the index that the set is seen as.
+pub record Saves (D : ℕ) (told : Type 0) (files new_files : Files) (last : List Listed) (s t : SetData)
     (result : Result CommitData PageFault) : Type 0 where
   pub saved : IfOk result (λ c. t.saved ≡ Some c)
   pub commit : IfOk result (IsCommitOf D t)
-  pub fresh : IfOk result
-      (λ c. All (λ l. is_named s.names.names (file.Live l.segment l.generation) ≡ false) c.listed)
-  pub live : told → IfOk result (λ c. AllZip (λ l p. IsLiveFile l.segment l.generation
+  pub fresh : IfOk result (λ c. All (IsLastOrFresh s.names last) c.listed)
+  pub kept : IfOk result (λ c. All (KeepsLine s.names last) c.listed)
+  pub live : told → AreCovering files last s → IfOk result (λ c. AllZip (λ l p. IsLiveFile l.segment l.generation
       (bytes_of (new_files (file.Live l.segment l.generation))) p.live) c.listed t.parts)
-  pub stored : told → (i : Index) → Sees D files s i
+  pub stored : told → AreCovering files last s → (i : Index) → Sees D files s i
       → IfOk result (λ c. (now : Files) → IsCommitFile (bytes_of (now file.Commit)) c
       → ((m : FileName) → ListsFile c m → now m ≡ new_files m) → IsStored now (Some (at_rest i)))
 

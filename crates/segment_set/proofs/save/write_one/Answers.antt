@@ -31,24 +31,29 @@ returns-clause-kept g c =
     (c.in_ok-generation.ensures.rule, c.in_ok-generation.ensures.named, c.in_ok-generation.ensures.next)
     c.in_ok-generation.ensures.named c.in_ok-generation.ensures.fresh (λ e. cc) c.in_ok-write_live.ensures.others
 
-pub returns-clause-listed : goal.returns-clause-listed
-returns-clause-listed g c =
-    let below = c.next_segment.ensures.below.below c.args.head.now.id c.requires.named in
-    record {
-      segment = c.id-segment.ensures;
-      entries = c.entries.ensures;
-      live = c.live_count.ensures.value;
-      may = record {
+pub returns-clause-line : goal.returns-clause-line
+returns-clause-line g c =
+    let below = c.next_segment.ensures.below.below c.args.head.now.id c.requires.named in (
+      record {
+        segment = c.id-segment.ensures;
+        entries = c.entries.ensures;
+        live = c.live_count.ensures.value;
+        named = c.in_ok-generation.ensures.joins;
+      },
+      record {
         id = omega (arith, below, c.id-segment.ensures, c.in_ok-generation.ensures.next);
         some = omega (arith, c.index.ensures.ranges.some, c.entries.ensures);
         most = omega (arith, c.index.ensures.ranges.few, c.entries.ensures);
         live = omega (arith, c.requires.fits, c.entries.ensures, c.live_count.ensures.value);
-      };
-      fresh = c.in_ok-generation.ensures.fresh;
-      named = c.in_ok-generation.ensures.joins;
-      rule = c.in_ok-generation.ensures.rule;
-      written = c.in_ok-write_live.ensures.written;
-    }
+      },
+    )
+
+pub returns-clause-anew : goal.returns-clause-anew
+returns-clause-anew g c = record {
+  fresh = c.in_ok-generation.ensures.fresh;
+  rule = c.in_ok-generation.ensures.rule;
+  written = c.in_ok-write_live.ensures.written;
+}
 
 pub returns-clause-cause : goal.returns-clause-cause
 returns-clause-cause g c = done_cause (g.F.Pages.faults c.args.folder.now) (g.F.Pages.faults c.write_live.new.folder) _ c.in_ok-write_live.ensures.cause.fine

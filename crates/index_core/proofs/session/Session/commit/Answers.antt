@@ -13,12 +13,13 @@ use Rattle.index_core.specs.Light.{CommitsFewOfLevels}
 use Rattle.index_core.specs.Steps.{SaysCommit}
 use Rattle.index_core.specs.Closed.{IsTracked}
 use Rattle.segment_set.specs.Kept.{Follows}
+use Rattle.segment_set.specs.Saved.{AreCovering}
 use Rattle.segment_set.proofs.Carried.{follows_none}
 use Rattle.index_core.proofs.Brought.{commit_after, commit_itself, commit_swept, keeps_flight}
 use Rattle.index_core.proofs.Closing.{tracked_commit, tracked_same}
 use Rattle.index_core.proofs.Bringing.{brings_same, brings_still, brings_then, brings_two, brings_written}
-use Rattle.index_core.proofs.Guarding.{guards_after, kept_after_calls, set_after}
-use Rattle.index_core.proofs.Committing.{as_committed, keeps_any, keeps_fault, kept_on, on_ok_any, on_ok_none}
+use Rattle.index_core.proofs.Guarding.{covered, guards_after, kept_after_calls, set_after}
+use Rattle.index_core.proofs.Committing.{as_committed, commit_anew, keeps_any, keeps_fault, kept_on, on_ok_any, on_ok_none}
 use Rattle.index_core.proofs.Committing.{says_still, stores_any, stores_fault, unchanged_is_stored, unchanged_says}
 use Rattle.segment_set.proofs.Sizes.{set_fits}
 use Rattle.index_core.proofs.Sizes.{session_fits}
@@ -145,6 +146,8 @@ returns-in_err-write g c =
     let old = g.F.Pages.files c.args.folder.now in
     let saved = g.F.Pages.files c.save.new.folder in
     let written = g.F.Pages.files c.write.new.folder in
+    let covers : Guards g.row.D old c.args.self.now → AreCovering old c.last_lines-last.result.now c.self.inside.set =
+    λ guards. covered g.row.D old _ c.last_lines-last.result.now c.last_lines-last.ensures (subst (Guards g.row.D old) (sym c.self.view_is) guards) in
     let kept : IsTrue g.F.Pages.told → Guards g.row.D old c.args.self.now → SameKept old saved =
     λ told guards. kept_after_calls _ _ _ _ _ _ told c.save.ensures.rewrites.kept (subst (Guards g.row.D old) (sym c.self.view_is) guards).set in
     record {
@@ -153,10 +156,10 @@ returns-in_err-write g c =
       stays = record {
         guards = λ told guards. c.write.ensures.guards told
             (set_after _ _ _ _ _ _ told c.save.ensures.rewrites.kept c.save.ensures.stays.leaf (subst (Guards g.row.D old) (sym c.self.view_is) guards).set)
-            (c.in_ok-commit.ensures.saves.live told);
+            (c.in_ok-commit.ensures.saves.live told (covers guards));
         faithful = λ told faithful. c.write.ensures.faithful told
             (c.save.ensures.rewrites.faithful told (subst (λ (u : SessionData). IsFaithful g.row.D old u.set) (sym c.self.view_is) faithful));
-        traced = λ told trusts. c.write.ensures.traced told (c.in_ok-commit.ensures.saves.live told)
+        traced = λ told trusts. c.write.ensures.traced told (c.in_ok-commit.ensures.saves.live told (covers trusts.guards))
             (traced_by _ _ _ _ _ c.save.new.self told c.save.ensures.rewrites.kept c.save.ensures.rewrites.follows (c.save.ensures.rewrites.canon told)
             (subst (Trusts g.row.D old) (sym c.self.view_is) trusts));
       };
@@ -165,7 +168,7 @@ returns-in_err-write g c =
             keeps_fault old written c.write.new.self _ _ error (kept_on old saved written (kept told guards) (c.in_err-write.ensures.kept told));
         stored = λ told i seen guards. stores_fault old written i c.write.new.self.set _ _ error
             (kept_on old saved written (kept told guards) (c.in_err-write.ensures.stored told i
-            (c.in_ok-commit.ensures.saves.stored told i (subst (λ (u : SessionData). Sees g.row.D old u.set i) (sym c.self.view_is) seen))));
+            (c.in_ok-commit.ensures.saves.stored told (covers guards) i (subst (λ (u : SessionData). Sees g.row.D old u.set i) (sym c.self.view_is) seen))));
         undone = λ told guards. undone_flight (Unit {0}) old written c.write.new.self.set.saved fault _ error c.in_err-write.ensures.faults.whole
             (kept_on old saved written (kept told guards) (c.in_err-write.ensures.kept told));
         lasting = λ told trusts.
@@ -173,7 +176,7 @@ returns-in_err-write g c =
             commit_after old saved written (kept_after_calls _ _ _ _ _ _ told c.save.ensures.rewrites.kept before.guards.set)
             (keeps_flight g.row.D saved written c.save.new.self c.in_ok-commit.commit c.write.new.self.set.saved
             (ap (λ (u : SetData). u.saved) c.write.ensures.set ∙ c.in_ok-commit.ensures.saves.saved) c.in_ok-commit.ensures.saves.commit
-            (c.in_ok-commit.ensures.saves.live told) (c.write.ensures.others told)
+            (c.in_ok-commit.ensures.saves.live told (covers trusts.guards)) (c.write.ensures.others told)
             (set_after _ _ _ _ _ _ told c.save.ensures.rewrites.kept c.save.ensures.stays.leaf before.guards.set)
             (traced_by _ _ _ _ _ c.save.new.self told c.save.ensures.rewrites.kept c.save.ensures.rewrites.follows (c.save.ensures.rewrites.canon told) before)
             (c.in_err-write.ensures.kept told));
@@ -211,10 +214,12 @@ returns g c =
     ∙ sym c.sweep.ensures.written.0 in
     let empty = ap (λ (u : SetData). u.buffer) c.sweep.ensures.alone.is ∙ ap (λ (u : SetData). u.buffer) c.write.ensures.set
     ∙ c.in_ok-commit.ensures.emptied in
+    let covers : Guards g.row.D old c.args.self.now → AreCovering old c.last_lines-last.result.now c.self.inside.set =
+    λ guards. covered g.row.D old _ c.last_lines-last.result.now c.last_lines-last.ensures (subst (Guards g.row.D old) (sym c.self.view_is) guards) in
     let guarded : IsTrue g.F.Pages.told → Guards g.row.D old c.args.self.now → Guards g.row.D written c.write.new.self =
     λ told guards. c.write.ensures.guards told
     (set_after _ _ _ _ _ _ told c.save.ensures.rewrites.kept c.save.ensures.stays.leaf (subst (Guards g.row.D old) (sym c.self.view_is) guards).set)
-    (c.in_ok-commit.ensures.saves.live told) in
+    (c.in_ok-commit.ensures.saves.live told (covers guards)) in
     let says : IsTrue g.F.Pages.told → Guards g.row.D old c.args.self.now → SaysCommit swept c.sweep.new.self.commit =
     λ told guards. says_still written swept c.write.new.self.commit c.sweep.new.self.commit (c.sweep.ensures.kept told (guarded told guards))
     c.sweep.ensures.written.0 (c.in_ok-write.ensures.kept told) in
@@ -229,7 +234,7 @@ returns g c =
         faithful = λ told faithful. c.sweep.ensures.faithful told (c.write.ensures.faithful told
             (c.save.ensures.rewrites.faithful told (subst (λ (u : SessionData). IsFaithful g.row.D old u.set) (sym c.self.view_is) faithful)));
         traced = λ told trusts. c.sweep.ensures.traced told (guarded told trusts.guards)
-            (c.write.ensures.traced told (c.in_ok-commit.ensures.saves.live told)
+            (c.write.ensures.traced told (c.in_ok-commit.ensures.saves.live told (covers trusts.guards))
             (traced_by _ _ _ _ _ c.save.new.self told c.save.ensures.rewrites.kept c.save.ensures.rewrites.follows (c.save.ensures.rewrites.canon told)
             (subst (Trusts g.row.D old) (sym c.self.view_is) trusts)));
       };
@@ -238,7 +243,7 @@ returns g c =
         stored = λ told i seen guards. stores_any old swept i c.sweep.new.self.set c.sweep.result
             (stored_still written swept (Some (at_rest i)) (c.sweep.ensures.kept told (guarded told guards))
             (c.in_ok-write.ensures.stored told i
-            (c.in_ok-commit.ensures.saves.stored told i (subst (λ (u : SessionData). Sees g.row.D old u.set i) (sym c.self.view_is) seen))).0)
+            (c.in_ok-commit.ensures.saves.stored told (covers guards) i (subst (λ (u : SessionData). Sees g.row.D old u.set i) (sym c.self.view_is) seen))).0)
             empty;
         undone = λ told guards. undone_written old swept c.sweep.new.self.commit c.sweep.result c.sweep.ensures.faults.whole (says told guards);
         lasting = λ told trusts.
@@ -246,7 +251,7 @@ returns g c =
             commit_swept old written swept
             (commit_after old saved written (kept_after_calls _ _ _ _ _ _ told c.save.ensures.rewrites.kept before.guards.set)
             (keeps_flight g.row.D saved written c.save.new.self c.in_ok-commit.commit c.write.new.self.commit c.in_ok-write.ensures.written.0
-            c.in_ok-commit.ensures.saves.commit (c.in_ok-commit.ensures.saves.live told) (c.write.ensures.others told)
+            c.in_ok-commit.ensures.saves.commit (c.in_ok-commit.ensures.saves.live told (covers trusts.guards)) (c.write.ensures.others told)
             (set_after _ _ _ _ _ _ told c.save.ensures.rewrites.kept c.save.ensures.stays.leaf before.guards.set)
             (traced_by _ _ _ _ _ c.save.new.self told c.save.ensures.rewrites.kept c.save.ensures.rewrites.follows (c.save.ensures.rewrites.canon told) before)
             (inr (c.in_ok-write.ensures.kept told))))
@@ -261,11 +266,8 @@ returns g c =
           done = c.sweep.ensures.written.1;
           same = as_committed _ _ _ _ _ c.in_ok-commit.ensures.saves.commit c.in_ok-commit.ensures.emptied c.write.ensures.set c.sweep.ensures.alone;
         };
-        anew = λ changed. subst (λ (u : SessionData). IsCommitAnew u.set.names c.sweep.new.self) c.self.view_is (record {
-          commit = c.in_ok-commit.commit;
-          is = same;
-          fresh = c.in_ok-commit.ensures.saves.fresh;
-        });
+        anew = λ changed. subst (λ (u : SessionData). IsCommitAnew u c.sweep.new.self) c.self.view_is
+            (commit_anew _ _ c.in_ok-commit.commit _ c.last_lines-last.ensures same c.in_ok-commit.ensures.saves.fresh c.in_ok-commit.ensures.saves.kept);
         levels = λ changed none. few none;
         few = λ told guards none. few_listed old swept c.sweep.new.self.commit (says told guards) (few none);
         tracked = λ told m. subst (λ (u : SessionData). IsTracked old swept u.set.names c.sweep.new.self.set.names m) c.self.view_is

@@ -221,8 +221,8 @@ returns-clause-applies g c = record {
               (ap (λ (u : SetData). u.buffer) same) (c.in_ok-set.ensures.unchanged last.commit last.is);
         });
     anew = λ changed. let written = c.in_ok-commit.ensures.done.anew changed in
-        subst (λ (u : SessionData). IsCommitAnew c.args.self.now.set.names (record u { set = c.renew.new.self })) (sym c.self.view_is)
-        (record { commit = written.commit; is = written.is; fresh = written.fresh });
+        subst (λ (u : SessionData). IsCommitAnew c.args.self.now (record u { set = c.renew.new.self })) (sym c.self.view_is)
+        (record { commit = written.commit; is = written.is; fresh = written.fresh; kept = written.kept });
     levels = λ changed none. subst (λ (u : SessionData). CommitsFewOfLevels u.commit) (sym c.self.view_is) (c.in_ok-commit.ensures.done.levels changed none);
   };
   canon = λ told i seen guards. let last = c.in_ok-commit.ensures.done.unchanged in

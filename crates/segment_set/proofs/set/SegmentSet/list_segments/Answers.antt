@@ -16,37 +16,37 @@ use Rattle.segment_set.proofs.set.SegmentSet.list_segments.Goals as goal
 
 pub invariant_of-self : goal.invariant_of-self
 invariant_of-self g c =
-    well_names g.row.D (IsTrue g.F.Pages.told) (g.F.Pages.files c.args.folder.now) (g.F.Pages.files c.write_lives.new.folder) _ c.write_lives.new.names
-    c.self.inside.saved c.self.invariant c.write_lives.ensures.kept
+    well_names g.row.D (IsTrue g.F.Pages.told) (g.F.Pages.files c.args.folder.now) (g.F.Pages.files c.list_lives.new.folder) _ c.list_lives.new.names
+    c.self.inside.saved c.self.invariant c.list_lives.ensures.kept
 
 pub invariant_of-self-in_err-again : goal.invariant_of-self-in_err-again
 invariant_of-self-in_err-again g c =
-    well_names g.row.D (IsTrue g.F.Pages.told) (g.F.Pages.files c.args.folder.now) (g.F.Pages.files c.write_lives.new.folder) _ c.write_lives.new.names
-    c.self.inside.saved c.self.invariant c.write_lives.ensures.kept
+    well_names g.row.D (IsTrue g.F.Pages.told) (g.F.Pages.files c.args.folder.now) (g.F.Pages.files c.list_lives.new.folder) _ c.list_lives.new.names
+    c.self.inside.saved c.self.invariant c.list_lives.ensures.kept
 
 pub invariant_of-self-2 : goal.invariant_of-self-2
 invariant_of-self-2 g c =
-    well_names g.row.D (IsTrue g.F.Pages.told) (g.F.Pages.files c.args.folder.now) (g.F.Pages.files c.write_lives.new.folder) _ c.write_lives.new.names
-    (Some c.new-kept.result) c.self.invariant c.write_lives.ensures.kept
+    well_names g.row.D (IsTrue g.F.Pages.told) (g.F.Pages.files c.args.folder.now) (g.F.Pages.files c.list_lives.new.folder) _ c.list_lives.new.names
+    (Some c.new-kept.result) c.self.invariant c.list_lives.ensures.kept
 
 pub returns-in_err-listed-clause-alone : goal.returns-in_err-listed-clause-alone
-returns-in_err-listed-clause-alone g c = but_saved c.args.self.now _ c.self.view_is c.write_lives.new.names c.self.inside.saved
+returns-in_err-listed-clause-alone g c = but_saved c.args.self.now _ c.self.view_is c.list_lives.new.names c.self.inside.saved
 
 pub returns-in_err-listed-clause-kept : goal.returns-in_err-listed-clause-kept
 returns-in_err-listed-clause-kept g c =
-    subst (λ (u : SetData). KeepsNamed (IsTrue g.F.Pages.told) u.names c.write_lives.new.names (g.F.Pages.files c.args.folder.now)
-    (g.F.Pages.files c.write_lives.new.folder)) c.self.view_is c.write_lives.ensures.kept
+    subst (λ (u : SetData). KeepsNamed (IsTrue g.F.Pages.told) u.names c.list_lives.new.names (g.F.Pages.files c.args.folder.now)
+    (g.F.Pages.files c.list_lives.new.folder)) c.self.view_is c.list_lives.ensures.kept
 
 pub returns-in_err-listed-clause-well : goal.returns-in_err-listed-clause-well
 returns-in_err-listed-clause-well g c = subst (IsWell g.row.D) c.self.view_is c.self.invariant
 
 pub returns-in_err-again-clause-alone : goal.returns-in_err-again-clause-alone
-returns-in_err-again-clause-alone g c = but_saved c.args.self.now _ c.self.view_is c.write_lives.new.names c.self.inside.saved
+returns-in_err-again-clause-alone g c = but_saved c.args.self.now _ c.self.view_is c.list_lives.new.names c.self.inside.saved
 
 pub returns-in_err-again-clause-kept : goal.returns-in_err-again-clause-kept
 returns-in_err-again-clause-kept g c =
-    subst (λ (u : SetData). KeepsNamed (IsTrue g.F.Pages.told) u.names c.write_lives.new.names (g.F.Pages.files c.args.folder.now)
-    (g.F.Pages.files c.write_lives.new.folder)) c.self.view_is c.write_lives.ensures.kept
+    subst (λ (u : SetData). KeepsNamed (IsTrue g.F.Pages.told) u.names c.list_lives.new.names (g.F.Pages.files c.args.folder.now)
+    (g.F.Pages.files c.list_lives.new.folder)) c.self.view_is c.list_lives.ensures.kept
 
 pub returns-in_err-again-clause-well : goal.returns-in_err-again-clause-well
 returns-in_err-again-clause-well g c = subst (IsWell g.row.D) c.self.view_is c.self.invariant
@@ -65,7 +65,7 @@ new-kept-requires g c =
     (is_commit g.row.D _ c.next_segment-next_segment.result c.in_ok-again.again.items c.self.invariant c.heads.ensures.ascend
     (subst (λ (ls : List Listed). AllZip (IsLine c.next_segment-next_segment.result) ls c.self.inside.segments)
     (sym (c.in_ok-again.ensures.items ∙ c.as_slice.ensures.value))
-    (saved_lines (IsTrue g.F.Pages.told) c.self.inside.names c.write_lives.new.names (g.F.Pages.files c.write_lives.new.folder)
+    (saved_lines (IsTrue g.F.Pages.told) c.args.last.now c.self.inside.names c.list_lives.new.names (g.F.Pages.files c.list_lives.new.folder)
     c.next_segment-next_segment.result c.in_ok-listed.listed.items c.self.inside.segments
     c.next_segment-next_segment.ensures.value c.in_ok-listed.ensures.listed)))
 
@@ -81,17 +81,17 @@ new-requires g c =
       listed = c.in_ok-listed.listed.items;
     })) (sym c.next-next.ensures)
     (is_commit g.row.D _ c.next_segment-next_segment.result c.in_ok-listed.listed.items c.self.invariant c.heads.ensures.ascend
-    (saved_lines (IsTrue g.F.Pages.told) c.self.inside.names c.write_lives.new.names (g.F.Pages.files c.write_lives.new.folder)
+    (saved_lines (IsTrue g.F.Pages.told) c.args.last.now c.self.inside.names c.list_lives.new.names (g.F.Pages.files c.list_lives.new.folder)
     c.next_segment-next_segment.result c.in_ok-listed.listed.items c.self.inside.segments
     c.next_segment-next_segment.ensures.value c.in_ok-listed.ensures.listed))
 
 pub returns-clause-alone : goal.returns-clause-alone
-returns-clause-alone g c = but_saved c.args.self.now _ c.self.view_is c.write_lives.new.names (Some c.new-kept.result)
+returns-clause-alone g c = but_saved c.args.self.now _ c.self.view_is c.list_lives.new.names (Some c.new-kept.result)
 
 pub returns-clause-kept : goal.returns-clause-kept
 returns-clause-kept g c =
-    subst (λ (u : SetData). KeepsNamed (IsTrue g.F.Pages.told) u.names c.write_lives.new.names (g.F.Pages.files c.args.folder.now)
-    (g.F.Pages.files c.write_lives.new.folder)) c.self.view_is c.write_lives.ensures.kept
+    subst (λ (u : SetData). KeepsNamed (IsTrue g.F.Pages.told) u.names c.list_lives.new.names (g.F.Pages.files c.args.folder.now)
+    (g.F.Pages.files c.list_lives.new.folder)) c.self.view_is c.list_lives.ensures.kept
 
 pub returns-clause-well : goal.returns-clause-well
 returns-clause-well g c = subst (IsWell g.row.D) c.self.view_is c.self.invariant
@@ -125,56 +125,58 @@ returns-clause-commit g c =
       next_segment = c.next_segment-next_segment.result;
       listed = c.in_ok-listed.listed.items;
     }) c.next-next.ensures))
-    (commit_of_set g.row.D (IsTrue g.F.Pages.told) c.self.inside.names (g.F.Pages.files c.write_lives.new.folder) _ c.next_segment-next_segment.result
+    (commit_of_set g.row.D (IsTrue g.F.Pages.told) c.args.last.now c.self.inside.names (g.F.Pages.files c.list_lives.new.folder)
+    _ c.next_segment-next_segment.result
     c.in_ok-listed.listed.items c.next_segment-next_segment.ensures.value
-    (well_names g.row.D (IsTrue g.F.Pages.told) (g.F.Pages.files c.args.folder.now) (g.F.Pages.files c.write_lives.new.folder) _ c.write_lives.new.names
-    (Some c.new-kept.result) c.self.invariant c.write_lives.ensures.kept)
+    (well_names g.row.D (IsTrue g.F.Pages.told) (g.F.Pages.files c.args.folder.now) (g.F.Pages.files c.list_lives.new.folder) _ c.list_lives.new.names
+    (Some c.new-kept.result) c.self.invariant c.list_lives.ensures.kept)
     c.in_ok-listed.ensures.listed)
 
 pub returns-clause-listed : goal.returns-clause-listed
 returns-clause-listed g c =
     subst (λ (ls : List Listed).
-    AllZip (IsSaved (IsTrue g.F.Pages.told) c.args.self.now.names c.write_lives.new.names (g.F.Pages.files c.write_lives.new.folder)) ls c.args.self.now.parts)
+    AllZip (IsSaved (IsTrue g.F.Pages.told) c.args.last.now c.args.self.now.names c.list_lives.new.names (g.F.Pages.files c.list_lives.new.folder)) ls
+    c.args.self.now.parts)
     (sym (ap (λ (k : CommitData). k.listed) c.new.ensures))
-    (subst (λ (u : SetData). AllZip (IsSaved (IsTrue g.F.Pages.told) u.names c.write_lives.new.names (g.F.Pages.files c.write_lives.new.folder))
+    (subst (λ (u : SetData). AllZip (IsSaved (IsTrue g.F.Pages.told) c.args.last.now u.names c.list_lives.new.names (g.F.Pages.files c.list_lives.new.folder))
     c.in_ok-listed.listed.items u.parts) c.self.view_is c.in_ok-listed.ensures.listed)
 
 pub returns-in_err-listed-clause-reads : goal.returns-in_err-listed-clause-reads
-returns-in_err-listed-clause-reads g c = c.write_lives.ensures.reads
+returns-in_err-listed-clause-reads g c = c.list_lives.ensures.reads
 
 pub returns-in_err-again-clause-reads : goal.returns-in_err-again-clause-reads
-returns-in_err-again-clause-reads g c = c.write_lives.ensures.reads
+returns-in_err-again-clause-reads g c = c.list_lives.ensures.reads
 
 pub returns-clause-reads : goal.returns-clause-reads
-returns-clause-reads g c = c.write_lives.ensures.reads
+returns-clause-reads g c = c.list_lives.ensures.reads
 
 pub returns-in_err-listed-clause-faithful : goal.returns-in_err-listed-clause-faithful
 returns-in_err-listed-clause-faithful g c = λ told faithful.
-    faithful_saved g.row.D (IsTrue g.F.Pages.told) (g.F.Pages.files c.args.folder.now) (g.F.Pages.files c.write_lives.new.folder) _ c.write_lives.new.names
-    c.self.inside.saved c.self.invariant c.write_lives.ensures.kept told
+    faithful_saved g.row.D (IsTrue g.F.Pages.told) (g.F.Pages.files c.args.folder.now) (g.F.Pages.files c.list_lives.new.folder) _ c.list_lives.new.names
+    c.self.inside.saved c.self.invariant c.list_lives.ensures.kept told
     (subst (IsFaithful g.row.D (g.F.Pages.files c.args.folder.now)) (sym c.self.view_is) faithful)
 
 pub returns-in_err-again-clause-faithful : goal.returns-in_err-again-clause-faithful
 returns-in_err-again-clause-faithful g c = λ told faithful.
-    faithful_saved g.row.D (IsTrue g.F.Pages.told) (g.F.Pages.files c.args.folder.now) (g.F.Pages.files c.write_lives.new.folder) _ c.write_lives.new.names
-    c.self.inside.saved c.self.invariant c.write_lives.ensures.kept told
+    faithful_saved g.row.D (IsTrue g.F.Pages.told) (g.F.Pages.files c.args.folder.now) (g.F.Pages.files c.list_lives.new.folder) _ c.list_lives.new.names
+    c.self.inside.saved c.self.invariant c.list_lives.ensures.kept told
     (subst (IsFaithful g.row.D (g.F.Pages.files c.args.folder.now)) (sym c.self.view_is) faithful)
 
 pub returns-clause-faithful : goal.returns-clause-faithful
 returns-clause-faithful g c = λ told faithful.
-    faithful_saved g.row.D (IsTrue g.F.Pages.told) (g.F.Pages.files c.args.folder.now) (g.F.Pages.files c.write_lives.new.folder) _ c.write_lives.new.names
-    (Some c.new-kept.result) c.self.invariant c.write_lives.ensures.kept told
+    faithful_saved g.row.D (IsTrue g.F.Pages.told) (g.F.Pages.files c.args.folder.now) (g.F.Pages.files c.list_lives.new.folder) _ c.list_lives.new.names
+    (Some c.new-kept.result) c.self.invariant c.list_lives.ensures.kept told
     (subst (IsFaithful g.row.D (g.F.Pages.files c.args.folder.now)) (sym c.self.view_is) faithful)
 
 pub returns-in_err-listed-clause-refused : goal.returns-in_err-listed-clause-refused
 returns-in_err-listed-clause-refused g c =
     at_error _ c.from_residual.result c.from_residual.ensures.1
-    _ (before_moved c.args.self.now _ c.self.view_is c.write_lives.new.names c.self.inside.segments _ c.self.inside.cache refl refl)
+    _ (before_moved c.args.self.now _ c.self.view_is c.list_lives.new.names c.self.inside.segments _ c.self.inside.cache refl refl)
 
 pub returns-in_err-again-clause-refused : goal.returns-in_err-again-clause-refused
 returns-in_err-again-clause-refused g c =
     at_error _ c.from_residual-in_err-again.result c.from_residual-in_err-again.ensures.1
-    _ (before_moved c.args.self.now _ c.self.view_is c.write_lives.new.names c.self.inside.segments _ c.self.inside.cache refl refl)
+    _ (before_moved c.args.self.now _ c.self.view_is c.list_lives.new.names c.self.inside.segments _ c.self.inside.cache refl refl)
 
 pub returns-clause-refused : goal.returns-clause-refused
 returns-clause-refused g c = tt

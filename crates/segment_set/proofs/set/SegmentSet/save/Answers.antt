@@ -1,4 +1,4 @@
-use Rattle.std.proofs.Common.{◌≡◌, ◌≤◌, ◌∙◌, ℕ, false, List, Option, Some, sym, subst}
+use Rattle.std.proofs.Common.{◌≡◌, ◌≤◌, ◌∙◌, ℕ, List, Option, Some, sym, subst}
 use Rattle.std.specs.Prelude.{All, IsTrue}
 use Rattle.std.specs.List.{AllZip}
 use Rattle.std.proofs.lemmas.Result.{on_err_weaker}
@@ -14,12 +14,12 @@ use Rattle.stored_index.specs.Kept.{ListsFile}
 use Rattle.stored_index.specs.Stored.{IsStored}
 use Rattle.index_model.specs.State.{at_rest}
 use Rattle.segment_view.specs.LiveSegments.{LiveSegment}
-use Rattle.file_names.specs.Names.{is_named}
 use Rattle.segment_set.specs.Sets.{BegunMerge, pins_of, sizes_of}
 use Rattle.segment_set.specs.Kept.{Follows, IsCommitOf}
-use Rattle.segment_set.specs.Saved.{HasNextGeneration, IsSaved, StaysButSaved}
+use Rattle.segment_set.specs.Saved.{AreCovering, IsLastOrFresh, IsLastOrNext, IsSaved, KeepsLine, StaysButSaved}
 use Rattle.segment_set.proofs.Carried.{keeps_then, stays_then}
-use Rattle.segment_set.proofs.Saving.{all_fresh, all_next, all_written, canon_saved, cause_after, if_ok_both}
+use Rattle.segment_set.proofs.Covered.{IsListedAs, all_listed, covering_after}
+use Rattle.segment_set.proofs.Saving.{all_fresh, all_kept, all_next, all_written, canon_saved, cause_after, if_ok_both}
 use Rattle.segment_set.proofs.Saving.{no_damage, ok_always, sees_saved, stays_saved, well_saved}
 use Rattle.segment_set.proofs.SavedCommit.{saved_is_stored}
 use Rattle.segment_set.proofs.Refused.{at_error, never_ok, never_value, same_cause, same_damage}
@@ -105,46 +105,51 @@ returns-in_err-flush-clause-saves g c = record {
   saved = never_value _ c.from_residual.result c.from_residual.ensures.1 _;
   commit = never_value _ c.from_residual.result c.from_residual.ensures.1 _;
   fresh = never_value _ c.from_residual.result c.from_residual.ensures.1 _;
-  live = λ told. never_value _ c.from_residual.result c.from_residual.ensures.1 _;
-  stored = λ told i seen. never_value _ c.from_residual.result c.from_residual.ensures.1 _;
+  kept = never_value _ c.from_residual.result c.from_residual.ensures.1 _;
+  live = λ told covering. never_value _ c.from_residual.result c.from_residual.ensures.1 _;
+  stored = λ told covering i seen. never_value _ c.from_residual.result c.from_residual.ensures.1 _;
 }
 
 pub returns-clause-saves : goal.returns-clause-saves
-returns-clause-saves g c = record {
-  saved = c.list_segments.ensures.saved;
-  commit = c.list_segments.ensures.commit;
-  fresh =
-      let s = c.flush.new.self in
-      let t = c.list_segments.new.self in
-      let files = g.F.Pages.files c.list_segments.new.folder in
-      if_ok c.list_segments.result (λ (k : CommitData). AllZip (IsSaved (IsTrue g.F.Pages.told) s.names t.names files) k.listed s.parts)
-      (λ (k : CommitData). All (λ (l : Listed). is_named c.args.self.now.names.names (Live l.segment l.generation) ≡ false) k.listed)
-      (λ k all. all_fresh (IsTrue g.F.Pages.told) c.args.self.now.names s.names t.names files k.listed s.parts c.in_ok-flush.ensures.moves.kept.more all)
-      c.list_segments.ensures.listed;
-  live = λ told.
-      let s = c.flush.new.self in
-      let t = c.list_segments.new.self in
-      let files = g.F.Pages.files c.list_segments.new.folder in
-      if_ok c.list_segments.result (λ (k : CommitData). AllZip (IsSaved (IsTrue g.F.Pages.told) s.names t.names files) k.listed s.parts)
-      (λ (k : CommitData). AllZip (λ (l : Listed) (p : LiveSegment). IsLiveFile l.segment l.generation (bytes_of (files (Live l.segment l.generation))) p.live)
-      k.listed t.parts)
-      (λ k all. all_written (IsTrue g.F.Pages.told) s.names t.names files k.listed s.parts t.parts told c.list_segments.ensures.alone.parts all)
-      c.list_segments.ensures.listed;
-  stored = λ told i seen.
-      let s = c.flush.new.self in
-      let t = c.list_segments.new.self in
-      let m = c.list_segments.ensures in
-      let mid = g.F.Pages.files c.flush.new.folder in
-      let now = g.F.Pages.files c.list_segments.new.folder in
-      let there = sees_saved g.row.D (IsTrue g.F.Pages.told) mid now s t i told m.well m.kept m.alone (c.in_ok-flush.ensures.moves.seen told i seen) in
-      if_ok_both c.list_segments.result (λ (k : CommitData). IsCommitOf g.row.D t k)
-      (λ (k : CommitData). AllZip (IsSaved (IsTrue g.F.Pages.told) s.names t.names now) k.listed s.parts)
-      (λ (k : CommitData). (files : Files) → IsCommitFile (bytes_of (files Commit)) k → ((m : FileName) → ListsFile k m → files m ≡ now m)
-      → IsStored files (Some (at_rest i)))
-      (λ k commit all. saved_is_stored g.row.D (IsTrue g.F.Pages.told) s.names now t k i told
-      (well_saved g.row.D (IsTrue g.F.Pages.told) mid now s t m.well m.kept m.alone) (m.alone.buffer ∙ c.in_ok-flush.ensures.emptied) commit
-      (subst (AllZip (IsSaved (IsTrue g.F.Pages.told) s.names t.names now) k.listed) (sym m.alone.parts) all) there) m.commit m.listed;
-}
+returns-clause-saves g c =
+    let last = c.args.last.now in
+    let s = c.flush.new.self in
+    let t = c.list_segments.new.self in
+    let m = c.list_segments.ensures in
+    let old = g.F.Pages.files c.args.folder.now in
+    let mid = g.F.Pages.files c.flush.new.folder in
+    let now = g.F.Pages.files c.list_segments.new.folder in
+    let more = c.in_ok-flush.ensures.moves.kept.more in
+    let covers : IsTrue g.F.Pages.told → AreCovering old last c.args.self.now → AreCovering mid last s =
+    λ told covering. covering_after (IsTrue g.F.Pages.told) old mid last c.args.self.now s told c.in_ok-flush.ensures.moves.kept
+    c.in_ok-flush.ensures.moves.follows covering in
+    record {
+      saved = m.saved;
+      commit = m.commit;
+      fresh = if_ok c.list_segments.result (λ (k : CommitData). AllZip (IsSaved (IsTrue g.F.Pages.told) last s.names t.names now) k.listed s.parts)
+          (λ (k : CommitData). All (IsLastOrFresh c.args.self.now.names last) k.listed)
+          (λ k all. all_fresh (IsTrue g.F.Pages.told) last s.names t.names now k.listed s.parts all c.args.self.now.names more) m.listed;
+      kept = if_ok c.list_segments.result (λ (k : CommitData). AllZip (IsSaved (IsTrue g.F.Pages.told) last s.names t.names now) k.listed s.parts)
+          (λ (k : CommitData). All (KeepsLine c.args.self.now.names last) k.listed)
+          (λ k all. all_kept (IsTrue g.F.Pages.told) last s.names t.names now k.listed s.parts all c.args.self.now.names more) m.listed;
+      live = λ told covering.
+          if_ok c.list_segments.result (λ (k : CommitData). AllZip (IsSaved (IsTrue g.F.Pages.told) last s.names t.names now) k.listed s.parts)
+          (λ (k : CommitData).
+          AllZip (λ (l : Listed) (p : LiveSegment). IsLiveFile l.segment l.generation (bytes_of (now (Live l.segment l.generation))) p.live)
+          k.listed t.parts)
+          (λ k all. all_written now k.listed s.parts t.parts m.alone.parts
+          (all_listed (IsTrue g.F.Pages.told) last s t.names mid now k.listed told m.kept (covers told covering) all)) m.listed;
+      stored = λ told covering i seen.
+          let there = sees_saved g.row.D (IsTrue g.F.Pages.told) mid now s t i told m.well m.kept m.alone (c.in_ok-flush.ensures.moves.seen told i seen) in
+          if_ok_both c.list_segments.result (λ (k : CommitData). IsCommitOf g.row.D t k)
+          (λ (k : CommitData). AllZip (IsSaved (IsTrue g.F.Pages.told) last s.names t.names now) k.listed s.parts)
+          (λ (k : CommitData). (files : Files) → IsCommitFile (bytes_of (files Commit)) k → ((n : FileName) → ListsFile k n → files n ≡ now n)
+          → IsStored files (Some (at_rest i)))
+          (λ k commit all. saved_is_stored g.row.D now t k i
+          (well_saved g.row.D (IsTrue g.F.Pages.told) mid now s t m.well m.kept m.alone) (m.alone.buffer ∙ c.in_ok-flush.ensures.emptied) commit
+          (subst (AllZip (IsListedAs now) k.listed) (sym m.alone.parts)
+          (all_listed (IsTrue g.F.Pages.told) last s t.names mid now k.listed told m.kept (covers told covering) all)) there) m.commit m.listed;
+    }
 
 pub returns-clause-rewrites : goal.returns-clause-rewrites
 returns-clause-rewrites g c = record {
@@ -172,17 +177,18 @@ returns-in_err-flush-clause-left g c =
 
 pub returns-clause-flushed : goal.returns-clause-flushed
 returns-clause-flushed g c =
+    let last = c.args.last.now in
     let s = c.flush.new.self in
     let t = c.list_segments.new.self in
     let files = g.F.Pages.files c.list_segments.new.folder in
-    if_ok c.list_segments.result (λ (k : CommitData). AllZip (IsSaved (IsTrue g.F.Pages.told) s.names t.names files) k.listed s.parts)
+    if_ok c.list_segments.result (λ (k : CommitData). AllZip (IsSaved (IsTrue g.F.Pages.told) last s.names t.names files) k.listed s.parts)
     (λ (k : CommitData). (u : SetMoment) × Flushes g.row.D (IsTrue g.F.Pages.told) (moment (g.F.Pages.files c.args.folder.now) c.args.self.now) u
-    × StaysButSaved u.set t × All (HasNextGeneration u.set.names) k.listed)
+    × StaysButSaved u.set t × All (IsLastOrNext u.set.names last) k.listed)
     (λ k all. (
       moment (g.F.Pages.files c.flush.new.folder) s,
       c.in_ok-flush.ensures.flushed,
       c.list_segments.ensures.alone,
-      all_next (IsTrue g.F.Pages.told) s.names t.names files k.listed s.parts all,
+      all_next (IsTrue g.F.Pages.told) last s.names t.names files k.listed s.parts all,
     )) c.list_segments.ensures.listed
 
 pub returns-clause-left : goal.returns-clause-left
