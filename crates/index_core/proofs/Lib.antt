@@ -1,5 +1,6 @@
 pub mod Guarding
 pub mod SetGuards
+pub mod Swept
 pub mod Numbers
 pub mod Committing
 pub mod WrittenCommit
@@ -21,3 +22,4 @@ pub mod Lightly
 pub mod Undone
 pub mod Closing
 pub mod Brought
+pub mod Owned

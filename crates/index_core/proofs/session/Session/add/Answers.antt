@@ -8,6 +8,7 @@ use Rattle.script_lang.specs.declared.faults.Refusal.TheVariants as why
 use Rattle.index_core.specs.Sessions.{SessionData}
 use Rattle.index_core.proofs.Answering.{applies_is, applies_memory, applies_merging, applies_refused, applies_seen, begins_with}
 use Rattle.index_core.proofs.FaultCauses.{cause_add, whole_add}
+use Rattle.index_core.proofs.Guarding.{grows_added}
 use Rattle.index_core.proofs.Changing.{does_add, does_full, not_full}
 use Rattle.segment_set.proofs.Sizes.{set_fits}
 use Rattle.segment_set.specs.Sets.{IsNamed}
@@ -43,7 +44,7 @@ returns-clause-applies g c =
     (record {
       commit = refl;
       refused = refl;
-      leaf = c.add.ensures.alone.leaf;
+      grows = grows_added _ _ _ c.add.result c.add.ensures.alone.leaf c.add.ensures.gives.given c.add.ensures.left.stays;
       keeps = c.add.ensures.rewrites.kept;
       follows = c.add.ensures.rewrites.follows;
       brings = λ told. brings_written _ _ _ _ _ _ _ _ told c.add.ensures.rewrites.kept c.add.ensures.rewrites.follows (c.add.ensures.rewrites.canon told);

@@ -14,6 +14,7 @@ use Rattle.index_core.specs.Damages.{ShowsMerge}
 use Rattle.index_core.proofs.Showing.{damage_to, merge_none, merge_to}
 use Rattle.segment_set.specs.Sets.{IsSettled}
 use Rattle.index_core.proofs.Keeping.{fault_keeps}
+use Rattle.index_core.proofs.Guarding.{grows_alone}
 use Rattle.index_core.proofs.session.Session.flush.Goals as goal
 
 pub returns-clause-applies : goal.returns-clause-applies
@@ -23,7 +24,7 @@ returns-clause-applies g c = applies_seen _ _ _ _ _ _ _ _ _ _ _ c.self.view_is
     (record {
       commit = refl;
       refused = refl;
-      leaf = c.flush.ensures.moves.stays.leaf;
+      grows = grows_alone _ _ c.flush.ensures.moves.stays;
       keeps = c.flush.ensures.moves.kept;
       follows = c.flush.ensures.moves.follows;
       brings = λ told. brings_written _ _ _ _ _ _ _ _ told c.flush.ensures.moves.kept c.flush.ensures.moves.follows (c.flush.ensures.moves.canon told);
@@ -40,7 +41,7 @@ returns-in_err-flush-clause-applies g c =
     (record {
       commit = refl;
       refused = refl;
-      leaf = c.flush.ensures.moves.stays.leaf;
+      grows = grows_alone _ _ c.flush.ensures.moves.stays;
       keeps = c.flush.ensures.moves.kept;
       follows = c.flush.ensures.moves.follows;
       brings = λ told. brings_written _ _ _ _ _ _ _ _ told c.flush.ensures.moves.kept c.flush.ensures.moves.follows (c.flush.ensures.moves.canon told);
@@ -57,7 +58,7 @@ returns-in_err-put_ok-clause-applies g c =
     (record {
       commit = refl;
       refused = refl;
-      leaf = c.flush.ensures.moves.stays.leaf;
+      grows = grows_alone _ _ c.flush.ensures.moves.stays;
       keeps = c.flush.ensures.moves.kept;
       follows = c.flush.ensures.moves.follows;
       brings = λ told. brings_written _ _ _ _ _ _ _ _ told c.flush.ensures.moves.kept c.flush.ensures.moves.follows (c.flush.ensures.moves.canon told);

@@ -13,6 +13,7 @@ use Rattle.page_cache.specs.declared.faults.PageFault.TheVariants as page
 use Rattle.index_core.specs.Damages.{ShowsMerge}
 use Rattle.index_core.proofs.Showing.{damage_to, merge_none, merge_to}
 use Rattle.index_core.proofs.Keeping.{fault_keeps}
+use Rattle.index_core.proofs.Guarding.{grows_alone}
 use Rattle.index_core.proofs.session.Session.merge.Goals as goal
 
 pub returns-clause-applies : goal.returns-clause-applies
@@ -22,7 +23,7 @@ returns-clause-applies g c = applies_seen _ _ _ _ _ _ _ _ _ _ _ c.self.view_is
     (record {
       commit = refl;
       refused = refl;
-      leaf = c.merge_all.ensures.moves.stays.leaf;
+      grows = grows_alone _ _ c.merge_all.ensures.moves.stays;
       keeps = c.merge_all.ensures.moves.kept;
       follows = c.merge_all.ensures.moves.follows;
       brings = λ told.
@@ -40,7 +41,7 @@ returns-in_err-merge_all-clause-applies g c =
     (record {
       commit = refl;
       refused = refl;
-      leaf = c.merge_all.ensures.moves.stays.leaf;
+      grows = grows_alone _ _ c.merge_all.ensures.moves.stays;
       keeps = c.merge_all.ensures.moves.kept;
       follows = c.merge_all.ensures.moves.follows;
       brings = λ told.
@@ -58,7 +59,7 @@ returns-in_err-put_ok-clause-applies g c =
     (record {
       commit = refl;
       refused = refl;
-      leaf = c.merge_all.ensures.moves.stays.leaf;
+      grows = grows_alone _ _ c.merge_all.ensures.moves.stays;
       keeps = c.merge_all.ensures.moves.kept;
       follows = c.merge_all.ensures.moves.follows;
       brings = λ told.
