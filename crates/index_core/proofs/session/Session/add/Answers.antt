@@ -85,10 +85,12 @@ returns-in_err-put_doc-clause-damage g c =
 
 pub returns-clause-damage : goal.returns-clause-damage
 returns-clause-damage g c =
-    subst (ShowsMerge g.row.D (IsTrue g.F.Pages.told) (g.F.Pages.files c.args.folder.now) (g.F.Pages.files c.add.new.folder) c.args.self.now.set)
+    subst (ShowsMerge g.row.D (IsTrue g.F.Pages.told) (g.F.Pages.files c.args.folder.now) (g.F.Pages.files c.add.new.folder) c.args.self.now.set
+    c.add.new.self)
     (sym c.add_answer.ensures)
     (subst (λ (u : SessionData).
-    ShowsMerge g.row.D (IsTrue g.F.Pages.told) (g.F.Pages.files c.args.folder.now) (g.F.Pages.files c.add.new.folder) u.set (add_answer c.add.result))
+    ShowsMerge g.row.D (IsTrue g.F.Pages.told) (g.F.Pages.files c.args.folder.now) (g.F.Pages.files c.add.new.folder) u.set c.add.new.self
+    (add_answer c.add.result))
     c.self.view_is
     (record {
       shown = add_shows _ c.add.result c.add.ensures.damaged.shown;

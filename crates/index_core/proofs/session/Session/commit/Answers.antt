@@ -128,7 +128,7 @@ returns-in_err-commit g c =
             (subst (λ (u : SessionData). All (IsNamed u.set.names) u.set.parts) (sym c.self.view_is) c.is_changed.ensures.named)
             c.in_err-commit.ensures.damaged.evident));
       };
-      damage = subst (λ (u : SessionData). ShowsMerge g.row.D (IsTrue g.F.Pages.told) old saved u.set c.from_residual.result) c.self.view_is
+      damage = subst (λ (u : SessionData). ShowsMerge g.row.D (IsTrue g.F.Pages.told) old saved u.set c.save.new.self c.from_residual.result) c.self.view_is
           (merge_to {T = Unit {0}} _ _ _ _ _ _ c.in_err-commit.field-0.0 error
           (record { shown = damaged.shown; damage = damaged.damage; doubled = damaged.doubled }));
     }

@@ -82,7 +82,8 @@ pub returns-in_err-flush-clause-damage : goal.returns-in_err-flush-clause-damage
 returns-in_err-flush-clause-damage g c =
     let p = err_from_is_err_and c.from_residual.result c.from_residual.ensures.1 in
     subst (λ (u : SessionData).
-    ShowsMerge g.row.D (IsTrue g.F.Pages.told) (g.F.Pages.files c.args.folder.now) (g.F.Pages.files c.flush.new.folder) u.set c.from_residual.result)
+    ShowsMerge g.row.D (IsTrue g.F.Pages.told) (g.F.Pages.files c.args.folder.now) (g.F.Pages.files c.flush.new.folder) u.set c.flush.new.self
+    c.from_residual.result)
     c.self.view_is
     (merge_to {T = Unit {0}} _ _ _ _ _ _ c.in_err-flush.field-0.0 (p.1 ∙ ap (λ (e : PageFault). Err e) p.2)
     (record { shown = c.in_err-flush.ensures.damaged.shown; damage = c.in_err-flush.ensures.damaged.damage; doubled = c.in_err-flush.ensures.damaged.doubled }))

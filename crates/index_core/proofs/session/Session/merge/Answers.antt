@@ -94,7 +94,8 @@ pub returns-in_err-merge_all-clause-damage : goal.returns-in_err-merge_all-claus
 returns-in_err-merge_all-clause-damage g c =
     let p = err_from_is_err_and c.from_residual.result c.from_residual.ensures.1 in
     subst (λ (u : SessionData).
-    ShowsMerge g.row.D (IsTrue g.F.Pages.told) (g.F.Pages.files c.args.folder.now) (g.F.Pages.files c.merge_all.new.folder) u.set c.from_residual.result)
+    ShowsMerge g.row.D (IsTrue g.F.Pages.told) (g.F.Pages.files c.args.folder.now) (g.F.Pages.files c.merge_all.new.folder) u.set c.merge_all.new.self
+    c.from_residual.result)
     c.self.view_is
     (merge_to {T = Unit {0}} _ _ _ _ _ _ c.in_err-merge_all.field-0.0 (p.1 ∙ ap (λ (e : PageFault). Err e) p.2)
     (record {
