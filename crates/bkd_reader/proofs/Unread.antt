@@ -1,5 +1,5 @@
 -- Walks that find each page that they need in the cache.
-use Rattle.std.proofs.Common.{◌≡◌, ℕ, Bool, true, List, ℤ, Result, Ok, Err, sym, subst, ◌∙◌}
+use Rattle.std.proofs.Common.{◌≡◌, ℕ, Bool, true, List, ℤ, sym, subst}
 use Rattle.point_codec.specs.Points.{Region}
 use Rattle.cell_relate.specs.Relations.{AllAnswer}
 use Rattle.cell_relate.proofs.RelationLemmas.{AllAnswer-within, is_outside-all}
@@ -10,24 +10,10 @@ use Rattle.inner_pack.specs.Nodes.{AreChildren}
 use Rattle.inner_pack.specs.declared.node.NodeAt.{NodeAt}
 use Rattle.point_codec.specs.Cells.{left_of, right_of}
 use Rattle.page_cache.specs.declared.cache.PageCache.{PageCache}
-use Rattle.page_cache.specs.declared.faults.PageFault.{PageFault}
 use Rattle.page_cache.specs.Cache.{IsKept, KeepsPages}
-use Rattle.page_cache.specs.Reading.{ReadsNothing}
 use Rattle.segment_file.specs.Heads.{Head, page_of}
 use Rattle.bkd_reader.specs.Unread.{AreKept, IsAny, IsTouched}
 use Rattle.bkd_reader.proofs.Cells.{all_left, all_right}
-
--- ---- one call after another
-
--- a call that failed before it read
-pub reads_failed : {T : Type 0} (before now : ℕ) (old new : PageCache) (r : Result T PageFault) (fault : PageFault) → r ≡ Err fault → now ≡ before
-    → ReadsNothing before now old new r
-reads_failed before now old new r fault is same = subst (ReadsNothing before now old new) (sym is) (record { reads = same; kept = tt })
-
-pub reads_then : {T : Type 0} (a b d : ℕ) (x y z : PageCache) (r : Result T PageFault) → b ≡ a → KeepsPages x y → ReadsNothing b d y z r
-    → ReadsNothing a d x z r
-reads_then a b d x y z (Ok v) same stays rest = record { reads = rest.reads ∙ same; kept = λ i n k. rest.kept i n (stays i n k) }
-reads_then a b d x y z (Err e) same stays rest = record { reads = rest.reads ∙ same; kept = tt }
 
 -- ---- what is kept below a node
 

@@ -4,7 +4,7 @@ use Rattle.outer_io.specs.Files.{bytes_of}
 use Rattle.outer_io.specs.declared.file_name.FileName.TheVariants.{Segment}
 use Rattle.segment_file.specs.Heads.{count_of}
 use Rattle.segment_file.specs.Damages.{IsLeafDamage}
-use Rattle.bkd_reader.proofs.Unread.{reads_failed}
+use Rattle.page_cache.proofs.Unread.{reads_failed}
 use Rattle.bkd_reader.proofs.Trees.{handed_on, first_page, never_bad, tested_hits, tested_leaf}
 use Rattle.bkd_reader.proofs.crossed.test_leaf.Goals as goal
 

@@ -2,7 +2,7 @@ use Rattle.std.proofs.lemmas.Result.{err_from_is_err_and}
 use Rattle.outer_io.specs.Files.{bytes_of}
 use Rattle.outer_io.specs.declared.file_name.FileName.TheVariants.{Segment}
 use Rattle.segment_file.specs.Damages.{IsLeafDamage}
-use Rattle.bkd_reader.proofs.Unread.{reads_failed}
+use Rattle.page_cache.proofs.Unread.{reads_failed}
 use Rattle.bkd_reader.proofs.Trees.{handed_on, first_page, never_bad, taken_hits}
 use Rattle.bkd_reader.proofs.inside.collect_leaf.Goals as goal
 

@@ -11,7 +11,8 @@ use Rattle.segment_file.specs.Damages.{IsLeafDamage}
 use Rattle.bkd_reader.specs.Hits.{AreHits, Appends}
 use Rattle.bkd_reader.proofs.Trees.{handed_on, left_damage, right_damage, held, left_root, right_root, children_all, children_hits}
 use Rattle.bkd_reader.specs.Unread.{IsAny}
-use Rattle.bkd_reader.proofs.Unread.{children_kept, first_kept, kept_on, reads_failed, reads_then}
+use Rattle.page_cache.proofs.Unread.{reads_failed, reads_then}
+use Rattle.bkd_reader.proofs.Unread.{children_kept, first_kept, kept_on}
 use Rattle.bkd_reader.proofs.walk.+collect_all.Goals as goal
 use Rattle.segment_file.proofs.Subtrees.{on_ok}
 

@@ -18,7 +18,8 @@ use Rattle.bkd_reader.proofs.Cells.{touched_all, crossed_touched}
 use Rattle.bkd_reader.proofs.Trees.{handed_on, count_at, none_below}
 use Rattle.bkd_reader.proofs.Trees.{left_damage, right_damage, held, left_root, right_root, children_hits}
 use Rattle.bkd_reader.specs.Unread.{AreKept, IsTouched}
-use Rattle.bkd_reader.proofs.Unread.{any_kept, children_kept, kept_on, reads_failed, reads_then, touched_as}
+use Rattle.page_cache.proofs.Unread.{reads_failed, reads_then}
+use Rattle.bkd_reader.proofs.Unread.{any_kept, children_kept, kept_on, touched_as}
 use Rattle.bkd_reader.proofs.walk.+visit.Goals as goal
 use Rattle.segment_file.proofs.Subtrees.{some_leaf, only_leaf, on_ok}
 

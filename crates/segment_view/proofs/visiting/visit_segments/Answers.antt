@@ -7,7 +7,8 @@ use Rattle.inner_pack.specs.Trees.{IndexTree}
 use Rattle.segment_file.specs.Heads.{Head, count_of}
 use Rattle.bkd_reader.specs.Counts.{tested_entries, touched_leaves}
 use Rattle.bkd_reader.specs.Unread.{IsTouched}
-use Rattle.bkd_reader.proofs.Unread.{kept_on, reads_failed, touched_as}
+use Rattle.page_cache.proofs.Unread.{reads_failed}
+use Rattle.bkd_reader.proofs.Unread.{kept_on, touched_as}
 use Rattle.documents.specs.Entries.{numbers_found}
 use Rattle.nearest_query.proofs.Parts.{on_damage}
 use Rattle.segment_view.specs.LiveSegments.{IsRead, live_segment, ids_of, live_in_parts}
