@@ -136,7 +136,7 @@ fn check_again(rt: &impl Abort, alloc: Global, stored: &mut Stored, row: Row) ->
     let mut shape = BoxShape::new(Point { c: lo }, Point { c: hi });
     let mut cache = PageCache::new(alloc, 4)?;
     stored.folder.plan(Vec::new(alloc), None);
-    for call in 0..2 {
+    for call in 0..2u32 {
         let hits = visited(alloc, stored, &mut cache, &mut shape)
             .ok()
             .ok_or("no hits")?;
