@@ -1,3 +1,4 @@
 pub mod Counts
+pub mod Unread
 pub mod Hits
 pub mod Below

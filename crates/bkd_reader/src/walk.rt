@@ -11,13 +11,14 @@ ghost use Rattle.inner_pack.specs.Bodies.{HasTree};
 ghost use Rattle.inner_pack.specs.Nodes.{IsAt};
 ghost use Rattle.page_cache.specs.Cache.{Agrees};
 ghost use Rattle.page_cache.specs.Evidence.{OnDamage, NotDamaged};
-ghost use Rattle.page_cache.specs.Reading.{ReadsCached};
+ghost use Rattle.page_cache.specs.Reading.{ReadsCached, ReadsNothing};
 ghost use Rattle.segment_file.specs.Heads.{count_of};
 ghost use Rattle.segment_file.specs.Segments.{HoldsTree, IsSegment};
 ghost use Rattle.segment_file.specs.Damages.{IsLeafDamage, IsLeafDamageOf};
 ghost use Rattle.bkd_reader.specs.Below.{IsRoot};
 ghost use Rattle.bkd_reader.specs.Counts.{tested_entries, touched_leaves};
 ghost use Rattle.bkd_reader.specs.Hits.{AreHits, Appends, Begins, hits_in};
+ghost use Rattle.bkd_reader.specs.Unread.{AreKept, IsAny, IsTouched, ReadsLeaves};
 
 use crate::crossed::test_leaf;
 use crate::inside::collect_leaf;
@@ -32,9 +33,9 @@ use std::alloc::Global;
 /// Appends the numbers of the live entries of the segment that the shape has, in the order of the leaves.
 ///
 /// A number stands there once for each of its entries that the shape has. Only entries of leaves whose own cell the
-/// shape crosses are tested, only leaves whose own cell is not outside are read, and a kept page is found without a
-/// read. No page is looked at that the answer doesn't need: a damage elsewhere in the segment is not met. After an
-/// error the hits begin with what they held, and may have more behind it.
+/// shape crosses are tested, only leaves whose own cell is not outside are read, and where their pages are all kept
+/// nothing is read. No page is looked at that the answer doesn't need: a damage elsewhere in the segment is not met.
+/// After an error the hits begin with what they held, and may have more behind it.
 pub fn intersect<const D: usize, S: Shape<D>, F: Pages>(
     alloc: Global,
     head: &SegmentHead<D>,
@@ -61,7 +62,8 @@ pub fn intersect<const D: usize, S: Shape<D>, F: Pages>(
     ensures compares { (root : Region) (t : IndexTree) → HasTree D head.now.index root t
         → S.compares shape.new ≤ S.compares shape.old + 2 * leaf_count t }
     ensures reads { (root : Region) (t : IndexTree) → HasTree D head.now.index root t
-        → F.reads folder.new ≤ F.reads folder.old + touched_leaves (S.has shape.old) (S.crosses shape.old) t }
+        → ReadsLeaves head.now (S.has shape.old) (S.crosses shape.old) front t (F.reads folder.old)
+        (F.reads folder.new) cache.old cache.new result }
     // What stays.
     ensures has { S.has shape.new ≡ S.has shape.old }
     ensures crosses { S.crosses shape.new ≡ S.crosses shape.old }
@@ -111,6 +113,9 @@ fn visit<const D: usize, S: Shape<D>, F: Pages>(
         → S.compares shape.new + 1 ≤ S.compares shape.old + 2 * leaf_count t }
     ensures reads { (first : ℕ) (s : Spot) (path : Region) (t : IndexTree) → IsRoot node.now first s path t
         → F.reads folder.new ≤ F.reads folder.old + touched_leaves (S.has shape.old) (S.crosses shape.old) t }
+    ensures kept { (first : ℕ) (s : Spot) (path : Region) (t : IndexTree) → IsRoot node.now first s path t
+        → AreKept cache.old head.now (IsTouched (S.has shape.old) (S.crosses shape.old)) s t
+        → ReadsNothing (F.reads folder.old) (F.reads folder.new) cache.old cache.new result }
     ensures has { S.has shape.new ≡ S.has shape.old }
     ensures crosses { S.crosses shape.new ≡ S.crosses shape.old }
     ensures reading { ReadsCached F.told (λ i. i ≡ head.now.id) (F.files folder.old) (F.files folder.new)
@@ -155,6 +160,9 @@ fn collect_all<const D: usize, F: Pages>(
         (Appends hits.old.items hits.new.items
         (AreHits D (bytes_of (F.files folder.old (Segment head.now.id))) head.now has live.now first s t)) }
     ensures reads { F.reads folder.new ≤ F.reads folder.old + node.now.leaves }
+    ensures kept { (first : ℕ) (s : Spot) (path : Region) (t : IndexTree) → IsAt node.now first s path t
+        → AreKept cache.old head.now IsAny s t
+        → ReadsNothing (F.reads folder.old) (F.reads folder.new) cache.old cache.new result }
     ensures reading { ReadsCached F.told (λ i. i ≡ head.now.id) (F.files folder.old) (F.files folder.new)
         cache.old cache.new (F.faults folder.old) (F.faults folder.new) result }
     ensures shown { (first : ℕ) (s : Spot) (path : Region) (t : IndexTree) → IsAt node.now first s path t

@@ -43,7 +43,7 @@ use Rattle.index_core.specs.Whole.{Adds, SessionMoment, add_result, with_point, 
 use Rattle.index_core.proofs.Answering.{no_cause}
 use Rattle.index_core.proofs.FaultCauses.{cause_then, fault_to, memory_cause}
 use Rattle.index_core.proofs.Bringing.{brings_same, brings_then, brings_written}
-use Rattle.index_core.proofs.Guarding.{guards_after, kept_after_calls}
+use Rattle.index_core.proofs.Guarding.{Grows, grows_like, guards_after, kept_after_calls}
 use Rattle.index_core.proofs.Tracing.{traced_by, traced_shows}
 use Rattle.segment_set.proofs.Rearranged.{empty_list}
 
@@ -135,7 +135,7 @@ adds_stopped {T = T} {U = U} D told xs ys a b fault r is adds = subst (Adds D to
 pub record IsPut (D : ℕ) (told : Type 0) (point : List ℤ) (old new : SessionMoment) (r : Result ℕ AddFault) : Type 0 where
   pub commit : new.session.commit ≡ old.session.commit
   pub refused : new.session.refused ≡ old.session.refused
-  pub leaf : new.session.set.leaf ≡ old.session.set.leaf
+  pub grows : Grows old.session.set new.session.set
   pub keeps : KeepsNamed told old.session.set.names new.session.set.names old.files new.files
   pub follows : Follows old.session.set.names old.session.set.parts new.session.set.parts
   pub named : All (IsNamed old.session.set.names) old.session.set.parts
@@ -173,7 +173,7 @@ pub adds_one : (D : ℕ) (told : Type 0) (point : List ℤ) (old new : SessionMo
 adds_one D told point old new r put = record {
   seen = λ t i seen. put_ok (Sees D new.files new.session.set (with_point i point)) r (put.seen t i seen);
   given = put_ok (new.session.set.given ≡ old.session.set.given + 1) r put.given;
-  guards = λ t guards. guards_after D told old.files new.files old.session new.session t put.commit put.refused put.keeps put.follows put.leaf guards;
+  guards = λ t guards. guards_after D told old.files new.files old.session new.session t put.commit put.refused put.keeps put.follows put.grows guards;
   kept = λ t guards. kept_after_calls D told old.files new.files old.session.set new.session.set.names t put.keeps guards.set;
   canon = λ t. brings_written D told old.files new.files old.session.set.names new.session.set.names old.session.set.parts new.session.set.parts t put.keeps
       put.follows (put.second t);
@@ -261,7 +261,7 @@ pub guards_cache : (D : ℕ) (told : Type 0) (f g : Files) (s u : SessionData) (
 guards_cache D told f g s u t is h stays same guards = guards_after D told f g u (record { set = t; commit = u.commit; refused = u.refused }) h refl refl
     (keeps_calm told u.set.names t.names f g (ap (λ (v : SetData). v.names) stays.is) same)
     (follows_same u.set.names u.set.parts t.parts (ap (λ (v : SetData). v.parts) stays.is))
-    (ap (λ (v : SetData). v.leaf) stays.is) (subst (Guards D f) (sym is) guards)
+    (grows_like u.set t (record u.set { cache = t.cache }) stays.is refl refl refl) (subst (Guards D f) (sym is) guards)
 
 pub faithful_seen : (D : ℕ) (f g : Files) (s u : SessionData) (t : SetData) → u ≡ s → (IsFaithful D f u.set → IsFaithful D g t) → IsFaithful D f s.set
     → IsFaithful D g t
@@ -274,12 +274,12 @@ evident_seen D told f g s u r is evident = subst (λ (v : SessionData). OnDamage
 
 -- ---- a call that gives no name
 
-pub guards_same : (D : ℕ) (files : Files) (s u : SessionData) (t : SetData) → u ≡ s → t.names ≡ u.set.names → t.leaf ≡ u.set.leaf
+pub guards_same : (D : ℕ) (files : Files) (s u : SessionData) (t : SetData) → u ≡ s → t.names ≡ u.set.names → Grows u.set t
     → Follows u.set.names u.set.parts t.parts → Guards D files s
     → Guards D files (record { set = t; commit = u.commit; refused = u.refused })
-guards_same D files s u t is names leaf follows guards =
+guards_same D files s u t is names grows follows guards =
     guards_after D (Unit {0}) files files u (record { set = t; commit = u.commit; refused = u.refused }) tt refl refl
-    (keeps_calm (Unit {0}) u.set.names t.names files files names (λ told. refl)) follows leaf (subst (Guards D files) (sym is) guards)
+    (keeps_calm (Unit {0}) u.set.names t.names files files names (λ told. refl)) follows grows (subst (Guards D files) (sym is) guards)
 
 -- ---- a new set
 

@@ -23,7 +23,7 @@ use Rattle.index_core.specs.Sessions.{SessionData, Trusts}
 use Rattle.index_core.specs.Effects.{BringsCanonical}
 use Rattle.index_core.specs.Steps.{Applies, DoesOver, StepMoment}
 use Rattle.index_core.proofs.Bringing.{brings_same}
-use Rattle.index_core.proofs.Guarding.{guards_after, kept_after_calls}
+use Rattle.index_core.proofs.Guarding.{Grows, guards_after, kept_after_calls}
 use Rattle.index_core.proofs.Tracing.{calm_shows, traced_after, traced_shows}
 use Rattle.index_core.proofs.FaultCauses.{memory_cause, done_cause, fault_cause}
 
@@ -66,7 +66,7 @@ does_as D files o p i s before after r same does = subst (λ (q : Outcome). Does
 pub record IsCalm (D : ℕ) (told : Type 0) (old new : StepMoment) : Type 0 where
   pub commit : new.session.commit ≡ old.session.commit
   pub refused : new.session.refused ≡ old.session.refused
-  pub leaf : new.session.set.leaf ≡ old.session.set.leaf
+  pub grows : Grows old.session.set new.session.set
   pub keeps : KeepsNamed told old.session.set.names new.session.set.names old.files new.files
   pub follows : Follows old.session.set.names old.session.set.parts new.session.set.parts
   pub brings : told → BringsCanonical D old.files new.files old.session.set.parts new.session.set.parts
@@ -80,7 +80,7 @@ applies_with D told outcome old new r calm does begins cause whole evident = rec
   does = λ is_told i seen guards. does is_told i seen;
   begins = begins;
   stays = record {
-    guards = λ is_told. guards_after D told old.files new.files old.session new.session is_told calm.commit calm.refused calm.keeps calm.follows calm.leaf;
+    guards = λ is_told. guards_after D told old.files new.files old.session new.session is_told calm.commit calm.refused calm.keeps calm.follows calm.grows;
     faithful = calm.faithful;
     traced = λ is_told trusts.
         traced_after D told old.files new.files old.session.set new.session.set is_told calm.keeps calm.follows (calm.brings is_told) trusts.guards.set
@@ -89,6 +89,7 @@ applies_with D told outcome old new r calm does begins cause whole evident = rec
   keeps = record {
     kept = λ is_told guards. kept_after_calls D told old.files new.files old.session.set new.session.set.names is_told calm.keeps guards.set;
     stored = λ is_told i seen guards e. absurd cc;
+    own = λ is_told guards. inl (kept_after_calls D told old.files new.files old.session.set new.session.set.names is_told calm.keeps guards.set);
     lasting = λ is_told trusts.
         inl (kept_after_calls D told old.files new.files old.session.set new.session.set.names is_told calm.keeps trusts.guards.set);
   };
@@ -145,6 +146,7 @@ applies_still D told outcome files session before after faults r does begins cau
   keeps = record {
     kept = λ is_told guards. kept_itself files;
     stored = λ is_told i seen guards e. absurd cc;
+    own = λ is_told guards. inl (kept_itself files);
     lasting = λ is_told trusts. inl (kept_itself files);
   };
   commits = λ e. absurd cc;
@@ -231,10 +233,10 @@ pub applies_seen : (D : ℕ) (told : Type 0) (outcome : Index → Outcome) (comm
 applies_seen D told outcome committing files s t text faults new r same is =
     subst (λ (u : SessionData). Applies D told outcome committing (record { files = files; session = u; text = text; faults = faults }) new r) same is
 
--- what holds over all files holds over told ones
-pub applies_told : (D : ℕ) (told : Type 0) (outcome : Index → Outcome) (committing : Bool) (old new : StepMoment) (r : Result Applied PageFault)
-    → Applies D (Unit {0}) outcome committing old new r → Applies D told outcome committing old new r
-applies_told D told outcome committing old new r is = record {
+-- what doesn't commit and holds over all files holds over told ones
+pub applies_told : (D : ℕ) (told : Type 0) (outcome : Index → Outcome) (old new : StepMoment) (r : Result Applied PageFault)
+    → Applies D (Unit {0}) outcome false old new r → Applies D told outcome false old new r
+applies_told D told outcome old new r is = record {
   does = λ is_told. is.does tt;
   begins = is.begins;
   stays = record {
@@ -242,13 +244,13 @@ applies_told D told outcome committing old new r is = record {
     faithful = λ is_told. is.stays.faithful tt;
     traced = λ is_told. is.stays.traced tt;
   };
-  keeps = record { kept = λ is_told. is.keeps.kept tt; stored = λ is_told. is.keeps.stored tt; lasting = λ is_told. is.keeps.lasting tt };
-  commits = λ e. record {
-    idle = λ is_told. (is.commits e).idle tt;
-    unchanged = (is.commits e).unchanged;
-    anew = (is.commits e).anew;
-    levels = (is.commits e).levels;
+  keeps = record {
+    kept = λ is_told. is.keeps.kept tt;
+    stored = λ is_told. is.keeps.stored tt;
+    own = λ is_told guards. inl (is.keeps.kept tt guards);
+    lasting = λ is_told. is.keeps.lasting tt;
   };
+  commits = λ e. absurd cc;
   canon = λ is_told. is.canon tt;
   faults = record {
     cause = is.faults.cause;

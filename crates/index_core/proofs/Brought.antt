@@ -1,5 +1,5 @@
 -- Each listed file stays whole: through a commit, what keeps all, and one call after another.
-use Rattle.std.proofs.Common.{◌≡◌, ℕ, List, [], ◌∷◌, length, Option, Some, refl, sym, ap, subst, ◌∙◌, ◌⊎◌, inl, inr, ⊎_elim}
+use Rattle.std.proofs.Common.{◌≡◌, ℕ, List, [], ◌∷◌, length, Option, Some, refl, sym, ap, subst, ◌∙◌, ◌⊎◌, inl, inr, ⊎_elim, arith}
 use Rattle.std.specs.List.{AllZip, Contains}
 use Rattle.outer_io.specs.declared.file_name.FileName.TheVariants.{Commit, CommitNew, Live, Segment}
 use Rattle.outer_io.specs.Files.{Files, SameButTwo, bytes_of}
@@ -68,11 +68,16 @@ pub brings_commit : (D : ℕ) (f g : Files) (s : SetData) (c : CommitData) → I
 brings_commit D f g s c of lives others says guards traced = record {
   commit = c;
   says = says;
-  same = λ b before. ⊎_elim
+  later = λ b before. ⊎_elim
       (λ none. absurd (says_some f b none before))
       (λ (h : ListsOnlyNamed D f s).
       let is = one_file (bytes_of (f Commit)) b h.commit before h.says in
-      (ap (λ (d : CommitData). d.dims) is ∙ h.dims ∙ sym of.dims, ap (λ (d : CommitData). d.leaf) is ∙ h.leaf ∙ sym of.leaf))
+      record {
+        dims = ap (λ (d : CommitData). d.dims) is ∙ h.dims ∙ sym of.dims;
+        leaf = ap (λ (d : CommitData). d.leaf) is ∙ h.leaf ∙ sym of.leaf;
+        next = omega (arith, ap (λ (d : CommitData). d.next) is, h.next, of.next);
+        given = omega (arith, ap (λ (d : CommitData). d.given) is, h.given, of.given);
+      })
       guards;
   whole = λ l inside.
       let (p, there, is) = partner_for (IsListedAs g) c.listed s.parts all l inside in
@@ -133,7 +138,7 @@ brings_then_kept : (f g h : Files) → BringsCommit f g → SameKept g h → Bri
 brings_then_kept f g h first then = record {
   commit = first.commit;
   says = still_says g h first.commit then first.says;
-  same = first.same;
+  later = first.later;
   whole = λ l inside.
       still_whole first.commit.dims f g h l (then.listed first.commit first.says (Segment l.segment) (l, inside, refl))
       (then.listed first.commit first.says (Live l.segment l.generation) (l, inside, refl, refl)) (first.whole l inside);
@@ -188,17 +193,22 @@ keeps_then_brings : (f g h : Files) → KeepsCommit f g → BringsCommit g h →
 keeps_then_brings f g h first then = record {
   commit = then.commit;
   says = then.says;
-  same = λ c says. ⊎_elim
-      (λ (kept : SameKept f g). then.same c (still_says f g c kept says))
+  later = λ c says. ⊎_elim
+      (λ (kept : SameKept f g). then.later c (still_says f g c kept says))
       (λ (brings : BringsCommit f g).
-      let one = brings.same c says in
-      let two = then.same brings.commit brings.says in
-      (one.0 ∙ two.0, one.1 ∙ two.1))
+      let one = brings.later c says in
+      let two = then.later brings.commit brings.says in
+      record {
+        dims = one.dims ∙ two.dims;
+        leaf = one.leaf ∙ two.leaf;
+        next = omega (arith, one.next, two.next);
+        given = omega (arith, one.given, two.given);
+      })
       first;
   whole = λ l inside.
       let whole = then.whole l inside in
       record {
-        segment = ⊎_elim (was_before then.commit.dims f g h l first (λ c says. (then.same c says).0)) inr whole.segment;
+        segment = ⊎_elim (was_before then.commit.dims f g h l first (λ c says. (then.later c says).dims)) inr whole.segment;
         live = whole.live;
         file = whole.file;
         count = whole.count;

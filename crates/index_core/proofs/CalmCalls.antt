@@ -22,20 +22,21 @@ use Rattle.index_core.specs.Replies.{snap_answer, text_after}
 use Rattle.index_core.proofs.Bringing.{brings_same}
 use Rattle.index_core.proofs.Answering.{no_cause, IsCalm}
 use Rattle.index_core.proofs.FaultCauses.{memory_cause}
+use Rattle.index_core.proofs.Guarding.{Grows, grows_like}
 
 -- ---- calm calls
 
 -- a call that changes nothing that guards the files, nor a file
 pub calm_like : (D : ℕ) (told : Type 0) (files after : Files) (s t : SetData) (commit : Option CommitData) (refused : Bool) (text new_text : List ℕ)
-    (faults new_faults : ℕ) → t.names ≡ s.names → t.leaf ≡ s.leaf
+    (faults new_faults : ℕ) → t.names ≡ s.names → Grows s t
     → Follows s.names s.parts t.parts → (told → after ≡ files) → (told → BringsCanonical D files after s.parts t.parts)
     → (told → IsFaithful D files s → IsFaithful D after t)
     → IsCalm D told (record { files = files; session = record { set = s; commit = commit; refused = refused }; text = text; faults = faults })
     (record { files = after; session = record { set = t; commit = commit; refused = refused }; text = new_text; faults = new_faults })
-calm_like D told files after s t commit refused text new_text faults new_faults names leaf follows same brings faithful = record {
+calm_like D told files after s t commit refused text new_text faults new_faults names grows follows same brings faithful = record {
   commit = refl;
   refused = refl;
-  leaf = leaf;
+  grows = grows;
   keeps = keeps_calm told s.names t.names files after names same;
   follows = follows;
   brings = brings;
@@ -49,7 +50,7 @@ pub calm_cache : (D : ℕ) (told : Type 0) (files after : Files) (s t : SetData)
     (record { files = after; session = record { set = t; commit = commit; refused = refused }; text = new_text; faults = new_faults })
 calm_cache D told files after s t commit refused text new_text faults new_faults stays same faithful =
     calm_like D told files after s t commit refused text new_text faults new_faults (ap (λ (u : SetData). u.names) stays.is)
-    (ap (λ (u : SetData). u.leaf) stays.is)
+    (grows_like s t (record s { cache = t.cache }) stays.is refl refl refl)
     (follows_same s.names s.parts t.parts (ap (λ (u : SetData). u.parts) stays.is)) same
     (λ is_told. brings_same D files after s.parts t.parts (same is_told) (ap (λ (u : SetData). u.parts) stays.is)) faithful
 
@@ -82,10 +83,12 @@ pub calm_snap : {T : Type 0} (D : ℕ) (told : Type 0) (files : Files) (s t : Se
     → IsCalm D told (record { files = files; session = record { set = s; commit = commit; refused = refused }; text = text; faults = faults })
     (record { files = files; session = record { set = t; commit = commit; refused = refused }; text = new_text; faults = faults })
 calm_snap D told files s t views (Ok x) commit refused text new_text faults done same faithful =
-    calm_like D told files files s t commit refused text new_text faults faults (ap (λ (u : SetData). u.names) done) (ap (λ (u : SetData). u.leaf) done)
+    calm_like D told files files s t commit refused text new_text faults faults (ap (λ (u : SetData). u.names) done)
+    (grows_like s t (record s { snapshots = views }) done refl refl refl)
     (follows_same s.names s.parts t.parts (ap (λ (u : SetData). u.parts) done)) (λ is_told. refl)
     (λ is_told. brings_same D files files s.parts t.parts refl (ap (λ (u : SetData). u.parts) done)) (λ is_told. faithful)
 calm_snap D told files s t views (Err e) commit refused text new_text faults done same faithful =
-    calm_like D told files files s t commit refused text new_text faults faults (ap (λ (u : SetData). u.names) same) (ap (λ (u : SetData). u.leaf) same)
+    calm_like D told files files s t commit refused text new_text faults faults (ap (λ (u : SetData). u.names) same)
+    (grows_like s t s same refl refl refl)
     (follows_same s.names s.parts t.parts (ap (λ (u : SetData). u.parts) same)) (λ is_told. refl)
     (λ is_told. brings_same D files files s.parts t.parts refl (ap (λ (u : SetData). u.parts) same)) (λ is_told. faithful)

@@ -22,7 +22,7 @@ use Rattle.index_core.specs.Sessions.{Guards, IsLast, IsStill, IsUnchanged, List
 use Rattle.index_core.specs.Closed.{IsInCommit, IsTracked, NamesOnlyListed}
 use Rattle.index_core.specs.Light.{KeepsLevels}
 use Rattle.index_core.specs.Steps.{KeepsOver, SaysCommit}
-use Rattle.index_core.proofs.Guarding.{guards_after, moved_says, names_listed}
+use Rattle.index_core.proofs.Guarding.{grows_like, guards_after, moved_says, names_listed}
 use Rattle.index_core.proofs.Committing.{says_still, some_same}
 use Rattle.segment_set.proofs.Snapped.{set_rested}
 
@@ -131,6 +131,8 @@ guards_renamed D files s t before guards = record {
         says = h.says;
         dims = h.dims;
         leaf = h.leaf;
+        next = h.next;
+        given = h.given;
         named = names_listed D files s.set h.commit before.set h.says;
       }))
       guards.set;
@@ -152,7 +154,8 @@ pub guards_eased : (D : ℕ) (told : Type 0) (f : Files) (s : SessionData) (t : 
     → Guards D f (record s { set = t })
 guards_eased D told f s t is_told is guards = guards_after D told f f s (record s { set = t }) is_told refl refl
     (keeps_calm told s.set.names t.names f f (ap (λ (u : SetData). u.names) is) (λ _. refl))
-    (follows_same s.set.names s.set.parts t.parts (ap (λ (u : SetData). u.parts) is)) (ap (λ (u : SetData). u.leaf) is) guards
+    (follows_same s.set.names s.set.parts t.parts (ap (λ (u : SetData). u.parts) is))
+    (grows_like s.set t (set_rested s.set) is refl refl refl) guards
 
 -- what is in the list stays
 pub names_eased : (s : SessionData) (t : SetData) → t ≡ set_rested s.set → NamesOnlyListed s → NamesOnlyListed (record s { set = t })

@@ -58,7 +58,7 @@ changed_by s c differs is done same = (
 )
 
 -- a session that is as the commit says that its set saved, after a sweep
-saved_ids : (listed : List Listed) (parts : List LiveSegment)
+pub saved_ids : (listed : List Listed) (parts : List LiveSegment)
     → AllZip (λ (l : Listed) (p : LiveSegment). (l.segment ≡ p.head.id) × (l.entries ≡ p.head.entries) × (l.live ≡ length p.live.live)) listed parts
     → (ids_of parts ≡ map (λ l. l.segment) listed) × (map (λ p. length p.live.live) parts ≡ map (λ l. l.live) listed)
 saved_ids [] [] all = (refl, refl)

@@ -1,6 +1,6 @@
--- What a session guards stays so, through calls on its set, a commit and a sweep.
-use Rattle.std.proofs.Common.{◌≡◌, ◌<◌, ℕ, Bool, true, false, List, [], ◌∷◌, length, Option, None}
-use Rattle.std.proofs.Common.{Some, refl, sym, ap, subst, ◌∙◌, ◌⊎◌, inl, inr, ⊎_elim, arith}
+-- What a session guards stays so, through calls on its set and a commit.
+use Rattle.std.proofs.Common.{◌≡◌, ◌<◌, ◌≤◌, ◌+◌, ℕ, Bool, true, false, List, [], ◌∷◌, length, Option, None, Some, Result, Ok, Err, OnOk, OnErr, refl, sym, ap}
+use Rattle.std.proofs.Common.{subst, ◌∙◌, ◌⊎◌, inl, inr, ⊎_elim, arith}
 use Rattle.std.specs.List.{AllPairs, AllZip, Contains}
 use Rattle.std.proofs.lemmas.Bool.{both_ways}
 use Rattle.std.proofs.lemmas.List.Kept.{AllPairs-from_increasing}
@@ -20,11 +20,11 @@ use Rattle.stored_index.proofs.Pairwise.{partner_of}
 use Rattle.segment_view.specs.LiveSegments.{LiveSegment}
 use Rattle.file_names.specs.Names.{NameList, is_named}
 use Rattle.segment_set.specs.Sets.{SetData}
-use Rattle.segment_set.specs.Kept.{Follows, IsCommitOf, IsNeeded, KeepsNamed}
+use Rattle.segment_set.specs.Kept.{Follows, IsCommitOf, KeepsNamed, StaysAlone}
 use Rattle.segment_set.specs.Saved.{AreCovering, CoversPart}
 use Rattle.segment_set.proofs.Carried.{within_itself}
 use Rattle.segment_set.proofs.Covered.{IsListedAs, part_after}
-use Rattle.index_core.specs.Sessions.{Guards, GuardsSet, IsLast, IsLastCommit, ListsOnlyNamed, SessionData, last_lines}
+use Rattle.index_core.specs.Sessions.{Guards, GuardsSet, IsLast, SessionData, last_lines}
 
 -- ---- lists
 
@@ -52,18 +52,47 @@ names_listed D files s c guards says m lists = ⊎_elim
 
 -- ---- through calls on the set
 
-pub set_after : (D : ℕ) (told : Type 0) (f g : Files) (s t : SetData) → told → KeepsNamed told s.names t.names f g → t.leaf ≡ s.leaf → GuardsSet D f s
+-- the leaf size is the same, and no number that was given is taken back
+pub record Grows (s t : SetData) : Type 0 where
+  pub leaf : t.leaf ≡ s.leaf
+  pub next : s.next ≤ t.next
+  pub given : s.given ≤ t.given
+
+pub grows_same : (s t : SetData) → t.leaf ≡ s.leaf → t.next ≡ s.next → t.given ≡ s.given → Grows s t
+grows_same s t leaf next given = record { leaf = leaf; next = omega (arith, next); given = omega (arith, given) }
+
+pub grows_alone : (s t : SetData) → StaysAlone s t → Grows s t
+grows_alone s t stays = grows_same s t stays.leaf stays.next stays.given
+
+-- the whole set is another but for what has no part in it
+pub grows_like : (s t u : SetData) → t ≡ u → u.leaf ≡ s.leaf → u.next ≡ s.next → u.given ≡ s.given → Grows s t
+grows_like s t u is leaf next given = subst (Grows s) (sym is) (grows_same s u leaf next given)
+
+-- a document was added, or after a fault none
+pub grows_added : {T E : Type 0} (s t : SetData) (points : ℕ) (r : Result T E) → t.leaf ≡ s.leaf
+    → OnOk r ((t.next ≡ s.next + 1) × (t.given ≡ s.given + points)) → OnErr r (StaysAlone s t) → Grows s t
+grows_added s t points (Ok x) leaf given stays = record { leaf = leaf; next = omega (arith, given.0); given = omega (arith, given.1) }
+grows_added s t points (Err e) leaf given stays = grows_alone s t stays
+
+pub set_after : (D : ℕ) (told : Type 0) (f g : Files) (s t : SetData) → told → KeepsNamed told s.names t.names f g → Grows s t → GuardsSet D f s
     → GuardsSet D g t
-set_after D told f g s t is_told keeps leaf guards = ⊎_elim
+set_after D told f g s t is_told keeps grows guards = ⊎_elim
     (λ none. inl (keeps.commit is_told ∙ none))
     (λ h. inr (record {
       commit = h.commit;
       says = moved_says f g h.commit (keeps.commit is_told) h.says;
       dims = h.dims;
-      leaf = h.leaf ∙ sym leaf;
+      leaf = h.leaf ∙ sym grows.leaf;
+      next = omega (arith, h.next, grows.next);
+      given = omega (arith, h.given, grows.given);
       named = λ m lists. keeps.more m (h.named m lists);
     }))
     guards
+
+-- of a set that is seen as before
+pub set_alone : (D : ℕ) (told : Type 0) (f g : Files) (s t : SetData) → told → KeepsNamed told s.names t.names f g → StaysAlone s t → GuardsSet D f s
+    → GuardsSet D g t
+set_alone D told f g s t is_told keeps stays guards = set_after D told f g s t is_told keeps (grows_alone s t stays) guards
 
 pub last_after : (D : ℕ) (told : Type 0) (f g : Files) (s t : SetData) (commit : Option CommitData) → told → KeepsNamed told s.names t.names f g
     → Follows s.names s.parts t.parts → GuardsSet D f s
@@ -82,9 +111,9 @@ last_after D told f g s t (Some c) is_told keeps follows guards last = record {
 
 pub guards_after : (D : ℕ) (told : Type 0) (f g : Files) (s t : SessionData) → told → t.commit ≡ s.commit → t.refused ≡ s.refused
     → KeepsNamed told s.set.names t.set.names f g
-    → Follows s.set.names s.set.parts t.set.parts → t.set.leaf ≡ s.set.leaf → Guards D f s → Guards D g t
-guards_after D told f g s t is_told commit refused keeps follows leaf guards = record {
-  set = set_after D told f g s.set t.set is_told keeps leaf guards.set;
+    → Follows s.set.names s.set.parts t.set.parts → Grows s.set t.set → Guards D f s → Guards D g t
+guards_after D told f g s t is_told commit refused keeps follows grows guards = record {
+  set = set_after D told f g s.set t.set is_told keeps grows guards.set;
   last = λ done.
       subst (IsLast g t.set) (sym commit) (last_after D told f g s.set t.set s.commit is_told keeps follows guards.set (guards.last (sym refused ∙ done)));
 }
@@ -164,7 +193,15 @@ zip_both R S T (x ∷ xs) (y ∷ ys) both p q = (both x y p.0 q.0, zip_both R S 
 
 -- the Commit file says one that was saved of the set
 pub set_written : (D : ℕ) (files : Files) (s : SetData) (c : CommitData) → IsCommitOf D s c → IsCommitFile (bytes_of (files Commit)) c → GuardsSet D files s
-set_written D files s c of says = inr (record { commit = c; says = says; dims = of.dims; leaf = of.leaf; named = of.named })
+set_written D files s c of says = inr (record {
+  commit = c;
+  says = says;
+  dims = of.dims;
+  leaf = of.leaf;
+  next = omega (arith, of.next);
+  given = omega (arith, of.given);
+  named = of.named;
+})
 
 -- all files but the two of commits are as they were
 pub listed_still : (f g : Files) (c : CommitData) (m : FileName) → SameButTwo CommitNew Commit f g → ListsFile c m → g m ≡ f m
@@ -199,7 +236,15 @@ guards_refused D f g s c refused of guards which = record {
   set = ⊎_elim
       (λ same. ⊎_elim
       (λ none. inl (same ∙ none))
-      (λ h. inr (record { commit = h.commit; says = moved_says f g h.commit same h.says; dims = h.dims; leaf = h.leaf; named = h.named }))
+      (λ h. inr (record {
+        commit = h.commit;
+        says = moved_says f g h.commit same h.says;
+        dims = h.dims;
+        leaf = h.leaf;
+        next = h.next;
+        given = h.given;
+        named = h.named;
+      }))
       guards)
       (λ says. set_written D g s.set c of says)
       which;
@@ -220,62 +265,3 @@ pub guards_undone : (D : ℕ) (f g : Files) (s u : SessionData) (c : CommitData)
 guards_undone D f g s u c same of guards which =
     subst (λ (v : SessionData). Guards D g (record { set = v.set; commit = v.commit; refused = true })) (sym same)
     (guards_refused D f g (record { set = s.set; commit = s.commit; refused = true }) c refl of guards which)
-
--- ---- a sweep
-
--- what it leaves of what the last save's commit needs
-pub record IsSwept (f g : Files) (s t : SetData) (c : CommitData) : Type 0 where
-  pub commit : g Commit ≡ f Commit
-  pub files : (m : FileName) → IsNeeded s c m → g m ≡ f m
-  pub named : (m : FileName) → IsNeeded s c m → is_named s.names.names m ≡ true → is_named t.names.names m ≡ true
-  pub parts : t.parts ≡ s.parts
-  pub leaf : t.leaf ≡ s.leaf
-
-pub guards_swept : (D : ℕ) (f g : Files) (s t : SetData) (c : CommitData) → IsSwept f g s t c
-    → Guards D f (record { set = s; commit = Some c; refused = false }) → Guards D g (record { set = t; commit = Some c; refused = false })
-guards_swept D f g s t c swept guards = record {
-  set = inr (record {
-    commit = c;
-    says = moved_says f g c swept.commit last.says;
-    dims = ⊎_elim (λ none. absurd (says_some f c none last.says)) (λ h. ap (λ (d : CommitData). d.dims) (same h) ∙ h.dims) guards.set;
-    leaf = ⊎_elim (λ none. absurd (says_some f c none last.says)) (λ h. ap (λ (d : CommitData). d.leaf) (same h) ∙ h.leaf ∙ sym swept.leaf) guards.set;
-    named = λ m lists. swept.named m (inl lists) (names_listed D f s c guards.set last.says m lists);
-  });
-  last = λ done. record {
-    says = moved_says f g c swept.commit last.says;
-    covers = λ l p inside there id.
-        let covers = last.covers l p inside (subst (λ (ps : List LiveSegment). Contains ps p) swept.parts there) id in
-        part_after f g l p p (swept.files (Live l.segment l.generation) (inl (l, inside, refl, refl))) refl (within_itself p.live) covers;
-  };
-}
-  where
-    last : IsLastCommit f s c
-    last = guards.last refl
-
-    same : (h : ListsOnlyNamed D f s) → c ≡ h.commit
-    same h = one_file (bytes_of (f Commit)) c h.commit last.says h.says
-
-pub kept_swept : (f g : Files) (s t : SetData) (c : CommitData) → IsSwept f g s t c → IsCommitFile (bytes_of (f Commit)) c → SameKept f g
-kept_swept f g s t c swept says = record {
-  commit = swept.commit;
-  listed = λ d other m lists. swept.files m (inl (subst (λ (e : CommitData). ListsFile e m) (one_file (bytes_of (f Commit)) d c other says) lists));
-}
-
--- a session whose set was swept, of its commit
-pub session_swept : (D : ℕ) (f g : Files) (s t : SessionData) (c : CommitData) → s.commit ≡ Some c → s.refused ≡ false → t.commit ≡ s.commit
-    → t.refused ≡ false → IsSwept f g s.set t.set c
-    → Guards D f s → Guards D g t × SameKept f g
-session_swept D f g s t c is done same still swept guards = (
-  subst (Guards D g) (sym after)
-      (guards_swept D f g s.set t.set c swept now),
-  kept_swept f g s.set t.set c swept ((now.last refl).says),
-)
-  where
-    before : s ≡ record { set = s.set; commit = Some c; refused = false }
-    before = λ j. record { set = s.set; commit = is j; refused = done j }
-
-    after : t ≡ record { set = t.set; commit = Some c; refused = false }
-    after = λ j. record { set = t.set; commit = (same ∙ is) j; refused = still j }
-
-    now : Guards D f (record { set = s.set; commit = Some c; refused = false })
-    now = subst (Guards D f) before guards

@@ -1,5 +1,6 @@
 pub mod Guarding
 pub mod SetGuards
+pub mod Swept
 pub mod Committing
 pub mod WrittenCommit
 pub mod Answering
@@ -20,3 +21,4 @@ pub mod Lightly
 pub mod Undone
 pub mod Closing
 pub mod Brought
+pub mod Owned

@@ -1,5 +1,5 @@
 -- The set of a commit that the Commit file says guards it.
-use Rattle.std.proofs.Common.{◌≡◌, ◌↔◌, ℕ, true, false, List, [], ◌∷◌, length, map, Option, Some, Result, Ok, Err, IfOk, sym, ap, subst, ◌∙◌, inr}
+use Rattle.std.proofs.Common.{◌≡◌, ◌↔◌, ℕ, true, false, List, [], ◌∷◌, length, map, Option, Some, Result, Ok, Err, IfOk, sym, ap, subst, ◌∙◌, inr, arith}
 use Rattle.std.specs.List.{AllZip}
 use Rattle.outer_io.specs.declared.file_name.FileName.{FileName}
 use Rattle.outer_io.specs.declared.file_name.FileName.TheVariants.{Commit}
@@ -24,7 +24,15 @@ pub guards_attached : (D : ℕ) (files : Files) (s : SessionData) (c : CommitDat
     → IsAtRest s.set c
     → ((m : FileName) → (is_named s.set.names.names m ≡ true) ↔ ListsFile c m) → HaveLive files c (lives_of s.set.parts) → Guards D files s
 guards_attached D files s c is dims says rest names lives = record {
-  set = inr (record { commit = c; says = says; dims = dims; leaf = sym rest.leaf; named = λ m lists. (names m).1 lists });
+  set = inr (record {
+    commit = c;
+    says = says;
+    dims = dims;
+    leaf = sym rest.leaf;
+    next = omega (arith, rest.as_committed.next);
+    given = omega (arith, rest.as_committed.given);
+    named = λ m lists. (names m).1 lists;
+  });
   last = λ done. subst (IsLast files s.set) (sym is) (record {
     says = says;
     covers = covers_all files c s.set.parts says

@@ -62,15 +62,16 @@ leaf_to D told files s parts r fault is shows = record {
 
 -- ---- what may merge
 
-pub merge_none : {T : Type 0} (D : ℕ) (told : Type 0) (old new : Files) (s : SetData) (r : Result T PageFault) → NotDamaged r → ShowsMerge D told old new s r
+pub merge_none : {T : Type 0} {t : SetData} (D : ℕ) (told : Type 0) (old new : Files) (s : SetData) (r : Result T PageFault) → NotDamaged r
+    → ShowsMerge D told old new s t r
 merge_none D told old new s r none = record {
   shown = damage_none _ r none;
   damage = λ is_told agrees. damage_none _ r none;
   doubled = λ is_told agrees c read. damage_none _ r none;
 }
 
-pub merge_to : {T U : Type 0} (D : ℕ) (told : Type 0) (old new : Files) (s : SetData) (r : Result U PageFault) (fault : PageFault) → r ≡ Err fault
-    → ShowsMerge {T = T} D told old new s (Err fault) → ShowsMerge D told old new s r
+pub merge_to : {T U : Type 0} {t : SetData} (D : ℕ) (told : Type 0) (old new : Files) (s : SetData) (r : Result U PageFault) (fault : PageFault) → r ≡ Err fault
+    → ShowsMerge {T = T} D told old new s t (Err fault) → ShowsMerge D told old new s t r
 merge_to D told old new s r fault is shows = record {
   shown = damage_to _ r fault is shows.shown;
   damage = λ is_told agrees. damage_to _ r fault is (shows.damage is_told agrees);
@@ -79,8 +80,9 @@ merge_to D told old new s r fault is shows = record {
 
 -- ---- what commits and attaches anew
 
-pub anew_none : {T : Type 0} (D : ℕ) (told : Type 0) (old new : Files) (s : SetData) (commit : Option CommitData) (r : Result T PageFault) → NotDamaged r
-    → ShowsAnew D told old new s commit r
+pub anew_none : {T : Type 0} {t : SetData} (D : ℕ) (told : Type 0) (old new : Files) (s : SetData) (commit : Option CommitData) (r : Result T PageFault)
+    → NotDamaged r
+    → ShowsAnew D told old new s t commit r
 anew_none D told old new s commit r none = record {
   shown = damage_none _ r none;
   damage = λ is_told agrees. damage_none _ r none;
@@ -88,9 +90,9 @@ anew_none D told old new s commit r none = record {
 }
 
 -- by the commit's fault
-pub anew_saved : {T U : Type 0} (D : ℕ) (told : Type 0) (old new : Files) (s : SetData) (commit : Option CommitData) (r : Result U PageFault)
+pub anew_saved : {T U : Type 0} {t : SetData} (D : ℕ) (told : Type 0) (old new : Files) (s : SetData) (commit : Option CommitData) (r : Result U PageFault)
     (fault : PageFault) → r ≡ Err fault
-    → ShowsMerge {T = T} D told old new s (Err fault) → ShowsAnew D told old new s commit r
+    → ShowsMerge {T = T} D told old new s t (Err fault) → ShowsAnew D told old new s t commit r
 anew_saved D told old new s commit r fault is shows = record {
   shown = damage_to _ r fault is (fault_each _ _ (λ d p. inl p) fault shows.shown);
   damage = λ is_told agrees. damage_to _ r fault is (fault_each _ _ (λ d p. inl p) fault (shows.damage is_told agrees));
@@ -98,9 +100,10 @@ anew_saved D told old new s commit r fault is shows = record {
 }
 
 -- by that of attaching
-pub anew_attached : {T : Type 0} (D : ℕ) (told : Type 0) (old new : Files) (s : SetData) (commit : Option CommitData) (c : CommitData) (r : Result T PageFault)
+pub anew_attached : {T : Type 0} {t : SetData} (D : ℕ) (told : Type 0) (old new : Files) (s : SetData) (commit : Option CommitData) (c : CommitData)
+    (r : Result T PageFault)
     (fault : PageFault) → r ≡ Err fault → commit ≡ Some c
-    → FaultShows (IsAttachDamage c) fault → (told → FaultShows (IsAttachDamageOf new c) fault) → ShowsAnew D told old new s commit r
+    → FaultShows (IsAttachDamage c) fault → (told → FaultShows (IsAttachDamageOf new c) fault) → ShowsAnew D told old new s t commit r
 anew_attached D told old new s commit c r fault is last shown damage = record {
   shown = damage_to _ r fault is (fault_each _ _ (λ d p. inr (c, last, p)) fault shown);
   damage = λ is_told agrees. damage_to _ r fault is (fault_each _ _ (λ d p. inr (c, last, p)) fault (damage is_told));

@@ -33,7 +33,8 @@ use Rattle.index_opening.proofs.Evident.{on_evident_twice}
 use Rattle.index_core.specs.Sessions.{AreTraced, Guards, GuardsSet, IsLast, IsLastCommit, IsListedWith, IsTraced, SessionData, Trusts}
 use Rattle.index_core.specs.Effects.{BringsCanonical, IsOfBefore}
 use Rattle.index_core.proofs.Bringing.{brings_written}
-use Rattle.index_core.proofs.Guarding.{IsSwept, guards_written, moved_says, names_listed}
+use Rattle.index_core.proofs.Guarding.{guards_written, moved_says, names_listed}
+use Rattle.index_core.proofs.Swept.{IsSwept}
 use Rattle.index_core.proofs.SetGuards.{guards_attached}
 
 -- ---- a crowd

@@ -1,5 +1,5 @@
 -- What a commit leaves in the place of what was kept.
-use Rattle.std.specs.Prelude.{ℕ, ◌≡◌, ◌⊎◌, length, Contains}
+use Rattle.std.specs.Prelude.{ℕ, ◌≡◌, ◌≤◌, ◌⊎◌, length, Contains}
 use Rattle.outer_io.specs.declared.file_name.FileName.TheVariants.{Commit, Live, Segment}
 use Rattle.outer_io.specs.Files.{Files, bytes_of}
 use Rattle.live_bits.specs.LiveSet.{LiveSet}
@@ -9,7 +9,9 @@ use Rattle.commit_list.specs.CommitFiles.{IsCommitFile}
 use Rattle.segment_file.specs.Heads.{Head}
 use Rattle.segment_file.specs.LiveFiles.{IsLiveFile}
 use Rattle.stored_index.specs.Kept.{SameKept}
-use Rattle.segment_set.specs.Kept.{HasCanonical}
+use Rattle.segment_set.specs.Sets.{SetData}
+use Rattle.segment_set.specs.Kept.{HasCanonical, IsAsCommitted}
+use Rattle.segment_set.specs.Settles.{Flushes, SetMoment, moment}
 
 -- the commit of before listed the segment too, and its file is as it was
 pub record WasListed (old new : Files) (l : Listed) : Type 0 where
@@ -35,14 +37,34 @@ pub record IsWhole (D : ℕ) (old new : Files) (l : Listed) : Type 0 where
   pub file : IsLiveFile l.segment l.generation (bytes_of (new (Live l.segment l.generation))) live
   pub count : length live.live ≡ l.live
 
--- The Commit file says a commit, of the dimensions and leaf size of the one that it said before, if it said one. Each
--- segment that it lists is whole.
+-- the one is no earlier commit than the other: dimensions and leaf size are the same, and no number that was given is
+-- taken back
+pub record IsLater (old new : CommitData) : Type 0 where
+  pub dims : old.dims ≡ new.dims
+  pub leaf : old.leaf ≡ new.leaf
+  pub next : old.next ≤ new.next
+  pub given : old.given ≤ new.given
+
+-- The Commit file says a commit that is no earlier one than it said before, if it said one. Each segment that it lists
+-- is whole.
 pub record BringsCommit (old new : Files) : Type 0 where
   pub commit : CommitData
   pub says : IsCommitFile (bytes_of (new Commit)) commit
-  pub same : (c : CommitData) → IsCommitFile (bytes_of (old Commit)) c → (c.dims ≡ commit.dims) × (c.leaf ≡ commit.leaf)
+  pub later : (c : CommitData) → IsCommitFile (bytes_of (old Commit)) c → IsLater c commit
   pub whole : (l : Listed) → Contains commit.listed l → IsWhole commit.dims old new l
 
 -- what is kept is the same, or a whole commit has taken its place
 abbrev pub KeepsCommit : Files → Files → Type 0
 KeepsCommit old new = SameKept old new ⊎ BringsCommit old new
+
+-- The commit is that of the set once it is flushed: choices of the policy were merged, each whole, and the buffer went
+-- to a segment; all else is listed as it was.
+pub record IsCommitAfter (D : ℕ) (told : Type 0) (files : Files) (s : SetData) (c : CommitData) : Type 0 where
+  pub flushed : SetMoment
+  pub flushes : Flushes D told (moment files s) flushed
+  pub is : IsAsCommitted flushed.set c
+
+-- what is kept is the same, or the commit of this set has taken its place
+abbrev pub KeepsOwn : (D : ℕ) (told : Type 0) → (old new : Files) → SetData → Type 0
+KeepsOwn D told old new s =
+    SameKept old new ⊎ ((c : CommitData) × IsCommitFile (bytes_of (new Commit)) c × IsCommitAfter D told old s c)

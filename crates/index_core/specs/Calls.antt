@@ -18,7 +18,7 @@ use Rattle.segment_view.specs.LiveSegments.{LiveSegment}
 use Rattle.segment_set.specs.Seen.{Sees}
 use Rattle.segment_set.specs.Faithful.{IsFaithful}
 use Rattle.segment_set.specs.Kept.{IsNeeded}
-use Rattle.index_core.specs.Brought.{KeepsCommit}
+use Rattle.index_core.specs.Brought.{KeepsCommit, KeepsOwn}
 use Rattle.index_core.specs.Closed.{IsTracked, NamesOnlyListed}
 use Rattle.index_core.specs.Costs.{ReadsAtMost}
 use Rattle.index_core.specs.Effects.{KeepsStill, OnRefused}
@@ -27,12 +27,14 @@ use Rattle.index_core.specs.Sessions.{AreTraced, Guards, IsCommitAnew, IsUnchang
 use Rattle.index_core.specs.Steps.{KeepsOver, KeepsUndone, Stores}
 
 -- The last commit is kept, or the one in flight: once it is done the Commit file says it, and what is seen is stored.
--- After a damage all that is kept is as it was. Whatever the files hold, each listed file of a new commit is whole.
+-- After a damage all that is kept is as it was. Whatever the files hold, a new commit is that of the session's set, and
+-- each file that it lists is whole.
 pub record IsDurable {T : Type 0} (D : ℕ) (told : Type 0) (old new : Files) (s t : SessionData)
     (result : Result T PageFault) : Type 0 where
   pub kept : told → Guards D old s → KeepsOver true old new t result
   pub stored : told → (i : Index) → Sees D old s.set i → Guards D old s → Stores old new i t.set result
   pub undone : told → Guards D old s → KeepsUndone old new result
+  pub own : told → Guards D old s → KeepsOwn D told old new s.set
   pub lasting : told → Trusts D old s → KeepsCommit old new
 
 -- A done commit: nothing is changed since, and the list of names has each file that came. Where something was changed

@@ -24,18 +24,19 @@ pub record ShowsLeaf {T : Type 0} (D : ℕ) (told : Type 0) (files : Files) (s :
 
 -- Of what may merge: a leaf of a segment, or entries that are none of documents. Where the files hold the segments it
 -- is the latter.
-pub record ShowsMerge {T : Type 0} (D : ℕ) (told : Type 0) (old new : Files) (s : SetData) (result : Result T PageFault)
-    : Type 0 where
-  pub shown : OnDamage result (IsMergeDamage D s.given s.names s.parts)
+pub record ShowsMerge {T : Type 0} (D : ℕ) (told : Type 0) (old new : Files) (s t : SetData)
+    (result : Result T PageFault) : Type 0 where
+  pub shown : OnDamage result (IsMergeDamage D s.given s.names t.names s.parts)
   pub damage : told → Agrees old s.cache → OnDamage result (IsMergeDamageOf new s.given)
   pub doubled : told → Agrees old s.cache → (c : Contents) → AreRead D old c s.parts
       → OnDamage result (IsDoubt s.given (live_in_parts c s.parts))
 
 -- of what commits and attaches anew: the same, or a damage of a file that the commit lists
-pub record ShowsAnew {T : Type 0} (D : ℕ) (told : Type 0) (old new : Files) (s : SetData) (commit : Option CommitData)
-    (result : Result T PageFault) : Type 0 where
+pub record ShowsAnew {T : Type 0} (D : ℕ) (told : Type 0) (old new : Files) (s t : SetData)
+    (commit : Option CommitData) (result : Result T PageFault) : Type 0 where
   pub shown : OnDamage result
-      (λ d. IsMergeDamage D s.given s.names s.parts d ⊎ ((c : CommitData) × (commit ≡ Some c) × IsAttachDamage c d))
+      (λ d. IsMergeDamage D s.given s.names t.names s.parts d
+      ⊎ ((c : CommitData) × (commit ≡ Some c) × IsAttachDamage c d))
   pub damage : told → Agrees old s.cache
       → OnDamage result
       (λ d. IsMergeDamageOf new s.given d ⊎ ((c : CommitData) × (commit ≡ Some c) × IsAttachDamageOf new c d))
@@ -47,7 +48,7 @@ pub record ShowsAnew {T : Type 0} (D : ℕ) (told : Type 0) (old new : Files) (s
 -- what the damage shows that the request answers; all else answers none
 abbrev pub ShowsDamage : {T : Type 0} → (D : ℕ) (told : Type 0) → Request → (old new : Files) → (s t : SessionData)
     → Result T PageFault → Type 0
-ShowsDamage D told (asks.Add points) old new s t result = ShowsMerge D told old new s.set result
+ShowsDamage D told (asks.Add points) old new s t result = ShowsMerge D told old new s.set t.set result
 ShowsDamage D told (asks.DeleteBox lo hi) old new s t result = ShowsLeaf D told old s.set s.set.parts result
 ShowsDamage D told (asks.InBox view lo hi) old new s t result =
     ShowsLeaf D told old s.set (viewed_parts view s.set) result
@@ -55,11 +56,11 @@ ShowsDamage D told (asks.InPolygon view rings) old new s t result =
     ShowsLeaf D told old s.set (viewed_parts view s.set) result
 ShowsDamage D told (asks.Nearest view k target) old new s t result =
     ShowsLeaf D told old s.set (viewed_parts view s.set) result
-ShowsDamage D told asks.Flush old new s t result = ShowsMerge D told old new s.set result
-ShowsDamage D told asks.Merge old new s t result = ShowsMerge D told old new s.set result
-ShowsDamage D told (asks.MergeBegin positions) old new s t result = ShowsMerge D told old new s.set result
-ShowsDamage D told asks.Commit old new s t result = ShowsMerge D told old new s.set result
-ShowsDamage D told asks.Reopen old new s t result = ShowsAnew D told old new s.set t.commit result
+ShowsDamage D told asks.Flush old new s t result = ShowsMerge D told old new s.set t.set result
+ShowsDamage D told asks.Merge old new s t result = ShowsMerge D told old new s.set t.set result
+ShowsDamage D told (asks.MergeBegin positions) old new s t result = ShowsMerge D told old new s.set t.set result
+ShowsDamage D told asks.Commit old new s t result = ShowsMerge D told old new s.set t.set result
+ShowsDamage D told asks.Reopen old new s t result = ShowsAnew D told old new s.set t.set t.commit result
 ShowsDamage D told asks.Blank old new s t result = NotDamaged result
 ShowsDamage D told (asks.Create dims leaf) old new s t result = NotDamaged result
 ShowsDamage D told (asks.Delete doc) old new s t result = NotDamaged result

@@ -32,13 +32,15 @@ pub record SessionData : Type 0 where
   pub commit : Option CommitData
   pub refused : Bool
 
--- where there is a Commit file, it says a commit of these dimensions and of the set's leaf size, which lists nothing
--- but files of the set's list of names
+-- where there is a Commit file, it says a commit of these dimensions and of the set's leaf size, which has given no
+-- number that the set hasn't, and lists nothing but files of the set's list of names
 pub record ListsOnlyNamed (D : ℕ) (files : Files) (s : SetData) : Type 0 where
   pub commit : CommitData
   pub says : IsCommitFile (bytes_of (files Commit)) commit
   pub dims : commit.dims ≡ D
   pub leaf : commit.leaf ≡ s.leaf
+  pub next : commit.next ≤ s.next
+  pub given : commit.given ≤ s.given
   pub named : (m : FileName) → ListsFile commit m → is_named s.names.names m ≡ true
 
 abbrev pub GuardsSet : ℕ → Files → SetData → Type 0

@@ -20,7 +20,7 @@ use Rattle.stored_index.specs.Kept.{SameKept}
 use Rattle.segment_set.specs.Sets.{SetData}
 use Rattle.segment_set.specs.Seen.{Sees}
 use Rattle.index_opening.specs.Evidence.{IsEvident}
-use Rattle.index_core.specs.Brought.{KeepsCommit}
+use Rattle.index_core.specs.Brought.{KeepsCommit, KeepsOwn}
 use Rattle.index_core.specs.Sessions.{Guards, IsCommitAnew, IsUnchanged, SessionData, StaysTrue, Trusts}
 use Rattle.index_core.specs.Effects.{BringsCanonical, OnDone}
 use Rattle.index_core.specs.Light.{CommitsFewOfLevels}
@@ -98,13 +98,14 @@ pub record StepMoment : Type 0 where
 abbrev pub GuardsFor : (committing : Bool) → ℕ → StepMoment → Type 0
 GuardsFor committing D place = committing ≡ true → Guards D place.files place.session
 
--- What the folder keeps changes by a commit alone, which has stored what is seen. Whatever the files hold, each listed
--- file of a new commit is whole.
+-- What the folder keeps changes by a commit alone, which has stored what is seen. Whatever the files hold, a new commit
+-- is that of the session's set, and each file that it lists is whole.
 pub record OnlyCommits (D : ℕ) (told : Type 0) (committing : Bool) (old new : StepMoment)
     (result : Result Applied PageFault) : Type 0 where
   pub kept : told → Guards D old.files old.session → KeepsOver committing old.files new.files new.session result
   pub stored : told → (i : Index) → Sees D old.files old.session.set i → Guards D old.files old.session
       → committing ≡ true → Stores old.files new.files i new.session.set result
+  pub own : told → Guards D old.files old.session → KeepsOwn D told old.files new.files old.session.set
   pub lasting : told → Trusts D old.files old.session → KeepsCommit old.files new.files
 
 -- A request that commits: where nothing was changed no file is, and else the commit is written anew; with no merge

@@ -69,7 +69,8 @@ impl<const D: usize> Session<D> {
         ensures faults { ShowsFault D (IsTrue F.told) (F.files folder.old) (F.files folder.new) self.old
             (F.faults folder.old)
             (F.faults folder.new) result }
-        ensures damage { ShowsMerge D (IsTrue F.told) (F.files folder.old) (F.files folder.new) self.old.set result }
+        ensures damage { ShowsMerge D (IsTrue F.told) (F.files folder.old) (F.files folder.new) self.old.set
+            self.new.set result }
     {
         if !self.is_changed() {
             return Ok(());

@@ -118,7 +118,7 @@ leaf_shows P D head root tree is has (Doubled doc) h = absurd h
 leaf_carried : (W : ℕ → Type 0) (D : ℕ) (files : Files) (head : Head) (root : Region) (tree : IndexTree) → IsHeadIn files D head
     → HasTree D head.index root tree → (d : Damage) → IsLeafDamage D head 0 front tree d
     → IsLeafDamageOf files d → IsTrueOf W files d
-leaf_carried W D files head root tree is has (Page file number bytes) shown h = h
+leaf_carried W D files head root tree is has (Page file number bytes) shown h = (h, inr (D, head, shown.0, is))
 leaf_carried W D files head root tree is has (Leaf file number offset len bytes) shown h = h
 leaf_carried W D files head root tree is has (Size file size needed) shown h =
     absurd (not_cut D files head root tree size needed is has shown.2 (subst (λ (name : FileName). IsCut files name size needed) shown.0 h))
@@ -168,10 +168,11 @@ pages_asked files CommitNew size needed (inr h) = absurd h.asked
 head_carried : (files : Files) (c : CommitData) → IsCommitFile (bytes_of (files Commit)) c → (s : Listed) → Contains c.listed s
     → (d : Damage) → IsHeadDamage s.segment d → IsHeadDamageOf c.dims files d
     → IsTrueOf (IsTwice files) files d
-head_carried files c says s there (Page file number bytes) named h = h
+head_carried files c says s there (Page file number bytes) named h = (h, inl (inr (segment_listed files c s file says there named.0)))
 head_carried files c says s there (Missing file) named h = (h, segment_listed files c s file says there named)
-head_carried files c says s there (Size file size needed) named h = pages_asked files file size needed h
-head_carried files c says s there (Body file bytes) named h = h
+head_carried files c says s there (Size file size needed) named h =
+    (pages_asked files file size needed h, inr (segment_listed files c s file says there named.0))
+head_carried files c says s there (Body file bytes) named h = (h, inr (segment_listed files c s file says there named.0))
 head_carried files c says s there (Unequal file said found) named h = OfFiles (InHead c says s there named.0 h)
 head_carried files c says s there (Leaf file number offset len bytes) named h = absurd h
 head_carried files c says s there (Beyond doc next) named h = absurd h
@@ -180,10 +181,11 @@ head_carried files c says s there (Doubled doc) named h = absurd h
 live_carried : (files : Files) (c : CommitData) → IsCommitFile (bytes_of (files Commit)) c → (s : Listed) → Contains c.listed s
     → (d : Damage) → IsLiveDamage s.segment s.generation d → IsLiveDamageOf files d
     → IsTrueOf (IsTwice files) files d
-live_carried files c says s there (Page file number bytes) named h = h
+live_carried files c says s there (Page file number bytes) named h = (h, inl (inr (live_listed files c s file says there named.0)))
 live_carried files c says s there (Missing file) named h = (h, live_listed files c s file says there named)
-live_carried files c says s there (Size file size needed) named h = pages_asked files file size needed h
-live_carried files c says s there (Body file bytes) named h = h
+live_carried files c says s there (Size file size needed) named h =
+    (pages_asked files file size needed h, inr (live_listed files c s file says there named.0))
+live_carried files c says s there (Body file bytes) named h = (h, inr (live_listed files c s file says there named.0))
 live_carried files c says s there (Unequal file said found) named h = absurd h
 live_carried files c says s there (Leaf file number offset len bytes) named h = absurd h
 live_carried files c says s there (Beyond doc next) named h = absurd h
@@ -244,11 +246,13 @@ commit_shows P (Beyond doc next) h = absurd h
 commit_shows P (Doubled doc) h = absurd h
 
 commit_carried : (files : Files) (d : Damage) → IsCommitDamage d → IsCommitDamageOf files d → IsTrueOf (IsTwice files) files d
-commit_carried files (Page file number bytes) shown h = h
+commit_carried files (Page file number bytes) shown h = (h, inl (inl shown.0))
 commit_carried files (Missing file) shown h = absurd h
-commit_carried files (Size file size needed) shown h =
-    subst (λ (name : FileName). IsSizeOf AsksCommit files name size needed → IsSizeOf (AsksPages name) files name size needed) (sym shown.0) (λ k. k) h
-commit_carried files (Body file bytes) shown h = h
+commit_carried files (Size file size needed) shown h = (
+  subst (λ (name : FileName). IsSizeOf AsksCommit files name size needed → IsSizeOf (AsksPages name) files name size needed) (sym shown.0) (λ k. k) h,
+  inl shown.0,
+)
+commit_carried files (Body file bytes) shown h = (h, inl shown.0)
 commit_carried files (Leaf file number offset len bytes) shown h = absurd h
 commit_carried files (Unequal file said found) shown h = absurd h
 commit_carried files (Beyond doc next) shown h = absurd h

@@ -147,13 +147,19 @@ pub data IsTwice (files : Files) (doc : ℕ) : Type 0 where
       → (p : LiveSegment) → p.head.id ≡ s.segment → HasLive files s p.live → CrowdsPart c.dims files p doc
       → IsTwice files doc
 
--- What a damage carries is that of the files. `twice` is what is shown of a number that is Doubled.
+-- it was looked at for the commit, or it is a segment's and has its head, as one that a snapshot needs
+abbrev pub MayBeNeeded : Files → FileName → Type 0
+MayBeNeeded files file =
+    IsLookedAt files file ⊎ ((D : ℕ) × (head : Head) × (file ≡ Segment head.id) × IsHeadIn files D head)
+
+-- What a damage carries is that of the files, of one that may be needed. `twice` is what is shown of a number that is
+-- Doubled.
 abbrev pub IsTrueOf : (twice : ℕ → Type 0) → Files → Damage → Type 0
-IsTrueOf twice files (Page file number bytes) = IsPageOf files file number bytes.value.b
+IsTrueOf twice files (Page file number bytes) = IsPageOf files file number bytes.value.b × MayBeNeeded files file
 IsTrueOf twice files (Leaf file number offset len bytes) = IsPageOf files file number bytes.value.b
-IsTrueOf twice files (Body file bytes) = ArePayloadsOf files file bytes
+IsTrueOf twice files (Body file bytes) = ArePayloadsOf files file bytes × IsLookedAt files file
 IsTrueOf twice files (Missing file) = (files file ≡ None) × IsOfListed files file
-IsTrueOf twice files (Size file size needed) = IsSizeOf (AsksPages file) files file size needed
+IsTrueOf twice files (Size file size needed) = IsSizeOf (AsksPages file) files file size needed × IsLookedAt files file
 IsTrueOf twice files (Unequal file said found) = ArePair files file said found
 IsTrueOf twice files (Beyond doc next) = IsLiveBeyond files doc next
 IsTrueOf twice files (Doubled doc) = twice doc

@@ -9,11 +9,13 @@ use Rattle.outer_io.specs.Files.{Files, bytes_of}
 use Rattle.outer_io.specs.declared.file_name.FileName.TheVariants.{Segment}
 use Rattle.inner_pack.specs.Trees.{IndexTree, Leaf, Split}
 use Rattle.inner_pack.specs.Bodies.{HasTree}
-use Rattle.inner_pack.specs.Places.{front}
+use Rattle.inner_pack.specs.Places.{Spot, front}
+use Rattle.page_cache.specs.declared.cache.PageCache.{PageCache}
+use Rattle.page_cache.specs.Cache.{IsKept}
 use Rattle.page_cache.specs.declared.faults.Damage.{Damage}
 use Rattle.segment_file.specs.Damages.{IsLeafDamage}
-use Rattle.segment_file.specs.Heads.{Head}
-use Rattle.segment_file.specs.Segments.{IsSegment}
+use Rattle.segment_file.specs.Heads.{Head, page_of}
+use Rattle.segment_file.specs.Segments.{IsLeafOf, IsSegment}
 
 -- the entries whose numbers are live
 abbrev pub live_items : LiveSet → List Item → List Item
@@ -67,6 +69,12 @@ IsSegmentDamage D heads trees d = (i : ℕ) × (i < length heads)
 abbrev pub HaveTrees : ℕ → List Head → (ℕ → IndexTree) → Type 0
 HaveTrees D heads trees = (i : ℕ) → i < length heads → (root : Region)
     × HasTree D (slice_index_or heads i no_head).index root (trees i)
+
+-- the page of each leaf of the segments is kept, of whose indexes these are the trees
+abbrev pub AreLeavesKept : PageCache → List Head → (ℕ → IndexTree) → Type 0
+AreLeavesKept cache heads trees = (i : ℕ) → i < length heads → (number : ℕ) (at : Spot) (len : ℕ) (own : Region)
+    → IsLeafOf 0 front (trees i) number at len own
+    → IsKept cache (slice_index_or heads i no_head).id (page_of (slice_index_or heads i no_head) at.page)
 
 -- how far a search of k numbers goes that finds these: as far as the last, and over all where there are fewer
 abbrev pub last_of : List Near → Option ℕ

@@ -9,9 +9,10 @@ ghost use Rattle.point_codec.specs.declared.entries.Near.{Near};
 ghost use Rattle.inner_pack.specs.Places.{Spot};
 ghost use Rattle.inner_pack.specs.Trees.{IndexTree, Leaf};
 ghost use Rattle.inner_pack.specs.Nodes.{IsAt};
-ghost use Rattle.page_cache.specs.Cache.{Agrees};
+ghost use Rattle.page_cache.specs.Cache.{Agrees, IsKept};
 ghost use Rattle.page_cache.specs.Evidence.{OnDamage, NotDamaged};
-ghost use Rattle.page_cache.specs.Reading.{ReadsCached};
+ghost use Rattle.page_cache.specs.Reading.{ReadsCached, ReadsNothing};
+ghost use Rattle.segment_file.specs.Heads.{page_of};
 ghost use Rattle.segment_file.specs.Segments.{HoldsLeaf};
 ghost use Rattle.segment_file.specs.Damages.{IsLeafDamage, IsLeafDamageOf};
 ghost use Rattle.documents.specs.NearestEntries.{nears_of};
@@ -44,6 +45,9 @@ pub fn open_leaf<const D: usize, F: Pages>(
     ensures reading { ReadsCached F.told (λ i. i ≡ head.now.id) (F.files folder.old) (F.files folder.new)
         cache.old cache.new (F.faults folder.old) (F.faults folder.new) result }
     ensures reads { F.reads folder.new ≤ F.reads folder.old + 1 }
+    ensures kept { (first : ℕ) (s : Spot) (path : Region) (t : IndexTree) → IsAt node.now first s path t
+        → IsKept cache.old head.now.id (page_of head.now s.page)
+        → ReadsNothing (F.reads folder.old) (F.reads folder.new) cache.old cache.new result }
     ensures room { found.new.many.room ≡ found.old.many.room }
     ensures found { IsTrue F.told → Agrees (F.files folder.old) cache.old
         → (first : ℕ) (s : Spot) (path : Region) (len : ℕ) (own : Region) (items : List Item) (seen : List Near)

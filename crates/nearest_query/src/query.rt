@@ -13,8 +13,8 @@ ghost use Rattle.page_cache.specs.Evidence.{OnDamage, NotDamaged};
 ghost use Rattle.page_cache.specs.Reading.{ReadsCached};
 ghost use Rattle.segment_file.specs.Damages.{IsLeafDamageOf};
 ghost use Rattle.documents.specs.NearestEntries.{IsNearest, nears_of};
-ghost use Rattle.nearest_query.specs.Segments.{AreSegments, AreNearLeaves, HasId, HaveTrees, IsSegmentDamage, live_in};
-ghost use Rattle.nearest_query.specs.Segments.{bound_of};
+ghost use Rattle.nearest_query.specs.Segments.{AreLeavesKept, AreSegments, AreNearLeaves, HasId, HaveTrees};
+ghost use Rattle.nearest_query.specs.Segments.{IsSegmentDamage, bound_of, live_in};
 ghost use Rattle.nearest_query.specs.Fronts.{Front, leaf_sum, sum_below};
 ghost use Rattle.nearest_query.specs.Search.{World, IsOver, IsInside, IsNodeBelow, IsNode, HasRoots, head_at, live_at};
 
@@ -59,6 +59,9 @@ pub fn nearest<const D: usize, F: Pages>(
         → IsNearest k (nears_of at.now.c (live_in contents heads.now lives.now ++ items_of buffer.now)) found
         → (leaves : ℕ) → AreNearLeaves D at.now.c (bound_of k found) heads.now leaves
         → F.reads folder.new ≤ F.reads folder.old + leaves }
+    // where the page of each leaf is kept nothing is read
+    ensures kept { (trees : ℕ → IndexTree) → HaveTrees D heads.now trees → AreLeavesKept cache.old heads.now trees
+        → F.reads folder.new ≡ F.reads folder.old }
     // what a damage shows by what it carries, and of the files; there is none where the files hold the segments
     ensures shown { (trees : ℕ → IndexTree) → HaveTrees D heads.now trees
         → OnDamage result (IsSegmentDamage D heads.now trees) }

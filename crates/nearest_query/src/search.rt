@@ -9,11 +9,11 @@ ghost use Rattle.inner_pack.specs.Trees.{IndexTree, leaf_count};
 ghost use Rattle.inner_pack.specs.Nodes.{IsAt};
 ghost use Rattle.page_cache.specs.Cache.{Agrees};
 ghost use Rattle.page_cache.specs.Evidence.{OnDamage, NotDamaged};
-ghost use Rattle.page_cache.specs.Reading.{ReadsCached};
+ghost use Rattle.page_cache.specs.Reading.{ReadsCached, ReadsNothing};
 ghost use Rattle.segment_file.specs.Damages.{IsLeafDamageOf};
 ghost use Rattle.documents.specs.NearestEntries.{IsNearest};
 ghost use Rattle.nearest_query.specs.Best.{found_of};
-ghost use Rattle.nearest_query.specs.Segments.{HasId, IsSegmentDamage, is_within, bound_of};
+ghost use Rattle.nearest_query.specs.Segments.{AreLeavesKept, HasId, IsSegmentDamage, is_within, bound_of};
 ghost use Rattle.nearest_query.specs.Fronts.{Front, IsWaiting, leaf_sum, sum_below, work};
 ghost use Rattle.nearest_query.specs.Search.{World, IsOver, IsInside, IsNodeBelow, IsNode, IsSought, one_within};
 
@@ -80,6 +80,9 @@ fn open<'a, const D: usize, F: Pages>(
         → F.reads folder.new + sum_by (sum_below (one_within w bound)) frontier.new.turns
         ≤ F.reads folder.old + sum_below (one_within w bound) next + sum_by
         (sum_below (one_within w bound)) frontier.old.turns }
+    ensures kept { (trees : ℕ → IndexTree) → IsNodeBelow heads.now trees frontier.old.nodes next
+        → AreLeavesKept cache.old heads.now trees
+        → ReadsNothing (F.reads folder.old) (F.reads folder.new) cache.old cache.new result }
     ensures damage { IsTrue F.told → Agrees (F.files folder.old) cache.old
         → OnDamage result (IsLeafDamageOf (F.files folder.old)) }
     ensures parts { (trees : ℕ → IndexTree)
@@ -130,6 +133,9 @@ pub fn search<'a, const D: usize, F: Pages>(
         → IsSought D w all frontier.old.turns frontier.old.nodes found.old → IsNearest found.old.many.room all nearest
         → F.reads folder.new ≤ F.reads folder.old + sum_by
         (sum_below (one_within w (bound_of found.old.many.room nearest))) frontier.old.turns }
+    ensures kept { (trees : ℕ → IndexTree) → All (IsNodeBelow heads.now trees frontier.old.nodes) frontier.old.turns
+        → AreLeavesKept cache.old heads.now trees
+        → ReadsNothing (F.reads folder.old) (F.reads folder.new) cache.old cache.new result }
     ensures damage { IsTrue F.told → Agrees (F.files folder.old) cache.old
         → OnDamage result (IsLeafDamageOf (F.files folder.old)) }
     ensures shown { (trees : ℕ → IndexTree) → All (IsNodeBelow heads.now trees frontier.old.nodes) frontier.old.turns

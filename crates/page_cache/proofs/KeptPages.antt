@@ -120,6 +120,36 @@ module _ (key : PageKey) where
       let same : key ≡ e.0 = key_true key e.0 (Contains-lookup_entry (same_key key) es e h).1 in
       ap (λ (k : PageKey). k ∷ keys_of (remove_entry (same_key key) es)) (sym same) ∙ ap (λ (ks : List PageKey). key ∷ ks) (keys_without es)
 
+  -- each page that was kept is kept
+  stays_or_found : (es : Kept) (e : PageKey × Box PageBytes Global) → Contains es e
+      → Contains (remove_entry (same_key key) es) e ⊎ (lookup_entry (same_key key) es ≡ Some e)
+  stays_or_found [] e has = absurd (Contains-nil e has)
+  stays_or_found (f ∷ es) e has =
+      (elim (same_key key f.0) as (λ b.
+      Contains (cond b es (f ∷ remove_entry (same_key key) es)) e ⊎ (cond b (Some f) (lookup_entry (same_key key) es) ≡ Some e)) [
+        | true ↦ elim (Contains-cons f es e has) [
+          | inl same ↦ inr (ap (λ (g : PageKey × Box PageBytes Global). Some g) same)
+          | inr on ↦ inl on
+        ]
+        | false ↦ elim (Contains-cons f es e has) [
+          | inl same ↦ inl (subst (Contains (f ∷ remove_entry (same_key key) es)) same (Contains-head f (remove_entry (same_key key) es)))
+          | inr on ↦ elim (stays_or_found es e on) [
+            | inl left ↦ inl (Contains-tail f (remove_entry (same_key key) es) e left)
+            | inr first ↦ inr first
+          ]
+        ]
+      ])
+
+  used_more : (es : Kept) (o : Option (PageKey × Box PageBytes Global)) → lookup_entry (same_key key) es ≡ o → KeepsNoMore (used es o) es
+  used_more es None h e has = has
+  used_more es (Some f) h e has = elim (stays_or_found es e has) [
+    | inl left ↦ Contains-tail f (remove_entry (same_key key) es) e left
+    | inr first ↦ subst (Contains (f ∷ remove_entry (same_key key) es)) (some_one f e (sym h ∙ first)) (Contains-head f (remove_entry (same_key key) es))
+  ]
+    where
+      some_one : (x y : PageKey × Box PageBytes Global) → Some x ≡ Some y → x ≡ y
+      some_one x y same = cc
+
   used_same : (es : Kept) (o : Option (PageKey × Box PageBytes Global)) → OnFalse (is_some o) (used es o ≡ es)
   used_same es None = refl
   used_same es (Some e) = tt
@@ -147,6 +177,9 @@ module _ (key : PageKey) where
     touch_same =
         let moved = subst (λ (b : Bool). OnFalse b (promoted (same_key key) es ≡ es)) (sym by_entry) (used_same es (lookup_entry (same_key key) es)) in
         subst (λ (l : Kept). OnFalse r (l ≡ es)) (sym after) moved
+
+    pub touch_more : KeepsNoMore ns es
+    touch_more e c = subst (λ (l : Kept). Contains l e) (sym after) (used_more es (lookup_entry (same_key key) es) refl e c)
 
     pub touch_fewer : KeepsNoMore es ns
     touch_fewer e c = Contains-promoted (same_key key) es e (subst (λ (l : Kept). Contains l e) after c)

@@ -8,3 +8,4 @@ pub mod TakenOut
 pub mod FileSizes
 pub mod Sealed
 pub mod Notes
+pub mod Unread

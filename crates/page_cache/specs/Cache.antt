@@ -16,6 +16,10 @@ Keeps c id number bytes = KeepsIn c.pages.entries (page_key id number) bytes
 unfoldable pub IsKept : PageCache → ℕ → ℕ → Type 0
 IsKept c id number = (bytes : List ℕ) × Keeps c id number bytes
 
+-- each page that the one keeps the other keeps
+abbrev pub KeepsPages : PageCache → PageCache → Type 0
+KeepsPages old new = (id number : ℕ) → IsKept old id number → IsKept new id number
+
 -- it keeps some page of the segment's file
 unfoldable pub KeepsFile : PageCache → ℕ → Type 0
 KeepsFile c id = (number : ℕ) × IsKept c id number

@@ -1,9 +1,9 @@
 -- What a call that only reads leaves, and what its answer says of the folder's faults.
-use Rattle.std.specs.Prelude.{ℕ, ◌≡◌, ◌⊎◌, Bool, IsTrue, Result}
+use Rattle.std.specs.Prelude.{ℕ, ◌≡◌, ◌⊎◌, Bool, IsTrue, OnOk, Result}
 use Rattle.outer_io.specs.Files.{Files}
 use Rattle.page_cache.specs.declared.cache.PageCache.{PageCache}
 use Rattle.page_cache.specs.declared.faults.PageFault.{PageFault}
-use Rattle.page_cache.specs.Cache.{KeepsFile, Agrees}
+use Rattle.page_cache.specs.Cache.{KeepsFile, KeepsPages, Agrees}
 use Rattle.page_cache.specs.Causes.{HasPageCause, IsSteady}
 
 -- a call that only reads: the files are as before, where the folder tells its files (`told`); Failed is answered only
@@ -23,3 +23,8 @@ pub record ReadsCached {T : Type 0} (told : Bool) (mine : ℕ → Type 0) (befor
   pub others : (i : ℕ) → KeepsFile new i → KeepsFile old i ⊎ mine i
   pub agrees : IsTrue told → Agrees before old → Agrees before new
   pub cause : HasPageCause faults new_faults result
+
+-- nothing was read, and where the call is done each page that was kept is kept
+pub record ReadsNothing {T : Type 0} (before now : ℕ) (old new : PageCache) (result : Result T PageFault) : Type 0 where
+  pub reads : now ≡ before
+  pub kept : OnOk result (KeepsPages old new)

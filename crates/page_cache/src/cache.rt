@@ -36,7 +36,7 @@ impl PageCache {
     ghost use Rattle.page_cache.specs.Keys.{page_key, keys_but};
     ghost use Rattle.page_cache.specs.Notes.{Fits};
     ghost use Rattle.page_cache.specs.Cache.{Keeps, IsKept, KeepsFile, Agrees, room_of, order_of, of_others, IsUsed};
-    ghost use Rattle.page_cache.specs.Cache.{KeepsOf, IsKeptOf};
+    ghost use Rattle.page_cache.specs.Cache.{KeepsOf, KeepsPages, IsKeptOf};
     ghost use Rattle.page_cache.specs.Reading.{ReadsCached};
 
     /// A cache with room for so many pages, 1 to 65,536, that keeps none.
@@ -70,7 +70,8 @@ impl PageCache {
             self.old self.new (F.faults folder.old) (F.faults folder.new) result }
         ensures reads { F.reads folder.new ≤ F.reads folder.old + 1 }
         ensures steady { IsSteady (F.faults folder.old) (F.faults folder.new) result }
-        ensures hit { IsKept self.old id number → IsOk result × (F.reads folder.new ≡ F.reads folder.old) }
+        ensures hit { IsKept self.old id number → IsOk result × (F.reads folder.new ≡ F.reads folder.old)
+            × KeepsPages self.old self.new }
         ensures once { (IsKept self.old id number → ⊥)
             → OnOk result (RisesByOne (F.reads folder.old) (F.reads folder.new)) }
         ensures used { OnOk result (IsUsed id number self.old self.new) }

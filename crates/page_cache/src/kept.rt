@@ -27,6 +27,7 @@ pub(crate) fn touch(pages: &mut KeptPages, key: PageKey) -> bool
     ensures found { OnTrue result (HasKey pages.new.entries key) }
     ensures missing { OnFalse result (HasKey pages.old.entries key → ⊥) }
     ensures fewer { KeepsNoMore pages.old.entries pages.new.entries }
+    ensures more { KeepsNoMore pages.new.entries pages.old.entries }
     ensures first { OnTrue result (keys_of pages.new.entries ≡ key ∷ keys_but key (keys_of pages.old.entries)) }
     ensures same { OnFalse result (pages.new.entries ≡ pages.old.entries) }
     ensures room { pages.new.cap ≡ pages.old.cap }

@@ -130,6 +130,27 @@ fn check_visit(
     Ok(())
 }
 
+/// A second visit with the box of a row finds its pages kept, where the first read of the folder would fail.
+fn check_again(rt: &impl Abort, alloc: Global, stored: &mut Stored, row: Row) -> Result<(), Fail> {
+    let (lo, hi, expected, _) = row;
+    let mut shape = BoxShape::new(Point { c: lo }, Point { c: hi });
+    let mut cache = PageCache::new(alloc, 4)?;
+    stored.folder.plan(Vec::new(alloc), None);
+    for call in 0..2u32 {
+        let hits = visited(alloc, stored, &mut cache, &mut shape)
+            .ok()
+            .ok_or("no hits")?;
+        same_at(
+            rt,
+            (hits.len(), hits.first().copied()),
+            expected,
+            &(call, lo),
+        );
+        stored.folder.plan([0u64].to_vec(alloc)?, None);
+    }
+    Ok(())
+}
+
 /// What a survey says of a row's box; then each of its reads fails in turn, and then none.
 fn check_row(rt: &impl Abort, alloc: Global, stored: &mut Stored, row: Row) -> Result<(), Fail> {
     let (lo, hi, _, (_, touched, pages)) = row;
@@ -143,7 +164,8 @@ fn check_row(rt: &impl Abort, alloc: Global, stored: &mut Stored, row: Row) -> R
     for call in 0..pages {
         check_visit(rt, alloc, stored, row, call)?;
     }
-    check_visit(rt, alloc, stored, row, pages)
+    check_visit(rt, alloc, stored, row, pages)?;
+    check_again(rt, alloc, stored, row)
 }
 
 #[test]

@@ -10,7 +10,7 @@ ghost use Rattle.leaf_codec.specs.Leaves.{SpellsLeafIn, SpellsSomeIn};
 ghost use Rattle.inner_pack.specs.Places.{Spot};
 ghost use Rattle.inner_pack.specs.Trees.{IndexTree, Leaf};
 ghost use Rattle.inner_pack.specs.Nodes.{IsAt, IsPlaceOf};
-ghost use Rattle.page_cache.specs.Cache.{IsKept, KeepsFile, Agrees, order_of};
+ghost use Rattle.page_cache.specs.Cache.{IsKept, KeepsFile, KeepsPages, Agrees, order_of};
 ghost use Rattle.page_cache.specs.Evidence.{OnDamage, NotDamaged};
 ghost use Rattle.page_cache.specs.FilePages.{IsFilePage};
 ghost use Rattle.page_cache.specs.Reading.{ReadsCached};
@@ -48,7 +48,7 @@ pub fn load_leaf<const D: usize, F: Pages>(
     ensures kept { IfOk result (λ p. IsKept cache.new head.now.id (page_of head.now p.page)) }
     ensures hit { (first : ℕ) (s : Spot) (path : Region) (t : IndexTree) → IsAt node.now first s path t
         → IsKept cache.old head.now.id (page_of head.now s.page) → IsOk result
-        × (F.reads folder.new ≡ F.reads folder.old) }
+        × (F.reads folder.new ≡ F.reads folder.old) × KeepsPages cache.old cache.new }
     ensures shown { (first : ℕ) (s : Spot) (path : Region) (t : IndexTree) → IsAt node.now first s path t
         → OnDamage result (IsLeafDamage D head.now first s t) }
     ensures damage { IsTrue F.told → OnDamage result (IsLeafDamageOf (F.files folder.old)) }

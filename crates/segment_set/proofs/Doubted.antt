@@ -21,9 +21,9 @@ pub whole_shows : {T : Type 0} (P : Damage → Type 0) (r : Result T PageFault) 
 whole_shows P r whole = on_damage (λ _. ⊥) P r (λ d h. absurd h) whole
 
 -- a damage of some of the segments is one of them
-pub part_shown : (D given : ℕ) (names : NameList) (ids : List ℕ) (parts : List LiveSegment) (d : Damage) → IsPartDamage D (parts_among ids parts) d
-    → IsMergeDamage D given names parts d
-part_shown D given names ids parts d h = Read h.0 (of_filter (λ (p : LiveSegment). is_among ids p.head.id) parts h.0 h.1).0 h.2
+pub part_shown : (D given : ℕ) (names now : NameList) (ids : List ℕ) (parts : List LiveSegment) (d : Damage) → IsPartDamage D (parts_among ids parts) d
+    → IsMergeDamage D given names now parts d
+part_shown D given names now ids parts d h = Read h.0 (of_filter (λ (p : LiveSegment). is_among ids p.head.id) parts h.0 h.1).0 h.2
 
 -- what is doubted of the live entries of some of the segments is doubted of those of all
 pub doubt_among : (given : ℕ) (c : Contents) (ids : List ℕ) (parts : List LiveSegment) (d : Damage) → IsDoubt given (live_in_parts c (parts_among ids parts)) d

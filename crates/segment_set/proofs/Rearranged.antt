@@ -1,10 +1,11 @@
 -- One merge or flush after another.
-use Rattle.std.proofs.Common.{◌≡◌, ℕ, ◌≤◌, ◌<◌, eqb, cond, ltb, List, [], ◌∷◌, length, Result}
+use Rattle.std.proofs.Common.{◌≡◌, ℕ, ◌≤◌, ◌<◌, true, eqb, cond, ltb, List, [], ◌∷◌, length, Result}
 use Rattle.std.proofs.Common.{Ok, Err, ◌^◌, refl, subst, ◌∙◌, ◌⊎◌, inl, inr, ⊎_elim, arith}
 use Rattle.std.specs.List.{All, Contains, sum_by}
 use Rattle.std.specs.Result.{OnOk, OnErr}
 use Rattle.std.proofs.lemmas.Bool.{cases_Bool, ltb-false, ltb-true}
-use Rattle.std.proofs.lemmas.List.Elements.{All-cons, All-contains_itself, All-head, All-nil, All-tail, All-weaker}
+use Rattle.std.proofs.lemmas.List.Elements.{All-cons, All-contains, All-contains_itself, All-head, All-nil, All-tail, All-weaker}
+use Rattle.outer_io.specs.declared.file_name.FileName.{FileName}
 use Rattle.outer_io.specs.declared.file_name.FileName.TheVariants.{Segment}
 use Rattle.outer_io.specs.Files.{Files}
 use Rattle.point_codec.specs.Points.{Item}
@@ -20,7 +21,7 @@ use Rattle.page_cache.proofs.Agreement.{agrees_other}
 use Rattle.stored_index.proofs.Places.{entry_there}
 use Rattle.segment_view.specs.LiveSegments.{LiveSegment, ids_of, live_in_parts, parts_among}
 use Rattle.segment_view.specs.Damages.{IsReadDamage}
-use Rattle.file_names.specs.Names.{NameList}
+use Rattle.file_names.specs.Names.{NameList, is_named}
 use Rattle.segment_set.specs.Sets.{SetData, IsNamed, IsWell}
 use Rattle.segment_set.specs.Kept.{KeepsNamed}
 use Rattle.segment_set.specs.Merged.{KeepsEntries, Rearranges}
@@ -111,20 +112,24 @@ entries_merged D told files new_files {s} well names ids parts cache kept agrees
 
 -- ---- what a damage says of the set before
 
-damage_named : (D given : ℕ) (a b : SetData) (told : Type 0) (f g : Files) → Rearranges D told f g a b → (d : Damage) → IsMergeDamage D given b.names b.parts d
-    → IsMergeDamage D given a.names a.parts d
-damage_named D given a b told f g moves d (Read p there shows) = ⊎_elim
-    (λ fresh. New p.head fresh shows)
+damage_named : (D given : ℕ) (a b : SetData) (now : NameList) (told : Type 0) (f g : Files) → Rearranges D told f g a b → All (IsNamed now) b.parts
+    → (d : Damage) → IsMergeDamage D given b.names now b.parts d → IsMergeDamage D given a.names now a.parts d
+damage_named D given a b now told f g moves named d (Read p there shows) = ⊎_elim
+    (λ fresh. New p.head fresh (All-contains (IsNamed now) b.parts p named there) shows)
     (λ old. Read old.0 old.1 (subst (λ h. IsReadDamage D h d) old.2 shows))
     (moves.follows.each p there)
-damage_named D given a b told f g moves d (New head fresh shows) =
-    New head (unnamed_before a.names.names b.names.names (Segment head.id) (moves.kept.more (Segment head.id)) fresh) shows
-damage_named D given a b told f g moves d (Doubt items doubt) = Doubt items doubt
+damage_named D given a b now told f g moves named d (New head fresh written shows) =
+    New head (unnamed_before a.names.names b.names.names (Segment head.id) (moves.kept.more (Segment head.id)) fresh) written shows
+damage_named D given a b now told f g moves named d (Doubt items doubt) = Doubt items doubt
 
-pub damage_before : (D : ℕ) (told : Type 0) (f g : Files) (a b : SetData) → Rearranges D told f g a b → (d : Damage) → IsMergeDamage D b.given b.names b.parts d
-    → IsMergeDamage D a.given a.names a.parts d
-damage_before D told f g a b moves d shows =
-    damage_named D a.given a b told f g moves d (subst (λ n. IsMergeDamage D n b.names b.parts d) moves.stays.given shows)
+-- names that the list has now are those of before, and what came since
+pub damage_before : (D : ℕ) (told : Type 0) (f g : Files) (a b : SetData) (now : NameList) → Rearranges D told f g a b → All (IsNamed b.names) b.parts
+    → ((m : FileName) → is_named b.names.names m ≡ true → is_named now.names m ≡ true)
+    → (d : Damage) → IsMergeDamage D b.given b.names now b.parts d → IsMergeDamage D a.given a.names now a.parts d
+damage_before D told f g a b now moves named more d shows =
+    damage_named D a.given a b now told f g moves
+    (All-weaker (IsNamed b.names) (IsNamed now) (λ (p : LiveSegment) there. more (Segment p.head.id) there) b.parts named)
+    d (subst (λ n. IsMergeDamage D n b.names now b.parts d) moves.stays.given shows)
 
 -- what is doubted of some entries is doubted of more
 pub doubt_more : (given : ℕ) (xs ys : List Item) → length ys ≤ length xs → ((f : Item → ℕ) → sum_by f ys ≤ sum_by f xs) → (d : Damage) → IsDoubt given ys d

@@ -13,23 +13,23 @@ use Rattle.segment_set.specs.Effects.{AddsAlone, RefusesFull, Rewrites, ShowsMer
 use Rattle.segment_set.specs.Merged.{Rearranges}
 use Rattle.segment_set.specs.Faithful.{IsFaithful}
 
-module _ (D : ℕ) (told : Type 0) (files new_files : Files) (s : SetData) where
+module _ (D : ℕ) (told : Type 0) (files new_files : Files) (s t : SetData) where
   -- a fault is handed on
-  pub shows_on : (On Om : (Damage → Type 0) → Type 0) → ShowsMergeDamage D told files new_files s On → ((P : Damage → Type 0) → On P → Om P)
-      → ShowsMergeDamage D told files new_files s Om
+  pub shows_on : (On Om : (Damage → Type 0) → Type 0) → ShowsMergeDamage D told files new_files s t On → ((P : Damage → Type 0) → On P → Om P)
+      → ShowsMergeDamage D told files new_files s t Om
   shows_on On Om h carry = record {
     whole = λ is i seen. carry (λ _. ⊥) (h.whole is i seen);
-    shown = carry (IsMergeDamage D s.given s.names s.parts) h.shown;
+    shown = carry (IsMergeDamage D s.given s.names t.names s.parts) h.shown;
     damage = λ is agrees. carry (IsMergeDamageOf new_files s.given) (h.damage is agrees);
     doubled = λ is agrees c reads. carry (IsDoubt s.given (live_in_parts c s.parts)) (h.doubled is agrees c reads);
     evident = carry (IsEvidentIn D s.parts (told × IsFaithful D files s) new_files) h.evident;
   }
 
   -- there is no damage
-  pub shows_none : (On : (Damage → Type 0) → Type 0) → ((P : Damage → Type 0) → On P) → ShowsMergeDamage D told files new_files s On
+  pub shows_none : (On : (Damage → Type 0) → Type 0) → ((P : Damage → Type 0) → On P) → ShowsMergeDamage D told files new_files s t On
   shows_none On none = record {
     whole = λ is i seen. none (λ _. ⊥);
-    shown = none (IsMergeDamage D s.given s.names s.parts);
+    shown = none (IsMergeDamage D s.given s.names t.names s.parts);
     damage = λ is agrees. none (IsMergeDamageOf new_files s.given);
     doubled = λ is agrees c reads. none (IsDoubt s.given (live_in_parts c s.parts));
     evident = none (IsEvidentIn D s.parts (told × IsFaithful D files s) new_files);

@@ -1,5 +1,5 @@
 -- What a damage that a call of a set answers shows: by what it carries alone, and of the files where those are told.
-use Rattle.std.specs.Prelude.{◌≡◌, ◌≤◌, ◌<◌, ◌⊎◌, ℕ, false, List, length, Contains}
+use Rattle.std.specs.Prelude.{◌≡◌, ◌≤◌, ◌<◌, ◌⊎◌, ℕ, true, false, List, length, Contains}
 use Rattle.outer_io.specs.declared.file_name.FileName.TheVariants.{Commit, Segment}
 use Rattle.outer_io.specs.Files.{Files}
 use Rattle.point_codec.specs.Points.{Item}
@@ -22,13 +22,13 @@ IsDoubt given items (Unequal file said found) = (file ≡ Commit) × (said ≡ g
 IsDoubt given items (Doubled doc) = IsCrowded doc items
 IsDoubt given items _ = ⊥
 
--- Merging these segments, or such as the call wrote itself under names that the list didn't have, shows a leaf to be
--- damaged, or live entries to be none of documents.
-pub data IsMergeDamage (D given : ℕ) (names : NameList) (parts : List LiveSegment) (d : Damage) : Type 0 where
-  Read : (p : LiveSegment) → Contains parts p → IsReadDamage D p.head d → IsMergeDamage D given names parts d
-  New : (head : Head) → is_named names.names (Segment head.id) ≡ false → IsReadDamage D head d
-      → IsMergeDamage D given names parts d
-  Doubt : (items : List Item) → IsDoubt given items d → IsMergeDamage D given names parts d
+-- Merging these segments, or such as the call wrote itself under names that the list didn't have and has now, shows a
+-- leaf to be damaged, or live entries to be none of documents.
+pub data IsMergeDamage (D given : ℕ) (names now : NameList) (parts : List LiveSegment) (d : Damage) : Type 0 where
+  Read : (p : LiveSegment) → Contains parts p → IsReadDamage D p.head d → IsMergeDamage D given names now parts d
+  New : (head : Head) → is_named names.names (Segment head.id) ≡ false → is_named now.names (Segment head.id) ≡ true
+      → IsReadDamage D head d → IsMergeDamage D given names now parts d
+  Doubt : (items : List Item) → IsDoubt given items d → IsMergeDamage D given names now parts d
 
 -- and it is true of the files
 abbrev pub IsMergeDamageOf : Files → ℕ → Damage → Type 0

@@ -44,10 +44,10 @@ pub record Rewrites (D : ℕ) (told : Type 0) (files new_files : Files) (s t : S
 
 -- The damage comes of a merge: where the set is seen as an index there is none; a leaf of a segment is damaged, or the
 -- live entries are none of documents.
-pub record ShowsMergeDamage (D : ℕ) (told : Type 0) (files new_files : Files) (s : SetData)
+pub record ShowsMergeDamage (D : ℕ) (told : Type 0) (files new_files : Files) (s t : SetData)
     (On : (Damage → Type 0) → Type 0) : Type 0 where
   pub whole : told → (i : Index) → Sees D files s i → On (λ _. ⊥)
-  pub shown : On (IsMergeDamage D s.given s.names s.parts)
+  pub shown : On (IsMergeDamage D s.given s.names t.names s.parts)
   pub damage : told → Agrees files s.cache → On (IsMergeDamageOf new_files s.given)
   pub doubled : told → Agrees files s.cache → (c : Contents) → AreRead D files c s.parts
       → On (IsDoubt s.given (live_in_parts c s.parts))

@@ -74,7 +74,7 @@ impl<const D: usize> SegmentSet<D> {
         // what an error says
         ensures cause { HasCauseOf Failed (F.faults folder.old) (F.faults folder.new) result }
         ensures damaged { ShowsMergeDamage D (IsTrue F.told) (F.files folder.old) (F.files folder.new) self.old
-            (λ P. OnAddDamage result P) }
+            self.new (λ P. OnAddDamage result P) }
     {
         let count = points.as_slice().len() as u32;
         if self.is_full(count) {
@@ -127,7 +127,7 @@ impl<const D: usize> SegmentSet<D> {
         // what an error says
         ensures cause { HasPageCause (F.faults folder.old) (F.faults folder.new) result }
         ensures damaged { ShowsMergeDamage D (IsTrue F.told) (F.files folder.old) (F.files folder.new) self.old
-            (λ P. OnDamage result P) }
+            self.new (λ P. OnDamage result P) }
     {
         if self.has_room(count) {
             return Ok(());

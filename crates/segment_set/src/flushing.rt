@@ -50,7 +50,7 @@ impl<const D: usize> SegmentSet<D> {
         // what an error says
         ensures cause { HasPageCause (F.faults folder.old) (F.faults folder.new) result }
         ensures damaged { ShowsMergeDamage D (IsTrue F.told) (F.files folder.old) (F.files folder.new) self.old
-            (λ P. OnDamage result P) }
+            self.new (λ P. OnDamage result P) }
     {
         self.merge_settle(rt, alloc, folder, gate)?;
         self.write_buffer(rt, alloc, folder, gate)
@@ -83,7 +83,7 @@ impl<const D: usize> SegmentSet<D> {
         // what an error says
         ensures cause { HasPageCause (F.faults folder.old) (F.faults folder.new) result }
         ensures damaged { ShowsMergeDamage D (IsTrue F.told) (F.files folder.old) (F.files folder.new) self.old
-            (λ P. OnDamage result P) }
+            self.new (λ P. OnDamage result P) }
     {
         while let Some(ids) = self.next_merge(alloc)? {
             self.merge(rt, alloc, folder, ids.as_slice(), gate)?;

@@ -68,7 +68,7 @@ impl<const D: usize> SegmentSet<D> {
         // what an error says
         ensures cause { HasPageCause (F.faults folder.old) (F.faults folder.new) result }
         ensures damaged { ShowsMergeDamage D (IsTrue F.told) (F.files folder.old) (F.files folder.new) self.old
-            (λ P. OnDamage result P) }
+            self.new (λ P. OnDamage result P) }
     {
         let ids = self.unpinned(alloc)?;
         if self.is_settled(ids.as_slice()) {
@@ -108,7 +108,7 @@ impl<const D: usize> SegmentSet<D> {
         // what an error says
         ensures cause { HasCauseOf begin.Failed (F.faults folder.old) (F.faults folder.new) result }
         ensures damaged { ShowsMergeDamage D (IsTrue F.told) (F.files folder.old) (F.files folder.new) self.old
-            (λ P. OnBeginDamage result P) }
+            self.new (λ P. OnBeginDamage result P) }
     {
         if self.begun.is_some() {
             return Err(BeginFault::Begun);
@@ -219,7 +219,7 @@ impl<const D: usize> SegmentSet<D> {
         ensures refused { OnErr result (IsAsBefore self.old self.new) }
         ensures cause { HasPageCause (F.faults folder.old) (F.faults folder.new) result }
         ensures damaged { ShowsMergeDamage D (IsTrue F.told) (F.files folder.old) (F.files folder.new) self.old
-            (λ P. OnDamage result P) }
+            self.new (λ P. OnDamage result P) }
     {
         let plan = self.plan();
         merge(

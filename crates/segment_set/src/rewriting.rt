@@ -119,7 +119,8 @@ pub(crate) fn gathered<const D: usize, R: Threads + Sync, F: Pages, G: Gate>(
         → (next : ℕ) → MakeDocs next (live_in_parts c (parts_among ids.now segments.now))
         → length (live_in_parts c (parts_among ids.now segments.now)) ≤ plan.now.given
         → NotDamaged result }
-    ensures shown { (names : NameList) → OnDamage result (IsMergeDamage D plan.now.given names segments.now) }
+    ensures shown { (names now : NameList)
+        → OnDamage result (IsMergeDamage D plan.now.given names now segments.now) }
     ensures damage { IsTrue F.told → Agrees (F.files folder.old) cache.old
         → OnDamage result (IsMergeDamageOf (F.files folder.new) plan.now.given) }
     ensures doubled { IsTrue F.told → Agrees (F.files folder.old) cache.old → (c : Contents)
@@ -227,7 +228,7 @@ pub(crate) fn merge<const D: usize, R: Threads + Sync, F: Folder, G: Gate>(
         → (next : ℕ) → MakeDocs next (live_in_parts c (parts_among ids.now segments.old))
         → length (live_in_parts c (parts_among ids.now segments.old)) ≤ plan.now.given
         → NotDamaged result }
-    ensures shown { OnDamage result (IsMergeDamage D plan.now.given names.old segments.old) }
+    ensures shown { OnDamage result (IsMergeDamage D plan.now.given names.old names.new segments.old) }
     ensures damage { IsTrue F.told → Agrees (F.files folder.old) cache.old
         → OnDamage result (IsMergeDamageOf (F.files folder.new) plan.now.given) }
     ensures doubled { IsTrue F.told → Agrees (F.files folder.old) cache.old → (c : Contents)

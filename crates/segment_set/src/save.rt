@@ -71,7 +71,7 @@ impl<const D: usize> SegmentSet<D> {
         // what an error says
         ensures cause { HasPageCause (F.faults folder.old) (F.faults folder.new) result }
         ensures damaged { ShowsMergeDamage D (IsTrue F.told) (F.files folder.old) (F.files folder.new) self.old
-            (λ P. OnDamage result P) }
+            self.new (λ P. OnDamage result P) }
     {
         self.flush(rt, alloc, folder, gate)?;
         self.list_segments(alloc, folder, last)

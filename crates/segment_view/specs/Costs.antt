@@ -1,10 +1,14 @@
 -- What reading of segments costs: sums over the trees of their indexes.
-use Rattle.std.specs.Prelude.{ℕ, ◌+◌, ◌≡◌, Bool, List, [], ◌∷◌, sum_by, ℤ}
+use Rattle.std.specs.Prelude.{ℕ, ◌+◌, ◌≡◌, ◌≤◌, Bool, List, [], ◌∷◌, sum_by, All, ℤ}
 use Rattle.point_codec.specs.Points.{Region}
+use Rattle.inner_pack.specs.Places.{front}
 use Rattle.inner_pack.specs.Trees.{IndexTree}
 use Rattle.inner_pack.specs.Bodies.{HasTree}
+use Rattle.page_cache.specs.declared.cache.PageCache.{PageCache}
 use Rattle.segment_file.specs.Heads.{Head, count_of}
 use Rattle.bkd_reader.specs.Counts.{tested_entries, touched_leaves}
+use Rattle.bkd_reader.specs.Unread.{AreKept, IsTouched}
+use Rattle.segment_view.specs.LiveSegments.{LiveSegment, heads_of}
 
 -- all leaves
 abbrev pub leaves_in : List Head → ℕ
@@ -24,3 +28,20 @@ AreTested D crosses heads n = AreCounted D (λ h t. tested_entries crosses (coun
 -- the leaves whose own cell is not outside
 abbrev pub AreTouched : (D : ℕ) → (has : List ℤ → Bool) → (crosses : Region → Bool) → List Head → ℕ → Type 0
 AreTouched D has crosses heads n = AreCounted D (λ h t. touched_leaves has crosses t) heads n
+
+-- the page of each of these leaves is kept, of each of the segments
+abbrev pub HasTouchedKept : (D : ℕ) → PageCache → (has : List ℤ → Bool) → (crosses : Region → Bool) → LiveSegment
+    → Type 0
+HasTouchedKept D cache has crosses p =
+    (root : Region) × (t : IndexTree) × HasTree D p.head.index root t
+    × AreKept cache p.head (IsTouched has crosses) front t
+
+abbrev pub AreTouchedKept : (D : ℕ) → PageCache → (has : List ℤ → Bool) → (crosses : Region → Bool) → List LiveSegment
+    → Type 0
+AreTouchedKept D cache has crosses parts = All (HasTouchedKept D cache has crosses) parts
+
+-- no more pages are read than there are such leaves, and none where the page of each is kept
+pub record ReadsTouched (D : ℕ) (has : List ℤ → Bool) (crosses : Region → Bool) (parts : List LiveSegment)
+    (cache : PageCache) (before now : ℕ) : Type 0 where
+  pub most : (n : ℕ) → AreTouched D has crosses (heads_of parts) n → now ≤ before + n
+  pub none : AreTouchedKept D cache has crosses parts → now ≡ before

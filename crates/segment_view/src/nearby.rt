@@ -3,13 +3,14 @@
 ghost use Rattle.std.specs.Prelude.{◌≡◌, ◌≤◌, ◌+◌, ◌++◌, ℕ, List, All, IsTrue, IfOk};
 ghost use Rattle.point_codec.specs.declared.entries.Near.{Near};
 ghost use Rattle.point_codec.specs.Seen.{items_of};
+ghost use Rattle.inner_pack.specs.Trees.{IndexTree};
 ghost use Rattle.page_cache.specs.Cache.{Agrees};
 ghost use Rattle.page_cache.specs.Causes.{HasPageCause};
 ghost use Rattle.page_cache.specs.Evidence.{OnDamage, NotDamaged};
 ghost use Rattle.segment_file.specs.Heads.{IsHead};
 ghost use Rattle.segment_file.specs.Damages.{IsLeafDamageOf};
 ghost use Rattle.documents.specs.NearestEntries.{IsNearest, nears_of};
-ghost use Rattle.nearest_query.specs.Segments.{AreNearLeaves, bound_of};
+ghost use Rattle.nearest_query.specs.Segments.{AreLeavesKept, AreNearLeaves, HaveTrees, bound_of};
 ghost use Rattle.segment_view.specs.LiveSegments.{Contents, AreRead, heads_of, ids_of, live_in_parts};
 ghost use Rattle.segment_view.specs.Calm.{IsCalm};
 ghost use Rattle.segment_view.specs.Damages.{IsPartDamage};
@@ -48,6 +49,9 @@ pub fn nearest<const D: usize, F: Pages>(
         → IsNearest k (nears_of at.now.c (live_in_parts c segments.now ++ items_of buffer.now)) found
         → (leaves : ℕ) → AreNearLeaves D at.now.c (bound_of k found) (heads_of segments.now) leaves
         → F.reads folder.new ≤ F.reads folder.old + leaves }
+    // where the page of each leaf is kept nothing is read
+    ensures kept { (trees : ℕ → IndexTree) → HaveTrees D (heads_of segments.now) trees
+        → AreLeavesKept cache.old (heads_of segments.now) trees → F.reads folder.new ≡ F.reads folder.old }
     ensures calm { IsCalm F.told (F.files folder.old) (F.files folder.new) cache.old cache.new (ids_of segments.now) }
     // What an error says.
     ensures cause { HasPageCause (F.faults folder.old) (F.faults folder.new) result }

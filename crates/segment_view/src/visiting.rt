@@ -2,15 +2,21 @@
 
 ghost use Rattle.std.specs.Prelude.{◌≡◌, ◌≤◌, ◌+◌, ◌*◌, ◌++◌, ℕ, [], ◌∷◌, length, IsTrue, IfOk, OnOk};
 ghost use Rattle.std.specs.List.Sorted.{IsStrictlyIncreasing};
+ghost use Rattle.point_codec.specs.Points.{Region};
 ghost use Rattle.point_codec.specs.Seen.{items_of};
+ghost use Rattle.inner_pack.specs.Places.{front};
+ghost use Rattle.inner_pack.specs.Trees.{IndexTree};
+ghost use Rattle.inner_pack.specs.Bodies.{HasTree};
 ghost use Rattle.page_cache.specs.Cache.{Agrees};
 ghost use Rattle.page_cache.specs.Causes.{HasPageCause};
 ghost use Rattle.page_cache.specs.Evidence.{OnDamage, NotDamaged};
+ghost use Rattle.page_cache.specs.Reading.{ReadsNothing};
 ghost use Rattle.segment_file.specs.Damages.{IsLeafDamageOf};
+ghost use Rattle.bkd_reader.specs.Unread.{AreKept, IsTouched};
 ghost use Rattle.documents.specs.Entries.{numbers_found};
 ghost use Rattle.segment_view.specs.LiveSegments.{Contents, IsRead, AreRead, live_segment, heads_of, ids_of};
 ghost use Rattle.segment_view.specs.LiveSegments.{live_in_parts};
-ghost use Rattle.segment_view.specs.Costs.{leaves_in, AreTested, AreTouched};
+ghost use Rattle.segment_view.specs.Costs.{leaves_in, AreTested, AreTouched, AreTouchedKept, ReadsTouched};
 ghost use Rattle.segment_view.specs.Found.{AreFound};
 ghost use Rattle.segment_view.specs.Calm.{IsCalm};
 ghost use Rattle.segment_view.specs.Damages.{IsPartDamage, IsReadDamage};
@@ -30,8 +36,8 @@ use std::alloc::{AllocError, Global};
 /// ascending.
 ///
 /// Only entries of the buffer and of leaves whose own cell the shape crosses are tested, only leaves whose own cell
-/// is not outside are read, and a kept page is found without a read. The answer may be a damage of a leaf that had to
-/// be read, Failed and Memory.
+/// is not outside are read, and where their pages are all kept nothing is read. The answer may be a damage of a leaf
+/// that had to be read, Failed and Memory.
 pub fn visit<const D: usize, S: Shape<D>, F: Pages>(
     alloc: Global,
     segments: &Segments<D>,
@@ -48,8 +54,8 @@ pub fn visit<const D: usize, S: Shape<D>, F: Pages>(
     ensures tests { (n : ℕ) → AreTested D (S.crosses shape.old) (heads_of segments.now) n
         → S.tests shape.new ≤ S.tests shape.old + n + length buffer.now }
     ensures compares { S.compares shape.new ≤ S.compares shape.old + 2 * leaves_in (heads_of segments.now) }
-    ensures reads { (n : ℕ) → AreTouched D (S.has shape.old) (S.crosses shape.old) (heads_of segments.now) n
-        → F.reads folder.new ≤ F.reads folder.old + n }
+    ensures reads { ReadsTouched D (S.has shape.old) (S.crosses shape.old) segments.now cache.old
+        (F.reads folder.old) (F.reads folder.new) }
     // What stays.
     ensures has { S.has shape.new ≡ S.has shape.old }
     ensures crosses { S.crosses shape.new ≡ S.crosses shape.old }
@@ -86,6 +92,8 @@ fn visit_segments<const D: usize, S: Shape<D>, F: Pages>(
     ensures compares { S.compares shape.new ≤ S.compares shape.old + 2 * leaves_in (heads_of segments.now) }
     ensures reads { (n : ℕ) → AreTouched D (S.has shape.old) (S.crosses shape.old) (heads_of segments.now) n
         → F.reads folder.new ≤ F.reads folder.old + n }
+    ensures kept { AreTouchedKept D cache.old (S.has shape.old) (S.crosses shape.old) segments.now
+        → ReadsNothing (F.reads folder.old) (F.reads folder.new) cache.old cache.new result }
     ensures has { S.has shape.new ≡ S.has shape.old }
     ensures crosses { S.crosses shape.new ≡ S.crosses shape.old }
     ensures calm { IsCalm F.told (F.files folder.old) (F.files folder.new) cache.old cache.new (ids_of segments.now) }
@@ -123,6 +131,9 @@ fn visit_one<const D: usize, S: Shape<D>, F: Pages>(
     ensures compares { S.compares shape.new ≤ S.compares shape.old + 2 * head.now.index.leaves }
     ensures reads { (n : ℕ) → AreTouched D (S.has shape.old) (S.crosses shape.old) (head.now ∷ []) n
         → F.reads folder.new ≤ F.reads folder.old + n }
+    ensures kept { (root : Region) (t : IndexTree) → HasTree D head.now.index root t
+        → AreKept cache.old head.now (IsTouched (S.has shape.old) (S.crosses shape.old)) front t
+        → ReadsNothing (F.reads folder.old) (F.reads folder.new) cache.old cache.new result }
     ensures has { S.has shape.new ≡ S.has shape.old }
     ensures crosses { S.crosses shape.new ≡ S.crosses shape.old }
     ensures calm { IsCalm F.told (F.files folder.old) (F.files folder.new) cache.old cache.new (head.now.id ∷ []) }

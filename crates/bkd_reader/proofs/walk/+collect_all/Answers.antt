@@ -1,4 +1,5 @@
 use Rattle.std.proofs.Common.{◌+◌, Err, true, sym, subst}
+use Rattle.std.proofs.lemmas.Result.{err_from_is_err_and}
 use Rattle.std.specs.Prelude.{OnOk}
 use Rattle.outer_io.specs.Files.{bytes_of}
 use Rattle.outer_io.specs.declared.file_name.FileName.TheVariants.{Segment}
@@ -9,6 +10,9 @@ use Rattle.segment_file.specs.Segments.{HoldsTree}
 use Rattle.segment_file.specs.Damages.{IsLeafDamage}
 use Rattle.bkd_reader.specs.Hits.{AreHits, Appends}
 use Rattle.bkd_reader.proofs.Trees.{handed_on, left_damage, right_damage, held, left_root, right_root, children_all, children_hits}
+use Rattle.bkd_reader.specs.Unread.{IsAny}
+use Rattle.page_cache.proofs.Unread.{reads_failed, reads_then}
+use Rattle.bkd_reader.proofs.Unread.{children_kept, first_kept, kept_on}
 use Rattle.bkd_reader.proofs.walk.+collect_all.Goals as goal
 use Rattle.segment_file.proofs.Subtrees.{on_ok}
 
@@ -69,3 +73,25 @@ returns-in_ok-collect_all-in-Some-clause-whole g t c = λ told agrees first s pa
 
 pub returns-in-None-clause-hits : goal.returns-in-None-clause-hits
 returns-in-None-clause-hits g t c = λ told agrees first s path t' root has all. c.collect_leaf.ensures.hits told agrees first s path t' root.is has all
+
+-- ---- all pages are kept
+
+pub returns-in_err-collect_all-in-Some-clause-kept : goal.returns-in_err-collect_all-in-Some-clause-kept
+returns-in_err-collect_all-in-Some-clause-kept g t c = λ first s path t' is kept.
+    let k = c.in-Some.ensures.some first s path t' is in
+    let each = children_kept c.args.cache.now c.args.head.now IsAny c.in-Some.left c.in-Some.right first s path t' k kept in
+    let p = err_from_is_err_and c.from_residual.result c.from_residual.ensures.1 in
+    reads_failed _ _ _ _ _ _ p.1 (c.in_err-collect_all-in-Some.ensures.kept first s _ k.l k.left_is each.0).reads
+
+pub returns-in_ok-collect_all-in-Some-clause-kept : goal.returns-in_ok-collect_all-in-Some-clause-kept
+returns-in_ok-collect_all-in-Some-clause-kept g t c = λ first s path t' is kept.
+    let k = c.in-Some.ensures.some first s path t' is in
+    let each = children_kept c.args.cache.now c.args.head.now IsAny c.in-Some.left c.in-Some.right first s path t' k kept in
+    let front = c.in_ok-collect_all-in-Some.ensures.kept first s _ k.l k.left_is each.0 in
+    reads_then _ _ _ _ _ _ c.collect_all-in-Some.result front.reads front.kept
+    (c.collect_all-in-Some.ensures.kept (first + leaf_count k.l) (right_begin s k.l k.r) _ k.r k.right_is
+    (kept_on c.args.cache.now c.collect_all.new.cache c.args.head.now IsAny (right_begin s k.l k.r) k.r front.kept each.1))
+
+pub returns-in-None-clause-kept : goal.returns-in-None-clause-kept
+returns-in-None-clause-kept g t c = λ first s path t' is kept.
+    c.collect_leaf.ensures.kept first s path t' is (first_kept c.args.cache.now c.args.head.now s t' kept)

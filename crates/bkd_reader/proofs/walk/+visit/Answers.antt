@@ -1,12 +1,14 @@
 use Rattle.std.proofs.Common.{rules, ◌≡◌, ◌≤◌, ◌+◌, Err, true, false, [], append-nil, sym, subst, ap, refl, ◌∙◌, arith}
+use Rattle.std.proofs.lemmas.Result.{err_from_is_err_and}
 use Rattle.std.specs.Prelude.{OnOk}
 use Rattle.outer_io.specs.Files.{bytes_of}
 use Rattle.outer_io.specs.declared.file_name.FileName.TheVariants.{Segment}
 use Rattle.cell_relate.specs.Relations.{AllAnswer}
+use Rattle.cell_relate.proofs.RelationLemmas.{is_outside-crosses}
 use Rattle.inner_pack.specs.Trees.{cell_of, leaf_count}
 use Rattle.inner_pack.specs.Bodies.{right_begin}
-use Rattle.page_cache.specs.Cache.{Agrees}
-use Rattle.segment_file.specs.Heads.{count_of}
+use Rattle.page_cache.specs.Cache.{Agrees, IsKept}
+use Rattle.segment_file.specs.Heads.{count_of, page_of}
 use Rattle.segment_file.specs.Segments.{HoldsTree}
 use Rattle.segment_file.specs.Damages.{IsLeafDamage}
 use Rattle.bkd_reader.specs.Counts.{tested_entries, touched_leaves}
@@ -15,6 +17,9 @@ use Rattle.bkd_reader.proofs.HitLemmas.{begins_on}
 use Rattle.bkd_reader.proofs.Cells.{touched_all, crossed_touched}
 use Rattle.bkd_reader.proofs.Trees.{handed_on, count_at, none_below}
 use Rattle.bkd_reader.proofs.Trees.{left_damage, right_damage, held, left_root, right_root, children_hits}
+use Rattle.bkd_reader.specs.Unread.{AreKept, IsTouched}
+use Rattle.page_cache.proofs.Unread.{reads_failed, reads_then}
+use Rattle.bkd_reader.proofs.Unread.{any_kept, children_kept, kept_on, touched_as}
 use Rattle.bkd_reader.proofs.walk.+visit.Goals as goal
 use Rattle.segment_file.proofs.Subtrees.{some_leaf, only_leaf, on_ok}
 
@@ -238,3 +243,52 @@ returns-in-None-clause-reads g t c = λ first s path t' root.
     crossed in
     let most = c.test_leaf.ensures.reads in
     omega (arith, it, most)
+
+-- ---- the pages of all leaves that aren't outside are kept
+
+pub returns-in-Outside-clause-kept : goal.returns-in-Outside-clause-kept
+returns-in-Outside-clause-kept g t c = λ first s path t' root kept. record { reads = refl; kept = λ i n k. k }
+
+pub returns-in-Inside-clause-kept : goal.returns-in-Inside-clause-kept
+returns-in-Inside-clause-kept g t c = λ first s path t' root kept.
+    let all = subst (AllAnswer (g.S.Shape.has c.args.shape.now) true) (c.cell.ensures first s path t' root.is) c.in-Inside.ensures.answer.all in
+    c.collect_all.ensures.kept first s path t' root.is
+    (any_kept g.row.D (g.S.Shape.has c.args.shape.now) (g.S.Shape.crosses c.args.shape.now) c.args.cache.now c.args.head.now path s t' root.cells all kept)
+
+pub returns-in_err-visit-in-Some-clause-kept : goal.returns-in_err-visit-in-Some-clause-kept
+returns-in_err-visit-in-Some-clause-kept g t c = λ first s path t' root kept.
+    let k = c.in-Some.ensures.some first s path t' root.is in
+    let each = children_kept c.args.cache.now c.args.head.now (IsTouched (g.S.Shape.has c.args.shape.now) (g.S.Shape.crosses c.args.shape.now)) c.in-Some.left
+    c.in-Some.right first s path t' k kept in
+    let p = err_from_is_err_and c.from_residual.result c.from_residual.ensures.1 in
+    reads_failed _ _ _ _ _ _ p.1
+    (c.in_err-visit-in-Some.ensures.kept first s _ k.l (left_root c.in-Some.left c.in-Some.right first s path t' k root.cells)
+    (touched_as c.args.cache.now c.args.head.now _ _ _ _ s k.l c.compare.ensures.has c.compare.ensures.crosses each.0)).reads
+
+pub returns-in_ok-visit-in-Some-clause-kept : goal.returns-in_ok-visit-in-Some-clause-kept
+returns-in_ok-visit-in-Some-clause-kept g t c = λ first s path t' root kept.
+    let k = c.in-Some.ensures.some first s path t' root.is in
+    let each = children_kept c.args.cache.now c.args.head.now (IsTouched (g.S.Shape.has c.args.shape.now) (g.S.Shape.crosses c.args.shape.now)) c.in-Some.left
+    c.in-Some.right first s path t' k kept in
+    let front = c.in_ok-visit-in-Some.ensures.kept first s _ k.l (left_root c.in-Some.left c.in-Some.right first s path t' k root.cells)
+    (touched_as c.args.cache.now c.args.head.now _ _ _ _ s k.l c.compare.ensures.has c.compare.ensures.crosses each.0) in
+    reads_then _ _ _ _ _ _ c.visit-in-Some.result front.reads front.kept
+    (c.visit-in-Some.ensures.kept (first + leaf_count k.l) (right_begin s k.l k.r) _ k.r
+    (right_root c.in-Some.left c.in-Some.right first s path t' k root.cells)
+    (touched_as c.visit.new.cache c.args.head.now _ _ _ _ (right_begin s k.l k.r) k.r (c.visit.ensures.has ∙ c.compare.ensures.has)
+    (c.visit.ensures.crosses ∙ c.compare.ensures.crosses)
+    (kept_on c.args.cache.now c.visit.new.cache c.args.head.now (IsTouched (g.S.Shape.has c.args.shape.now) (g.S.Shape.crosses c.args.shape.now))
+    (right_begin s k.l k.r) k.r front.kept each.1)))
+
+pub returns-in-None-clause-kept : goal.returns-in-None-clause-kept
+returns-in-None-clause-kept g t c = λ first s path t' root kept.
+    let one : c.args.node.now.leaves ≡ 1 = search rules in
+    let crossed = subst (λ r. g.S.Shape.crosses c.args.shape.now r ≡ true) (c.cell.ensures first s path t' root.is) c.in-Crosses.ensures.answer in
+    let here = only_leaf
+    (λ u. g.S.Shape.crosses c.args.shape.now (cell_of path u) ≡ true
+    → AreKept c.args.cache.now c.args.head.now (IsTouched (g.S.Shape.has c.args.shape.now) (g.S.Shape.crosses c.args.shape.now)) s u
+    → IsKept c.args.cache.now c.args.head.now.id (page_of c.args.head.now s.page)) t'
+    (count_at c.args.node.now first s path t' root.is ∙ one)
+    (λ len own e k. k (is_outside-crosses (g.S.Shape.has c.args.shape.now) (g.S.Shape.crosses c.args.shape.now) own e))
+    crossed kept in
+    c.test_leaf.ensures.kept first s path t' root.is here

@@ -39,8 +39,9 @@ returns-clause-compares g c = λ root t h.
 
 pub returns-clause-reads : goal.returns-clause-reads
 returns-clause-reads g c = λ root t h.
-    c.visit.ensures.reads 0 front root t
-    (root_of c.walk.result c.args.head.now.index root t h (c.walk.ensures root t (subst (λ i. HasTree g.row.D i root t) (sym c.index.ensures.value) h)))
+    let at =
+    root_of c.walk.result c.args.head.now.index root t h (c.walk.ensures root t (subst (λ i. HasTree g.row.D i root t) (sym c.index.ensures.value) h)) in
+    record { most = c.visit.ensures.reads 0 front root t at; none = c.visit.ensures.kept 0 front root t at }
 
 pub returns-clause-shown : goal.returns-clause-shown
 returns-clause-shown g c = λ root t h.

@@ -5,6 +5,7 @@ use Rattle.documents.specs.NearestEntries.{nears_of}
 use Rattle.nearest_query.specs.Best.{AreAdded}
 use Rattle.nearest_query.specs.Segments.{live_items}
 use Rattle.nearest_query.proofs.Placed.{one_holding, holding_page}
+use Rattle.page_cache.proofs.Unread.{reads_failed}
 use Rattle.nearest_query.proofs.leaves.open_leaf.Goals as goal
 
 pub returns-clause-found : goal.returns-clause-found
@@ -34,3 +35,26 @@ returns-in_err-place-clause-shown g c = λ first s path t is.
 
 pub returns-in_default-clause-shown : goal.returns-in_default-clause-shown
 returns-in_default-clause-shown g c = λ first s path t is. c.bad_leaf.ensures.shown first s path t is (c.in_ok-place.ensures.place first s path t is)
+
+-- ---- its page is kept
+
+pub returns-in_err-place-clause-kept : goal.returns-in_err-place-clause-kept
+returns-in_err-place-clause-kept g c = λ first s path t is kept.
+    let hit = c.in_err-place.ensures.hit first s path t is kept in
+    absurd (let no_ok = hit.0 in cc)
+
+pub returns-in_default-clause-kept : goal.returns-in_default-clause-kept
+returns-in_default-clause-kept g c = λ first s path t is kept.
+    let hit = c.in_ok-place.ensures.hit first s path t is kept in
+    record { reads = hit.1; kept = tt }
+
+pub returns-in_err-offer_leaf-clause-kept : goal.returns-in_err-offer_leaf-clause-kept
+returns-in_err-offer_leaf-clause-kept g c = λ first s path t is kept.
+    let hit = c.in_ok-place.ensures.hit first s path t is kept in
+    let p = err_from_is_err_and c.from_residual-in_err-offer_leaf.result c.from_residual-in_err-offer_leaf.ensures.1 in
+    reads_failed _ _ _ _ _ _ p.1 hit.1
+
+pub returns-clause-kept : goal.returns-clause-kept
+returns-clause-kept g c = λ first s path t is kept.
+    let hit = c.in_ok-place.ensures.hit first s path t is kept in
+    record { reads = hit.1; kept = hit.2 }

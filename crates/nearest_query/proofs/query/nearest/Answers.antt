@@ -135,3 +135,20 @@ returns-clause-reading g c =
       agrees = h.agrees;
       cause = record { later = h.cause.later; fine = h.cause.fine; failed = λ e. absurd cc };
     }
+
+-- ---- the pages of all leaves are kept
+
+pub returns-in_err-offer_all-clause-kept : goal.returns-in_err-offer_all-clause-kept
+returns-in_err-offer_all-clause-kept g c = λ trees have kept. refl
+
+pub returns-in_err-push_roots-clause-kept : goal.returns-in_err-push_roots-clause-kept
+returns-in_err-push_roots-clause-kept g c = λ trees have kept. refl
+
+pub returns-in_err-search-clause-kept : goal.returns-in_err-search-clause-kept
+returns-in_err-search-clause-kept g c = λ trees have kept. (c.in_err-search.ensures.kept trees (c.in_ok-push_roots.ensures.parts trees have) kept).reads
+
+pub returns-in_err-found-clause-kept : goal.returns-in_err-found-clause-kept
+returns-in_err-found-clause-kept g c = λ trees have kept. (c.in_ok-search.ensures.kept trees (c.in_ok-push_roots.ensures.parts trees have) kept).reads
+
+pub returns-clause-kept : goal.returns-clause-kept
+returns-clause-kept g c = λ trees have kept. (c.in_ok-search.ensures.kept trees (c.in_ok-push_roots.ensures.parts trees have) kept).reads

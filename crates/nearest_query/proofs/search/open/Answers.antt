@@ -14,6 +14,11 @@ use Rattle.point_codec.specs.Points.{Region}
 use Rattle.nearest_query.specs.Search.{IsNodeBelow}
 use Rattle.nearest_query.proofs.Parts.{parts_fork, leaf_shown}
 use Rattle.std.proofs.lemmas.List.Elements.{All-head, All-tail}
+use Rattle.std.proofs.lemmas.Result.{err_from_is_err_and}
+use Rattle.page_cache.specs.Cache.{IsKept}
+use Rattle.page_cache.proofs.Unread.{reads_failed}
+use Rattle.segment_file.specs.Heads.{Head, page_of}
+use Rattle.nearest_query.proofs.Unread.{leaf_kept}
 use Rattle.nearest_query.proofs.search.open.Goals as goal
 
 pub returns-in_err-fork-in-Some-clause-reads : goal.returns-in_err-fork-in-Some-clause-reads
@@ -134,3 +139,22 @@ pub returns-in-None-clause-parts : goal.returns-in-None-clause-parts
 returns-in-None-clause-parts g c = λ trees all.
     always (All (IsNodeBelow c.args.heads.now trees c.args.frontier.now.nodes) c.args.frontier.now.turns) c.open_leaf.result
     (All-tail (IsNodeBelow c.args.heads.now trees c.args.frontier.now.nodes) c.args.next c.args.frontier.now.turns all)
+
+-- ---- the pages of all leaves are kept
+
+pub returns-in_err-fork-in-Some-clause-kept : goal.returns-in_err-fork-in-Some-clause-kept
+returns-in_err-fork-in-Some-clause-kept g c = λ trees n kept.
+    let p = err_from_is_err_and c.from_residual.result c.from_residual.ensures.1 in
+    reads_failed _ _ _ _ _ _ p.1 refl
+
+pub returns-in_ok-fork-in-Some-clause-kept : goal.returns-in_ok-fork-in-Some-clause-kept
+returns-in_ok-fork-in-Some-clause-kept g c = λ trees n kept. record { reads = refl; kept = λ i m k. k }
+
+pub returns-in-None-clause-kept : goal.returns-in-None-clause-kept
+returns-in-None-clause-kept g c = λ trees n kept.
+    let head : get_or c.args.heads.now c.args.next.segment no_head ≡ c.index-heads-next.result =
+    read_any c.args.heads.now c.args.next.segment c.index-heads-next.result no_head c.requires.inside.inside c.index-heads-next.is in
+    let same = c.node-in-None.ensures ∙ n.stands.is c.node-in-None.result.now in
+    c.open_leaf.ensures.kept c.args.next.first n.spot n.path n.tree (subst (λ m. IsAt m c.args.next.first n.spot n.path n.tree) (sym same) n.is)
+    (subst (λ (h : Head). IsKept c.args.cache.now h.id (page_of h n.spot.page)) head
+    (leaf_kept c.args.cache.now c.args.heads.now trees c.args.frontier.now.nodes c.args.next n kept))

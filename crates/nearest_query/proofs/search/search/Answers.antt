@@ -1,5 +1,5 @@
 use Rattle.std.proofs.lemmas.Result.{err_from_is_err_and}
-use Rattle.std.proofs.Common.{◌∷◌, ◌≤◌, inr, ⊎_elim, length, subst, sym, ◌∙◌, arith, rules, Err}
+use Rattle.std.proofs.Common.{◌∷◌, ◌≤◌, inl, inr, ⊎_elim, length, refl, subst, sym, ◌∙◌, arith, rules, Err}
 use Rattle.std.specs.Prelude.{All}
 use Rattle.std.proofs.lemmas.List.Sorted.{All-permutation, sum_by_popped}
 use Rattle.std.proofs.lemmas.List.Elements.{All-cons, All-head, All-tail}
@@ -12,6 +12,8 @@ use Rattle.nearest_query.specs.Fronts.{sum_below, work}
 use Rattle.nearest_query.specs.Search.{IsInside, IsNodeBelow, IsSought, one_within}
 use Rattle.nearest_query.proofs.Steps.{sought_moved}
 use Rattle.nearest_query.proofs.Ends.{stop_nearest, end_nearest, next_node, next_within}
+use Rattle.page_cache.proofs.Unread.{reads_failed}
+use Rattle.nearest_query.proofs.Unread.{leaves_still}
 use Rattle.nearest_query.proofs.search.search.Goals as goal
 
 pub returns-then-ends_before-clause-answer : goal.returns-then-ends_before-clause-answer
@@ -48,6 +50,20 @@ open-requires g c = (
   ),
 )
 
+pub loop-next-init : goal.loop-next-init
+loop-next-init g c = record {
+  room = refl;
+  files = λ told. refl;
+  faults = refl;
+  others = λ i h. inl h;
+  agrees = λ told a. a;
+  inside = c.requires.inside;
+  parts = λ trees all. all;
+  kept = λ trees all kept. (refl, λ i m k. k);
+  sought = λ told a w all over s. s;
+  reads = λ told a w all nearest over s is. omega arith;
+}
+
 pub loop-next-smaller : goal.loop-next-smaller
 loop-next-smaller g c =
     let p = sum_by_popped work c.in-Some.next c.loop-next.frontier.turns c.pop.new.self.turns c.in-Some.ensures.some in
@@ -72,6 +88,15 @@ loop-next-preserved g c = record {
       (subst (λ ns. All (IsNodeBelow c.args.heads.now trees ns) (c.in-Some.next ∷ c.pop.new.self.turns)) (sym c.in-Some.ensures.nodes)
       (All-permutation (IsNodeBelow c.args.heads.now trees c.loop-next.frontier.nodes) c.loop-next.frontier.turns (c.in-Some.next ∷ c.pop.new.self.turns)
       c.in-Some.ensures.some (c.loop-next.invariant.parts trees all)));
+  kept = λ trees all kept.
+      let before = c.loop-next.invariant.kept trees all kept in
+      let now = c.in_ok-open.ensures.kept trees
+      (subst (λ ns. IsNodeBelow c.args.heads.now trees ns c.in-Some.next) (sym c.in-Some.ensures.nodes)
+      (All-head (IsNodeBelow c.args.heads.now trees c.loop-next.frontier.nodes) c.in-Some.next c.pop.new.self.turns
+      (All-permutation (IsNodeBelow c.args.heads.now trees c.loop-next.frontier.nodes) c.loop-next.frontier.turns (c.in-Some.next ∷ c.pop.new.self.turns)
+      c.in-Some.ensures.some (c.loop-next.invariant.parts trees all))))
+      (leaves_still c.args.cache.now c.loop-next.cache c.args.heads.now trees before.1 kept) in
+      (now.reads ∙ before.0, λ i m k. now.kept i m (before.1 i m k));
   sought = λ told a w all over s.
       c.in_ok-open.ensures.sought told (subst (λ f. Agrees f c.loop-next.cache) (sym (c.loop-next.invariant.files told)) (c.loop-next.invariant.agrees told a))
       w all
@@ -159,3 +184,25 @@ returns-in_err-open-clause-shown g c = λ trees all.
     c.in-Some.ensures.some (c.loop-next.invariant.parts trees all)))) in
     let p = err_from_is_err_and c.from_residual.result c.from_residual.ensures.1 in
     rw (p.1, p.2) h
+
+pub returns-then-ends_before-clause-kept : goal.returns-then-ends_before-clause-kept
+returns-then-ends_before-clause-kept g c = λ trees all kept.
+    let before = c.loop-next.invariant.kept trees all kept in
+    record { reads = before.0; kept = before.1 }
+
+pub returns-in_err-open-clause-kept : goal.returns-in_err-open-clause-kept
+returns-in_err-open-clause-kept g c = λ trees all kept.
+    let before = c.loop-next.invariant.kept trees all kept in
+    let now = c.in_err-open.ensures.kept trees
+    (subst (λ ns. IsNodeBelow c.args.heads.now trees ns c.in-Some.next) (sym c.in-Some.ensures.nodes)
+    (All-head (IsNodeBelow c.args.heads.now trees c.loop-next.frontier.nodes) c.in-Some.next c.pop.new.self.turns
+    (All-permutation (IsNodeBelow c.args.heads.now trees c.loop-next.frontier.nodes) c.loop-next.frontier.turns (c.in-Some.next ∷ c.pop.new.self.turns)
+    c.in-Some.ensures.some (c.loop-next.invariant.parts trees all))))
+    (leaves_still c.args.cache.now c.loop-next.cache c.args.heads.now trees before.1 kept) in
+    let p = err_from_is_err_and c.from_residual.result c.from_residual.ensures.1 in
+    reads_failed _ _ _ _ _ _ p.1 (now.reads ∙ before.0)
+
+pub returns-clause-kept : goal.returns-clause-kept
+returns-clause-kept g c = λ trees all kept.
+    let before = c.loop-next.invariant.kept trees all kept in
+    record { reads = before.0; kept = before.1 }

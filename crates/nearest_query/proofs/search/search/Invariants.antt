@@ -2,9 +2,9 @@ use Rattle.std.proofs.Common.{◌≡◌, ◌≤◌, ◌+◌, ◌⊎◌, ℕ, Lis
 use Rattle.std.specs.Prelude.{IsTrue, All, sum_by}
 use Rattle.point_codec.specs.declared.entries.Near.{Near}
 use Rattle.inner_pack.specs.Trees.{IndexTree}
-use Rattle.page_cache.specs.Cache.{KeepsFile, Agrees}
+use Rattle.page_cache.specs.Cache.{KeepsFile, KeepsPages, Agrees}
 use Rattle.documents.specs.NearestEntries.{IsNearest}
-use Rattle.nearest_query.specs.Segments.{HasId, bound_of}
+use Rattle.nearest_query.specs.Segments.{AreLeavesKept, HasId, bound_of}
 use Rattle.nearest_query.specs.Fronts.{sum_below, work}
 use Rattle.nearest_query.specs.Search.{World, IsOver, IsInside, IsNodeBelow, IsSought, one_within}
 use Rattle.nearest_query.proofs.search.search.Given as goal
@@ -19,6 +19,9 @@ invariant-loop-next g l = record {
   inside : All (IsInside (length l.heads) l.frontier.nodes) l.frontier.turns;
   parts : (trees : ℕ → IndexTree) → All (IsNodeBelow l.heads trees l.initial.frontier.nodes) l.initial.frontier.turns
       → All (IsNodeBelow l.heads trees l.frontier.nodes) l.frontier.turns;
+  kept : (trees : ℕ → IndexTree) → All (IsNodeBelow l.heads trees l.initial.frontier.nodes) l.initial.frontier.turns
+      → AreLeavesKept l.initial.cache l.heads trees
+      → (g.F.Pages.reads l.folder ≡ g.F.Pages.reads l.initial.folder) × KeepsPages l.initial.cache l.cache;
   sought : IsTrue g.F.Pages.told → Agrees (g.F.Pages.files l.initial.folder) l.initial.cache → (w : World) (all : List Near)
       → IsOver w l.at.c l.heads l.lives (g.F.Pages.files l.initial.folder)
       → IsSought g.row.D w all l.initial.frontier.turns l.initial.frontier.nodes l.initial.found

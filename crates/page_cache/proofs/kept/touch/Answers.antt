@@ -17,6 +17,11 @@ returns-clause-fewer c =
     kept.touch_fewer c.args.key c.args.pages.now.entries c.promote.new.self.entries c.promote.result c.promote.ensures.value
     (ap (λ p. p.entries) c.promote.ensures.entries)
 
+pub returns-clause-more : goal.returns-clause-more
+returns-clause-more c =
+    kept.touch_more c.args.key c.args.pages.now.entries c.promote.new.self.entries c.promote.result c.promote.ensures.value
+    (ap (λ p. p.entries) c.promote.ensures.entries)
+
 pub returns-clause-first : goal.returns-clause-first
 returns-clause-first c =
     kept.touch_first c.args.key c.args.pages.now.entries c.promote.new.self.entries c.promote.result c.promote.ensures.value

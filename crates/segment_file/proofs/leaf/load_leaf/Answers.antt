@@ -1,5 +1,6 @@
-use Rattle.std.proofs.Common.{◌≤◌, arith}
+use Rattle.std.proofs.Common.{◌≤◌, sym, subst, arith}
 use Rattle.std.proofs.lemmas.Result.{err_from_is_err_and}
+use Rattle.page_cache.specs.declared.cache.PageCache.{PageCache}
 use Rattle.page_cache.specs.Cache.{IsKept}
 use Rattle.page_cache.specs.Evidence.{IsPageDamage, IsPageDamageOf}
 use Rattle.page_cache.proofs.Damages.{fault_weaker, fault_both}
@@ -15,7 +16,8 @@ pub returns-clause-hit : goal.returns-clause-hit
 returns-clause-hit g c = λ first s path t at kept.
     let p = c.in-Some.ensures.some first s path t at in
     let here : IsKept c.args.cache.now c.id.result c.page_of.result = rw (c.id.ensures, c.page_of.ensures, p.page) kept in
-    c.in_ok-load.ensures.hit here
+    let hit = c.in_ok-load.ensures.hit here in
+    (hit.0, hit.1, λ i n k. subst (λ (h : PageCache). IsKept h i n) (sym c.note_leaf.ensures) (hit.2 i n k))
 
 pub returns-in_err-load-clause-hit : goal.returns-in_err-load-clause-hit
 returns-in_err-load-clause-hit g c = λ first s path t at kept.

@@ -93,10 +93,10 @@ returns-clause-cause g c = record { later = c.in_ok-entries.ensures.cause.later;
 pub returns-in_err-entries-clause-shown : goal.returns-in_err-entries-clause-shown
 returns-in_err-entries-clause-shown g c =
     let p = err_from_is_err_and c.from_residual.result c.from_residual.ensures.1 in
-    λ names. rw (p.1, p.2)
+    λ names now. rw (p.1, p.2)
     (on_damage {T = Unit {0}} (IsPartDamage g.row.D (parts_among c.args.ids.now c.args.segments.now))
-    (IsMergeDamage g.row.D c.args.plan.now.given names c.args.segments.now) (Err c.in_err-entries.field-0.0)
-    (part_shown g.row.D c.args.plan.now.given names c.args.ids.now c.args.segments.now) c.in_err-entries.ensures.shown)
+    (IsMergeDamage g.row.D c.args.plan.now.given names now c.args.segments.now) (Err c.in_err-entries.field-0.0)
+    (part_shown g.row.D c.args.plan.now.given names now c.args.ids.now c.args.segments.now) c.in_err-entries.ensures.shown)
 
 pub returns-in_err-entries-clause-damage : goal.returns-in_err-entries-clause-damage
 returns-in_err-entries-clause-damage g c =
@@ -116,9 +116,9 @@ returns-in_err-entries-clause-doubled g c =
 pub returns-in_err-build_of-clause-shown : goal.returns-in_err-build_of-clause-shown
 returns-in_err-build_of-clause-shown g c =
     let p = err_from_is_err_and c.from_residual-in_err-build_of.result c.from_residual-in_err-build_of.ensures.1 in
-    λ names. rw (p.1, p.2)
+    λ names now. rw (p.1, p.2)
     (on_damage {T = Unit {0}} (IsDoubt c.args.plan.now.given (items_of c.as_mut_slice.result.now))
-    (IsMergeDamage g.row.D c.args.plan.now.given names c.args.segments.now) (Err c.in_err-build_of.field-0.0)
+    (IsMergeDamage g.row.D c.args.plan.now.given names now c.args.segments.now) (Err c.in_err-build_of.field-0.0)
     (λ d h. Doubt (items_of c.as_mut_slice.result.now) h) c.in_err-build_of.ensures.shown)
 
 pub returns-in_err-build_of-clause-damage : goal.returns-in_err-build_of-clause-damage

@@ -42,7 +42,7 @@ returns-clause-merged g c =
 pub returns-in_err-built-clause-shown : goal.returns-in_err-built-clause-shown
 returns-in_err-built-clause-shown g c =
     let p = err_from_is_err_and c.from_residual.result c.from_residual.ensures.1 in
-    rw (p.1, p.2) (c.in_err-built.ensures.shown c.args.names.now)
+    rw (p.1, p.2) (c.in_err-built.ensures.shown c.args.names.now c.args.names.now)
 
 pub returns-in_err-built-clause-damage : goal.returns-in_err-built-clause-damage
 returns-in_err-built-clause-damage g c =
@@ -56,7 +56,7 @@ returns-in_err-built-clause-doubled g c =
 
 pub returns-clause-shown : goal.returns-clause-shown
 returns-clause-shown g c =
-    whole_shows (IsMergeDamage g.row.D c.args.plan.now.given c.args.names.now c.args.segments.now) c.replace.result c.replace.ensures.whole
+    whole_shows (IsMergeDamage g.row.D c.args.plan.now.given c.args.names.now c.replace.new.names c.args.segments.now) c.replace.result c.replace.ensures.whole
 
 pub returns-clause-damage : goal.returns-clause-damage
 returns-clause-damage g c = λ told agrees.

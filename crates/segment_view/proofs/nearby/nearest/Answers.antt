@@ -7,7 +7,7 @@ use Rattle.inner_pack.specs.Trees.{IndexTree}
 use Rattle.page_cache.specs.Evidence.{OnDamage}
 use Rattle.segment_file.specs.Heads.{Head, IsHead}
 use Rattle.documents.specs.NearestEntries.{IsNearest, nears_of}
-use Rattle.nearest_query.specs.Segments.{AreNearLeaves, AreSegments, HasId, HaveTrees, IsSegmentDamage, bound_of, live_in}
+use Rattle.nearest_query.specs.Segments.{AreLeavesKept, AreNearLeaves, AreSegments, HasId, HaveTrees, IsSegmentDamage, bound_of, live_in}
 use Rattle.segment_view.specs.LiveSegments.{heads_of}
 use Rattle.segment_view.proofs.Living.{live_listed, read_segments}
 use Rattle.segment_view.proofs.Reading.{id_of}
@@ -56,3 +56,8 @@ returns-clause-whole g c = λ told agrees es read.
     let files = g.F.Pages.files c.args.folder.now in
     c.nearest.ensures.whole told agrees es
     (subst (AreSegments g.row.D files es) (sym c.heads-2.ensures.value) (read_segments g.row.D files es c.args.segments.now read))
+
+pub returns-clause-kept : goal.returns-clause-kept
+returns-clause-kept g c = λ trees have kept. c.nearest.ensures.kept trees
+    (subst (λ (hs : List Head). HaveTrees g.row.D hs trees) (sym c.heads-2.ensures.value) have)
+    (subst (λ (hs : List Head). AreLeavesKept c.args.cache.now hs trees) (sym c.heads-2.ensures.value) kept)

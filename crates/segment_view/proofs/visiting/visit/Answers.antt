@@ -18,3 +18,15 @@ returns-clause-found g c = λ told agrees es read.
     ∙ sym (found_append has segments buffer) in
     ordered_found has (segments ++ buffer) c.visit_buffer.new.hits.items c.in_ok-ascending.field-0.items hits c.in_ok-ascending.ensures.rises
     c.in_ok-ascending.ensures.each
+
+pub returns-in_err-visit_segments-clause-reads : goal.returns-in_err-visit_segments-clause-reads
+returns-in_err-visit_segments-clause-reads g c = record { most = c.visit_segments.ensures.reads; none = λ all. (c.visit_segments.ensures.kept all).reads }
+
+pub returns-in_err-visit_buffer-clause-reads : goal.returns-in_err-visit_buffer-clause-reads
+returns-in_err-visit_buffer-clause-reads g c = record { most = c.visit_segments.ensures.reads; none = λ all. (c.visit_segments.ensures.kept all).reads }
+
+pub returns-in_err-ascending-clause-reads : goal.returns-in_err-ascending-clause-reads
+returns-in_err-ascending-clause-reads g c = record { most = c.visit_segments.ensures.reads; none = λ all. (c.visit_segments.ensures.kept all).reads }
+
+pub returns-clause-reads : goal.returns-clause-reads
+returns-clause-reads g c = record { most = c.visit_segments.ensures.reads; none = λ all. (c.visit_segments.ensures.kept all).reads }

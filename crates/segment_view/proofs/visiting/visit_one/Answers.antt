@@ -1,4 +1,4 @@
-use Rattle.std.proofs.Common.{◌≡◌, ◌++◌, List, ap, sym, subst, ◌∙◌, arith, ℕ}
+use Rattle.std.proofs.Common.{◌≡◌, ◌++◌, List, ap, refl, sym, subst, ◌∙◌, arith, ℕ}
 use Rattle.std.specs.Prelude.{OnOk}
 use Rattle.std.proofs.lemmas.List.{append-nil}
 use Rattle.point_codec.specs.Points.{Item}
@@ -53,7 +53,7 @@ returns-clause-reads g c = λ n all.
     let e = one_counted g.row.D (λ (h : Head) (u : IndexTree). touched_leaves (g.S.Shape.has c.args.shape.now) (g.S.Shape.crosses c.args.shape.now) u)
     c.args.head.now
     n root t all has in
-    let m = c.intersect.ensures.reads root t has in
+    let m = (c.intersect.ensures.reads root t has).most in
     omega (arith, e, m))
 
 pub returns-clause-calm : goal.returns-clause-calm
@@ -66,3 +66,9 @@ pub returns-clause-shown : goal.returns-clause-shown
 returns-clause-shown g c =
     read_shown g.row.D c.args.head.now c.index.result.now c.intersect.result c.index.ensures.ranges c.index.ensures.value c.is_spelled.ensures
     c.intersect.ensures.shown
+
+pub returns-then-live_count-eq0-clause-kept : goal.returns-then-live_count-eq0-clause-kept
+returns-then-live_count-eq0-clause-kept g c = λ root t has kept. record { reads = refl; kept = λ i n k. k }
+
+pub returns-clause-kept : goal.returns-clause-kept
+returns-clause-kept g c = λ root t has kept. (c.intersect.ensures.reads root t has).none kept

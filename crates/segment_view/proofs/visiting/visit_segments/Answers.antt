@@ -1,19 +1,36 @@
-use Rattle.std.proofs.Common.{◌++◌, ℕ, List, [], ◌∷◌, Err, ap, sym, subst, ◌∙◌, arith, take}
-use Rattle.std.proofs.lemmas.List.{append_assoc}
+use Rattle.std.proofs.Common.{◌++◌, ℕ, List, [], ◌∷◌, Err, ap, refl, sym, subst, ◌∙◌, arith, take}
+use Rattle.std.proofs.lemmas.List.{append_assoc, append-nil}
 use Rattle.std.proofs.lemmas.List.Elements.{All-contains}
 use Rattle.std.proofs.lemmas.Result.{err_from_is_err_and}
+use Rattle.inner_pack.specs.Places.{front}
 use Rattle.inner_pack.specs.Trees.{IndexTree}
 use Rattle.segment_file.specs.Heads.{Head, count_of}
 use Rattle.bkd_reader.specs.Counts.{tested_entries, touched_leaves}
+use Rattle.bkd_reader.specs.Unread.{IsTouched}
+use Rattle.page_cache.proofs.Unread.{reads_failed}
+use Rattle.bkd_reader.proofs.Unread.{kept_on, touched_as}
 use Rattle.documents.specs.Entries.{numbers_found}
 use Rattle.nearest_query.proofs.Parts.{on_damage}
 use Rattle.segment_view.specs.LiveSegments.{IsRead, live_segment, ids_of, live_in_parts}
-use Rattle.segment_view.specs.Costs.{AreTested, AreTouched}
+use Rattle.segment_view.specs.Costs.{AreTested, AreTouched, HasTouchedKept}
 use Rattle.segment_view.specs.Damages.{IsReadDamage, IsPartDamage}
 use Rattle.segment_view.proofs.Living.{part_in}
-use Rattle.segment_view.proofs.Reading.{calm_then, calm_more, agrees_after, id_in}
+use Rattle.segment_view.proofs.Reading.{calm_none, calm_then, calm_more, agrees_after, id_in}
 use Rattle.segment_view.proofs.Stepwise.{counted_more, counted_upto, leaves_more, leaves_upto, found_parts_more}
 use Rattle.segment_view.proofs.visiting.visit_segments.Goals as goal
+
+pub loop-i-init : goal.loop-i-init
+loop-i-init g c = record {
+  calm = calm_none g.F.Pages.told (g.F.Pages.files c.args.folder.now) c.args.cache.now (ids_of c.args.segments.now);
+  faults = refl;
+  has = refl;
+  crosses = refl;
+  tests = λ n all. omega arith;
+  compares = omega arith;
+  reads = λ n all. omega arith;
+  kept = λ all. (refl, λ i n k. k);
+  found = λ told agrees es read. sym (append-nil c.args.hits.now.items);
+}
 
 pub loop-i-preserved : goal.loop-i-preserved
 loop-i-preserved g c =
@@ -51,6 +68,13 @@ loop-i-preserved g c =
           (subst (λ k. AreTouched g.row.D k (g.S.Shape.crosses c.loop-i.shape) (p.head ∷ []) u.here) (sym was.has)
           (subst (λ f. AreTouched g.row.D has f (p.head ∷ []) u.here) (sym was.crosses) u.of_here)) in
           omega (arith, before, here, u.within);
+      kept = λ all.
+          let before = was.kept all in
+          let (root, t, tree, kept) = All-contains (HasTouchedKept g.row.D c.args.cache.now has crosses) parts p all there in
+          let now = one.kept root t tree
+          (touched_as c.loop-i.cache p.head has (g.S.Shape.has c.loop-i.shape) crosses (g.S.Shape.crosses c.loop-i.shape) front t was.has was.crosses
+          (kept_on c.args.cache.now c.loop-i.cache p.head (IsTouched has crosses) front t before.1 kept)) in
+          (now.reads ∙ before.0, λ i n k. now.kept i n (before.1 i n k));
       found = λ told agrees es read.
           let here = one.found told
           (agrees_after g.F.Pages.told files (g.F.Pages.files c.loop-i.folder) c.args.cache.now c.loop-i.cache (ids_of parts) was.calm told agrees) es
@@ -123,3 +147,20 @@ returns-in_err-visit_one-clause-whole g c = λ told agrees es read.
     (agrees_after g.F.Pages.told files (g.F.Pages.files c.loop-i.folder) c.args.cache.now c.loop-i.cache (ids_of parts) calm told agrees) es
     (subst (λ f. IsRead g.row.D f es p) (sym (calm.files told))
     (All-contains (IsRead g.row.D files es) parts p read (part_in parts c.loop-i.i p c.part.ensures))))
+
+pub returns-in_err-visit_one-clause-kept : goal.returns-in_err-visit_one-clause-kept
+returns-in_err-visit_one-clause-kept g c = λ all.
+    let was = c.loop-i.invariant in
+    let p = live_segment c.part.result.0.now c.part.result.1.now in
+    let has = g.S.Shape.has c.args.shape.now in
+    let crosses = g.S.Shape.crosses c.args.shape.now in
+    let (root, t, tree, kept) = All-contains (HasTouchedKept g.row.D c.args.cache.now has crosses) c.args.segments.now p all
+    (part_in c.args.segments.now c.loop-i.i p c.part.ensures) in
+    let now = c.in_err-visit_one.ensures.kept root t tree
+    (touched_as c.loop-i.cache p.head has (g.S.Shape.has c.loop-i.shape) crosses (g.S.Shape.crosses c.loop-i.shape) front t was.has was.crosses
+    (kept_on c.args.cache.now c.loop-i.cache p.head (IsTouched has crosses) front t (was.kept all).1 kept)) in
+    let e = err_from_is_err_and c.from_residual.result c.from_residual.ensures.1 in
+    reads_failed _ _ _ _ _ _ e.1 (now.reads ∙ (was.kept all).0)
+
+pub returns-clause-kept : goal.returns-clause-kept
+returns-clause-kept g c = λ all. let was = c.loop-i.invariant.kept all in record { reads = was.0; kept = was.1 }

@@ -1,9 +1,9 @@
 use Rattle.std.proofs.Common.{◌≡◌, ◌≤◌, ◌+◌, ◌*◌, ◌++◌, ℕ, take}
 use Rattle.std.specs.Prelude.{IsTrue}
-use Rattle.page_cache.specs.Cache.{Agrees}
+use Rattle.page_cache.specs.Cache.{Agrees, KeepsPages}
 use Rattle.documents.specs.Entries.{numbers_found}
 use Rattle.segment_view.specs.LiveSegments.{Contents, AreRead, heads_of, ids_of, live_in_parts}
-use Rattle.segment_view.specs.Costs.{leaves_in, AreTested, AreTouched}
+use Rattle.segment_view.specs.Costs.{leaves_in, AreTested, AreTouched, AreTouchedKept}
 use Rattle.segment_view.specs.Calm.{IsCalm}
 use Rattle.segment_view.proofs.visiting.visit_segments.Given as goal
 
@@ -18,6 +18,8 @@ invariant-loop-i g l = record {
   compares : g.S.Shape.compares l.shape ≤ g.S.Shape.compares l.initial.shape + 2 * leaves_in (heads_of (take l.i l.segments));
   reads : (n : ℕ) → AreTouched g.row.D (g.S.Shape.has l.initial.shape) (g.S.Shape.crosses l.initial.shape) (heads_of (take l.i l.segments)) n
       → g.F.Pages.reads l.folder ≤ g.F.Pages.reads l.initial.folder + n;
+  kept : AreTouchedKept g.row.D l.initial.cache (g.S.Shape.has l.initial.shape) (g.S.Shape.crosses l.initial.shape) l.segments
+      → (g.F.Pages.reads l.folder ≡ g.F.Pages.reads l.initial.folder) × KeepsPages l.initial.cache l.cache;
   found : IsTrue g.F.Pages.told → Agrees (g.F.Pages.files l.initial.folder) l.initial.cache → (c : Contents)
       → AreRead g.row.D (g.F.Pages.files l.initial.folder) c l.segments
       → l.hits.items ≡ l.initial.hits.items ++ numbers_found (g.S.Shape.has l.initial.shape) (live_in_parts c (take l.i l.segments));

@@ -8,6 +8,7 @@ use Rattle.script_lang.specs.declared.faults.Refusal.TheVariants as why
 use Rattle.index_core.specs.Sessions.{SessionData}
 use Rattle.index_core.proofs.Answering.{applies_is, applies_memory, applies_merging, applies_refused, applies_seen, begins_with}
 use Rattle.index_core.proofs.FaultCauses.{cause_add, whole_add}
+use Rattle.index_core.proofs.Guarding.{grows_added}
 use Rattle.index_core.proofs.Changing.{does_add, does_full, not_full}
 use Rattle.segment_set.proofs.Sizes.{set_fits}
 use Rattle.segment_set.specs.Sets.{IsNamed}
@@ -43,7 +44,7 @@ returns-clause-applies g c =
     (record {
       commit = refl;
       refused = refl;
-      leaf = c.add.ensures.alone.leaf;
+      grows = grows_added _ _ _ c.add.result c.add.ensures.alone.leaf c.add.ensures.gives.given c.add.ensures.left.stays;
       keeps = c.add.ensures.rewrites.kept;
       follows = c.add.ensures.rewrites.follows;
       brings = λ told. brings_written _ _ _ _ _ _ _ _ told c.add.ensures.rewrites.kept c.add.ensures.rewrites.follows (c.add.ensures.rewrites.canon told);
@@ -84,10 +85,12 @@ returns-in_err-put_doc-clause-damage g c =
 
 pub returns-clause-damage : goal.returns-clause-damage
 returns-clause-damage g c =
-    subst (ShowsMerge g.row.D (IsTrue g.F.Pages.told) (g.F.Pages.files c.args.folder.now) (g.F.Pages.files c.add.new.folder) c.args.self.now.set)
+    subst (ShowsMerge g.row.D (IsTrue g.F.Pages.told) (g.F.Pages.files c.args.folder.now) (g.F.Pages.files c.add.new.folder) c.args.self.now.set
+    c.add.new.self)
     (sym c.add_answer.ensures)
     (subst (λ (u : SessionData).
-    ShowsMerge g.row.D (IsTrue g.F.Pages.told) (g.F.Pages.files c.args.folder.now) (g.F.Pages.files c.add.new.folder) u.set (add_answer c.add.result))
+    ShowsMerge g.row.D (IsTrue g.F.Pages.told) (g.F.Pages.files c.args.folder.now) (g.F.Pages.files c.add.new.folder) u.set c.add.new.self
+    (add_answer c.add.result))
     c.self.view_is
     (record {
       shown = add_shows _ c.add.result c.add.ensures.damaged.shown;

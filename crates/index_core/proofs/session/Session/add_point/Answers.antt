@@ -7,6 +7,7 @@ use Rattle.point_codec.specs.Seen.{coordinates_of}
 use Rattle.point_codec.specs.declared.coordinates.Point.{Point}
 use Rattle.segment_set.proofs.Sizes.{point_fits, set_fits}
 use Rattle.index_core.proofs.Adding.{adds_as, adds_memory_as, adds_one, adds_seen, one_ordered, put_given, put_seen}
+use Rattle.index_core.proofs.Guarding.{grows_added}
 use Rattle.index_core.proofs.session.Session.add_point.Given as given
 use Rattle.index_core.proofs.session.Session.add_point.Goals as goal
 use Rattle.index_core.proofs.session.Session.add_point.Goals.{After-drop-of}
@@ -37,7 +38,7 @@ returns g c =
     (adds_one _ _ _ _ _ c.add-2.result (record {
       commit = refl;
       refused = refl;
-      leaf = c.add-2.ensures.alone.leaf;
+      grows = grows_added _ _ _ c.add-2.result c.add-2.ensures.alone.leaf c.add-2.ensures.gives.given c.add-2.ensures.left.stays;
       keeps = c.add-2.ensures.rewrites.kept;
       follows = c.add-2.ensures.rewrites.follows;
       named = c.leaf-leaf.ensures.well.named;

@@ -17,6 +17,7 @@ use Rattle.index_core.specs.Steps.{SaysCommit}
 use Rattle.index_core.proofs.FaultCauses.{cause_then, fault_cause}
 use Rattle.index_core.proofs.Bringing.{brings_still, brings_then}
 use Rattle.index_core.proofs.Brought.{commit_swept}
+use Rattle.index_core.proofs.Owned.{own_swept}
 use Rattle.index_core.proofs.Closing.{flight_then, guards_eased, keeps_either, levels_then}
 use Rattle.index_core.proofs.Closing.{names_eased, only_listed, tracked_then, unchanged_closed}
 use Rattle.index_core.proofs.Committing.{keeps_fault, on_ok_any, on_ok_none, says_still, stores_any, stores_fault}
@@ -105,6 +106,9 @@ returns-clause-durable g c = record {
   undone = λ told guards.
       undone_written _ (g.F.Pages.files c.sweep.new.folder) c.sweep.new.self.commit c.sweep.result c.sweep.ensures.faults.whole
       (says g c told guards);
+  own = λ told guards.
+      own_swept g.row.D (IsTrue g.F.Pages.told) (g.F.Pages.files c.args.folder.now) (g.F.Pages.files c.commit.new.folder)
+      (g.F.Pages.files c.sweep.new.folder) c.args.self.now.set (c.commit.ensures.durable.own told guards) (kept g c told guards);
   lasting = λ told trusts.
       commit_swept (g.F.Pages.files c.args.folder.now) (g.F.Pages.files c.commit.new.folder)
       (g.F.Pages.files c.sweep.new.folder) (c.commit.ensures.durable.lasting told trusts) (kept g c told trusts.guards);
@@ -160,6 +164,7 @@ returns-in_err-commit-clause-durable g c =
           c.from_residual.result _ (p.1 ∙ ap (λ (e : PageFault). Err e) p.2)
           (c.in_err-commit.ensures.durable.stored told i seen guards);
       undone = λ told guards. rw (p.1, p.2) (c.in_err-commit.ensures.durable.undone told guards);
+      own = λ told guards. c.commit.ensures.durable.own told guards;
       lasting = λ told trusts. c.commit.ensures.durable.lasting told trusts;
     }
 

@@ -16,9 +16,10 @@ use Rattle.segment_set.specs.Kept.{Follows}
 use Rattle.segment_set.specs.Saved.{AreCovering}
 use Rattle.segment_set.proofs.Carried.{follows_none}
 use Rattle.index_core.proofs.Brought.{commit_after, commit_itself, commit_swept, keeps_flight}
+use Rattle.index_core.proofs.Owned.{own_flight, own_swept}
 use Rattle.index_core.proofs.Closing.{tracked_commit, tracked_same}
 use Rattle.index_core.proofs.Bringing.{brings_same, brings_still, brings_then, brings_two, brings_written}
-use Rattle.index_core.proofs.Guarding.{covered, guards_after, kept_after_calls, set_after}
+use Rattle.index_core.proofs.Guarding.{covered, grows_alone, guards_after, kept_after_calls, set_alone}
 use Rattle.index_core.proofs.Committing.{as_committed, commit_anew, keeps_any, keeps_fault, kept_on, on_ok_any, on_ok_none}
 use Rattle.index_core.proofs.Committing.{says_still, stores_any, stores_fault, unchanged_is_stored, unchanged_says}
 use Rattle.segment_set.proofs.Sizes.{set_fits}
@@ -60,6 +61,7 @@ returns-then-not-is_changed g c =
         stored = λ told i seen guards.
             (unchanged_is_stored _ _ _ i unchanged (c.is_changed.ensures.sound c.if-not-is_changed.true) guards seen, unchanged.same.empty);
         undone = λ told guards. tt;
+        own = λ told guards. inl (kept_itself _);
         lasting = λ told trusts. commit_itself _;
       };
       flight = λ told guards. inl (kept_itself _);
@@ -87,12 +89,15 @@ returns-in_err-commit g c =
     let error = p.1 ∙ ap (λ (e : PageFault). Err e) p.2 in
     let old = g.F.Pages.files c.args.folder.now in
     let saved = g.F.Pages.files c.save.new.folder in
+    let damaged = c.in_err-commit.ensures.damaged in
     let inside : SessionData = record { set = c.self.inside.set; commit = c.self.inside.commit; refused = c.self.inside.refused } in
+    let kept : IsTrue g.F.Pages.told → Guards g.row.D old c.args.self.now → SameKept old saved =
+    λ told guards. kept_after_calls _ _ _ _ _ _ told c.save.ensures.rewrites.kept (subst (Guards g.row.D old) (sym c.self.view_is) guards).set in
     record {
       seen = λ told i seen. c.save.ensures.seen told i (subst (λ (u : SessionData). Sees g.row.D old u.set i) (sym c.self.view_is) seen);
       stays = record {
-        guards = λ told guards. guards_after _ _ _ _ _ _ told refl refl c.save.ensures.rewrites.kept c.save.ensures.rewrites.follows c.save.ensures.stays.leaf
-            (subst (Guards g.row.D old) (sym c.self.view_is) guards);
+        guards = λ told guards. guards_after _ _ _ _ _ _ told refl refl c.save.ensures.rewrites.kept c.save.ensures.rewrites.follows
+            (grows_alone _ _ c.save.ensures.stays) (subst (Guards g.row.D old) (sym c.self.view_is) guards);
         faithful = λ told faithful.
             c.save.ensures.rewrites.faithful told (subst (λ (u : SessionData). IsFaithful g.row.D old u.set) (sym c.self.view_is) faithful);
         traced = λ told trusts.
@@ -100,17 +105,13 @@ returns-in_err-commit g c =
             (subst (Trusts g.row.D old) (sym c.self.view_is) trusts);
       };
       durable = record {
-        kept = λ told guards. keeps_fault old saved (record inside { set = c.save.new.self }) _ _ error
-            (inl (kept_after_calls _ _ _ _ _ _ told c.save.ensures.rewrites.kept (subst (Guards g.row.D old) (sym c.self.view_is) guards).set));
-        stored = λ told i seen guards. stores_fault old saved i c.save.new.self _ _ error
-            (inl (kept_after_calls _ _ _ _ _ _ told c.save.ensures.rewrites.kept (subst (Guards g.row.D old) (sym c.self.view_is) guards).set));
-        undone = λ told guards. undone_kept old saved _ _ error
-            (kept_after_calls _ _ _ _ _ _ told c.save.ensures.rewrites.kept (subst (Guards g.row.D old) (sym c.self.view_is) guards).set);
-        lasting = λ told trusts.
-            let before = subst (Trusts g.row.D old) (sym c.self.view_is) trusts in
-            inl (kept_after_calls _ _ _ _ _ _ told c.save.ensures.rewrites.kept before.guards.set);
+        kept = λ told guards. keeps_fault old saved (record inside { set = c.save.new.self }) _ _ error (inl (kept told guards));
+        stored = λ told i seen guards. stores_fault old saved i c.save.new.self _ _ error (inl (kept told guards));
+        undone = λ told guards. undone_kept old saved _ _ error (kept told guards);
+        own = λ told guards. inl (kept told guards);
+        lasting = λ told trusts. inl (kept told trusts.guards);
       };
-      flight = λ told guards. inl (kept_after_calls _ _ _ _ _ _ told c.save.ensures.rewrites.kept (subst (Guards g.row.D old) (sym c.self.view_is) guards).set);
+      flight = λ told guards. inl (kept told guards);
       done = on_ok_none _ _ _ p.1;
       idle = λ unchanged. absurd (both_ways c.is_changed.result (c.is_changed.ensures.unchanged.1 unchanged) c.if-not-is_changed.false);
       rested = λ settled. c.save.ensures.rested (subst (λ (u : SessionData). IsSettled u.set) (sym c.self.view_is) settled);
@@ -128,12 +129,9 @@ returns-in_err-commit g c =
             (subst (λ (u : SessionData). All (IsNamed u.set.names) u.set.parts) (sym c.self.view_is) c.is_changed.ensures.named)
             c.in_err-commit.ensures.damaged.evident));
       };
-      damage = subst (λ (u : SessionData). ShowsMerge g.row.D (IsTrue g.F.Pages.told) old saved u.set c.from_residual.result) c.self.view_is
-          (merge_to {T = Unit {0}} _ _ _ _ _ _ c.in_err-commit.field-0.0 error (record {
-            shown = c.in_err-commit.ensures.damaged.shown;
-            damage = c.in_err-commit.ensures.damaged.damage;
-            doubled = c.in_err-commit.ensures.damaged.doubled;
-          }));
+      damage = subst (λ (u : SessionData). ShowsMerge g.row.D (IsTrue g.F.Pages.told) old saved u.set c.save.new.self c.from_residual.result) c.self.view_is
+          (merge_to {T = Unit {0}} _ _ _ _ _ _ c.in_err-commit.field-0.0 error
+          (record { shown = damaged.shown; damage = damaged.damage; doubled = damaged.doubled }));
     }
 
 -- ---- the commit could not be written
@@ -155,7 +153,7 @@ returns-in_err-write g c =
           c.write.ensures.seen told i (c.save.ensures.seen told i (subst (λ (u : SessionData). Sees g.row.D old u.set i) (sym c.self.view_is) seen));
       stays = record {
         guards = λ told guards. c.write.ensures.guards told
-            (set_after _ _ _ _ _ _ told c.save.ensures.rewrites.kept c.save.ensures.stays.leaf (subst (Guards g.row.D old) (sym c.self.view_is) guards).set)
+            (set_alone _ _ _ _ _ _ told c.save.ensures.rewrites.kept c.save.ensures.stays (subst (Guards g.row.D old) (sym c.self.view_is) guards).set)
             (c.in_ok-commit.ensures.saves.live told (covers guards));
         faithful = λ told faithful. c.write.ensures.faithful told
             (c.save.ensures.rewrites.faithful told (subst (λ (u : SessionData). IsFaithful g.row.D old u.set) (sym c.self.view_is) faithful));
@@ -171,13 +169,17 @@ returns-in_err-write g c =
             (c.in_ok-commit.ensures.saves.stored told (covers guards) i (subst (λ (u : SessionData). Sees g.row.D old u.set i) (sym c.self.view_is) seen))));
         undone = λ told guards. undone_flight (Unit {0}) old written c.write.new.self.set.saved fault _ error c.in_err-write.ensures.faults.whole
             (kept_on old saved written (kept told guards) (c.in_err-write.ensures.kept told));
+        own = λ told guards. own_flight g.row.D (IsTrue g.F.Pages.told) old saved written _ _ c.save.new.self c.in_ok-commit.commit
+            c.write.new.self.set.saved c.self.view_is (ap (λ (u : SetData). u.saved) c.write.ensures.set ∙ c.in_ok-commit.ensures.saves.saved)
+            c.in_ok-commit.ensures.saves.commit c.in_ok-commit.ensures.emptied c.in_ok-commit.ensures.flushed (kept told guards)
+            (c.in_err-write.ensures.kept told);
         lasting = λ told trusts.
             let before = subst (Trusts g.row.D old) (sym c.self.view_is) trusts in
             commit_after old saved written (kept_after_calls _ _ _ _ _ _ told c.save.ensures.rewrites.kept before.guards.set)
             (keeps_flight g.row.D saved written c.save.new.self c.in_ok-commit.commit c.write.new.self.set.saved
             (ap (λ (u : SetData). u.saved) c.write.ensures.set ∙ c.in_ok-commit.ensures.saves.saved) c.in_ok-commit.ensures.saves.commit
             (c.in_ok-commit.ensures.saves.live told (covers trusts.guards)) (c.write.ensures.others told)
-            (set_after _ _ _ _ _ _ told c.save.ensures.rewrites.kept c.save.ensures.stays.leaf before.guards.set)
+            (set_alone _ _ _ _ _ _ told c.save.ensures.rewrites.kept c.save.ensures.stays before.guards.set)
             (traced_by _ _ _ _ _ c.save.new.self told c.save.ensures.rewrites.kept c.save.ensures.rewrites.follows (c.save.ensures.rewrites.canon told) before)
             (c.in_err-write.ensures.kept told));
       };
@@ -208,6 +210,8 @@ returns g c =
     let saved = g.F.Pages.files c.save.new.folder in
     let written = g.F.Pages.files c.write.new.folder in
     let swept = g.F.Pages.files c.sweep.new.folder in
+    let kept : IsTrue g.F.Pages.told → Guards g.row.D old c.args.self.now → SameKept old saved =
+    λ told guards. kept_after_calls _ _ _ _ _ _ told c.save.ensures.rewrites.kept (subst (Guards g.row.D old) (sym c.self.view_is) guards).set in
     let same = c.sweep.ensures.written.0 ∙ c.in_ok-write.ensures.written.0 in
     let flown = ap (λ (u : SetData). u.saved) c.sweep.ensures.alone.is
     ∙ (ap (λ (u : SetData). u.saved) c.write.ensures.set ∙ c.in_ok-commit.ensures.saves.saved ∙ sym c.in_ok-write.ensures.written.0)
@@ -218,7 +222,7 @@ returns g c =
     λ guards. covered g.row.D old _ c.last_lines-last.result.now c.last_lines-last.ensures (subst (Guards g.row.D old) (sym c.self.view_is) guards) in
     let guarded : IsTrue g.F.Pages.told → Guards g.row.D old c.args.self.now → Guards g.row.D written c.write.new.self =
     λ told guards. c.write.ensures.guards told
-    (set_after _ _ _ _ _ _ told c.save.ensures.rewrites.kept c.save.ensures.stays.leaf (subst (Guards g.row.D old) (sym c.self.view_is) guards).set)
+    (set_alone _ _ _ _ _ _ told c.save.ensures.rewrites.kept c.save.ensures.stays (subst (Guards g.row.D old) (sym c.self.view_is) guards).set)
     (c.in_ok-commit.ensures.saves.live told (covers guards)) in
     let says : IsTrue g.F.Pages.told → Guards g.row.D old c.args.self.now → SaysCommit swept c.sweep.new.self.commit =
     λ told guards. says_still written swept c.write.new.self.commit c.sweep.new.self.commit (c.sweep.ensures.kept told (guarded told guards))
@@ -246,13 +250,18 @@ returns g c =
             (c.in_ok-commit.ensures.saves.stored told (covers guards) i (subst (λ (u : SessionData). Sees g.row.D old u.set i) (sym c.self.view_is) seen))).0)
             empty;
         undone = λ told guards. undone_written old swept c.sweep.new.self.commit c.sweep.result c.sweep.ensures.faults.whole (says told guards);
+        own = λ told guards. own_swept g.row.D (IsTrue g.F.Pages.told) old written swept _
+            (own_flight g.row.D (IsTrue g.F.Pages.told) old saved written _ _ c.save.new.self c.in_ok-commit.commit c.write.new.self.commit
+            c.self.view_is c.in_ok-write.ensures.written.0 c.in_ok-commit.ensures.saves.commit c.in_ok-commit.ensures.emptied
+            c.in_ok-commit.ensures.flushed (kept told guards) (inr (c.in_ok-write.ensures.kept told)))
+            (c.sweep.ensures.kept told (guarded told guards));
         lasting = λ told trusts.
             let before = subst (Trusts g.row.D old) (sym c.self.view_is) trusts in
             commit_swept old written swept
-            (commit_after old saved written (kept_after_calls _ _ _ _ _ _ told c.save.ensures.rewrites.kept before.guards.set)
+            (commit_after old saved written (kept told trusts.guards)
             (keeps_flight g.row.D saved written c.save.new.self c.in_ok-commit.commit c.write.new.self.commit c.in_ok-write.ensures.written.0
             c.in_ok-commit.ensures.saves.commit (c.in_ok-commit.ensures.saves.live told (covers trusts.guards)) (c.write.ensures.others told)
-            (set_after _ _ _ _ _ _ told c.save.ensures.rewrites.kept c.save.ensures.stays.leaf before.guards.set)
+            (set_alone _ _ _ _ _ _ told c.save.ensures.rewrites.kept c.save.ensures.stays before.guards.set)
             (traced_by _ _ _ _ _ c.save.new.self told c.save.ensures.rewrites.kept c.save.ensures.rewrites.follows (c.save.ensures.rewrites.canon told) before)
             (inr (c.in_ok-write.ensures.kept told))))
             (c.sweep.ensures.kept told (guarded told trusts.guards));

@@ -21,6 +21,7 @@ returns-clause-applies g c = record {
   keeps = record {
     kept = c.in_ok-commit.ensures.durable.kept;
     stored = λ told i seen guards e. c.in_ok-commit.ensures.durable.stored told i seen guards;
+    own = c.commit.ensures.durable.own;
     lasting = c.commit.ensures.durable.lasting;
   };
   commits = λ e. record {
@@ -47,6 +48,7 @@ returns-in_err-commit-clause-applies g c =
       keeps = record {
         kept = c.in_err-commit.ensures.durable.kept;
         stored = λ told i seen guards e. c.in_err-commit.ensures.durable.stored told i seen guards;
+        own = c.commit.ensures.durable.own;
         lasting = c.commit.ensures.durable.lasting;
       };
       commits = λ e. record {
@@ -73,6 +75,7 @@ returns-in_err-put_ok-clause-applies g c =
       keeps = record {
         kept = c.commit.ensures.flight;
         stored = λ told i seen guards e. inr (c.in_ok-commit.ensures.durable.stored told i seen guards).0;
+        own = c.commit.ensures.durable.own;
         lasting = c.commit.ensures.durable.lasting;
       };
       commits = λ e. record {

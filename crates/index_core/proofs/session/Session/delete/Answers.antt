@@ -14,6 +14,7 @@ use Rattle.index_core.proofs.Bringing.{brings_cleared}
 use Rattle.page_cache.specs.declared.faults.PageFault.TheVariants as page
 use Rattle.index_core.proofs.Showing.{damage_to}
 use Rattle.index_core.proofs.Lightly.{light_deleted, light_same}
+use Rattle.index_core.proofs.Guarding.{grows_same}
 use Rattle.index_core.proofs.session.Session.delete.Goals as goal
 
 pub returns-in_err-put_deleted-clause-applies : goal.returns-in_err-put_deleted-clause-applies
@@ -24,7 +25,9 @@ returns-in_err-put_deleted-clause-applies g c files faults =
 pub returns-then-delete-clause-applies : goal.returns-then-delete-clause-applies
 returns-then-delete-clause-applies g c files faults = applies_seen _ _ _ _ _ _ _ _ _ _ _ c.self.view_is
     (applies _ _ _ _ _ _
-    (calm_like _ _ _ _ _ _ _ _ _ _ _ _ (ap (λ (u : SetData). u.names) c.delete.ensures.alone) (ap (λ (u : SetData). u.leaf) c.delete.ensures.alone)
+    (calm_like _ _ _ _ _ _ _ _ _ _ _ _ (ap (λ (u : SetData). u.names) c.delete.ensures.alone)
+    (grows_same _ _ (ap (λ (u : SetData). u.leaf) c.delete.ensures.alone) (ap (λ (u : SetData). u.next) c.delete.ensures.alone)
+    (ap (λ (u : SetData). u.given) c.delete.ensures.alone))
     c.delete.ensures.follows (λ told. refl) (λ told. brings_cleared _ files _ _ _ (ap (λ (u : SetData). u.parts) c.delete.ensures.alone))
     (λ told. c.delete.ensures.faithful files))
     (λ told i seen. does_delete _ _ _ i _ c.delete.result _ _ (c.delete.ensures.live files i seen) (c.delete.ensures.seen files i seen)
@@ -36,7 +39,9 @@ returns-in_err-put_deleted-2-clause-applies g c files faults =
     let p = err_from_is_err_and c.from_residual-in_err-put_deleted-2.result c.from_residual-in_err-put_deleted-2.ensures.1 in
     applies_seen _ _ _ _ _ _ _ _ _ _ _ c.self.view_is
     (applies_unsaid {T = Unit {0}} _ _ _ _ _ _ tt
-    (calm_like _ _ _ _ _ _ _ _ _ _ _ _ (ap (λ (u : SetData). u.names) c.delete.ensures.alone) (ap (λ (u : SetData). u.leaf) c.delete.ensures.alone)
+    (calm_like _ _ _ _ _ _ _ _ _ _ _ _ (ap (λ (u : SetData). u.names) c.delete.ensures.alone)
+    (grows_same _ _ (ap (λ (u : SetData). u.leaf) c.delete.ensures.alone) (ap (λ (u : SetData). u.next) c.delete.ensures.alone)
+    (ap (λ (u : SetData). u.given) c.delete.ensures.alone))
     c.delete.ensures.follows (λ told. refl) (λ told. brings_cleared _ files _ _ _ (ap (λ (u : SetData). u.parts) c.delete.ensures.alone))
     (λ told. c.delete.ensures.faithful files))
     (p.1 ∙ ap (λ (e : PageFault). Err e) p.2)
@@ -54,7 +59,9 @@ returns-clause-applies g c files faults =
     c.in_ok-put_deleted-2.ensures.ok ∙ ap (λ xs. xs ++ deleted_text 0) cut in
     applies_seen _ _ _ _ _ _ _ _ _ _ _ c.self.view_is
     (applies _ _ _ _ _ _
-    (calm_like _ _ _ _ _ _ _ _ _ _ _ _ (ap (λ (u : SetData). u.names) c.delete.ensures.alone) (ap (λ (u : SetData). u.leaf) c.delete.ensures.alone)
+    (calm_like _ _ _ _ _ _ _ _ _ _ _ _ (ap (λ (u : SetData). u.names) c.delete.ensures.alone)
+    (grows_same _ _ (ap (λ (u : SetData). u.leaf) c.delete.ensures.alone) (ap (λ (u : SetData). u.next) c.delete.ensures.alone)
+    (ap (λ (u : SetData). u.given) c.delete.ensures.alone))
     c.delete.ensures.follows (λ told. refl) (λ told. brings_cleared _ files _ _ _ (ap (λ (u : SetData). u.parts) c.delete.ensures.alone))
     (λ told. c.delete.ensures.faithful files))
     (λ told i seen. does_delete _ _ _ i _ c.delete.result _ _ (c.delete.ensures.live files i seen) (c.delete.ensures.seen files i seen)

@@ -22,6 +22,7 @@ use Rattle.index_core.specs.Costs.{ReadsTouched}
 use Rattle.index_core.specs.Damages.{ShowsLeaf}
 use Rattle.index_core.proofs.Showing.{damage_to, leaf_none, leaf_to}
 use Rattle.index_core.proofs.Keeping.{fault_keeps}
+use Rattle.index_core.proofs.Guarding.{grows_same}
 use Rattle.index_core.proofs.session.Session.delete_box.Goals as goal
 
 pub returns-in_err-hits-clause-applies : goal.returns-in_err-hits-clause-applies
@@ -45,7 +46,9 @@ returns-clause-applies g c =
     applies_seen _ _ _ _ _ _ _ _ _ _ _ c.self.view_is
     (applies_done _ _ _ _ _ c.in_ok-hits.hits _
     (calm_like _ _ _ _ _ _ _ _ _ _ _ _ (c.delete_all.ensures.names ∙ ap (λ (u : SetData). u.names) c.visit.ensures.alone.is)
-    (c.delete_all.ensures.stays.leaf ∙ ap (λ (u : SetData). u.leaf) c.visit.ensures.alone.is)
+    (grows_same _ _ (c.delete_all.ensures.stays.leaf ∙ ap (λ (u : SetData). u.leaf) c.visit.ensures.alone.is)
+    (c.delete_all.ensures.stays.next ∙ ap (λ (u : SetData). u.next) c.visit.ensures.alone.is)
+    (c.delete_all.ensures.stays.given ∙ ap (λ (u : SetData). u.given) c.visit.ensures.alone.is))
     (subst (λ (u : SetData). Follows u.names u.parts c.delete_all.new.self.parts) c.visit.ensures.alone.is c.delete_all.ensures.follows) c.visit.ensures.files
     (λ told. brings_then _ _ _ _ _ c.visit.new.self.parts
     _ (brings_same _ _ _ _ _ (c.visit.ensures.files told) (ap (λ (u : SetData). u.parts) c.visit.ensures.alone.is))

@@ -8,6 +8,7 @@ use Rattle.index_core.specs.Sessions.{SessionData}
 use Rattle.index_core.proofs.Adding.{faithful_seen, guards_same}
 use Rattle.index_core.proofs.Bringing.{brings_cleared}
 use Rattle.index_core.proofs.Tracing.{traced_cleared}
+use Rattle.index_core.proofs.Guarding.{grows_same}
 use Rattle.index_core.proofs.session.Session.delete_document.Goals as goal
 
 pub delete-requires : goal.delete-requires
@@ -26,7 +27,9 @@ returns-clause-canon g c files =
 
 pub returns-clause-guards : goal.returns-clause-guards
 returns-clause-guards g c files guards =
-    guards_same g.row.D files _ _ _ c.self.view_is (ap (λ (u : SetData). u.names) c.delete.ensures.alone) (ap (λ (u : SetData). u.leaf) c.delete.ensures.alone)
+    guards_same g.row.D files _ _ _ c.self.view_is (ap (λ (u : SetData). u.names) c.delete.ensures.alone)
+    (grows_same _ _ (ap (λ (u : SetData). u.leaf) c.delete.ensures.alone) (ap (λ (u : SetData). u.next) c.delete.ensures.alone)
+    (ap (λ (u : SetData). u.given) c.delete.ensures.alone))
     c.delete.ensures.follows guards
 
 pub returns-clause-faithful : goal.returns-clause-faithful

@@ -14,6 +14,7 @@ use Rattle.index_core.specs.Damages.{ShowsMerge}
 use Rattle.index_core.proofs.Showing.{damage_to, merge_none, merge_to}
 use Rattle.segment_set.specs.Sets.{IsSettled}
 use Rattle.index_core.proofs.Keeping.{fault_keeps}
+use Rattle.index_core.proofs.Guarding.{grows_alone}
 use Rattle.index_core.proofs.session.Session.flush.Goals as goal
 
 pub returns-clause-applies : goal.returns-clause-applies
@@ -23,7 +24,7 @@ returns-clause-applies g c = applies_seen _ _ _ _ _ _ _ _ _ _ _ c.self.view_is
     (record {
       commit = refl;
       refused = refl;
-      leaf = c.flush.ensures.moves.stays.leaf;
+      grows = grows_alone _ _ c.flush.ensures.moves.stays;
       keeps = c.flush.ensures.moves.kept;
       follows = c.flush.ensures.moves.follows;
       brings = λ told. brings_written _ _ _ _ _ _ _ _ told c.flush.ensures.moves.kept c.flush.ensures.moves.follows (c.flush.ensures.moves.canon told);
@@ -40,7 +41,7 @@ returns-in_err-flush-clause-applies g c =
     (record {
       commit = refl;
       refused = refl;
-      leaf = c.flush.ensures.moves.stays.leaf;
+      grows = grows_alone _ _ c.flush.ensures.moves.stays;
       keeps = c.flush.ensures.moves.kept;
       follows = c.flush.ensures.moves.follows;
       brings = λ told. brings_written _ _ _ _ _ _ _ _ told c.flush.ensures.moves.kept c.flush.ensures.moves.follows (c.flush.ensures.moves.canon told);
@@ -57,7 +58,7 @@ returns-in_err-put_ok-clause-applies g c =
     (record {
       commit = refl;
       refused = refl;
-      leaf = c.flush.ensures.moves.stays.leaf;
+      grows = grows_alone _ _ c.flush.ensures.moves.stays;
       keeps = c.flush.ensures.moves.kept;
       follows = c.flush.ensures.moves.follows;
       brings = λ told. brings_written _ _ _ _ _ _ _ _ told c.flush.ensures.moves.kept c.flush.ensures.moves.follows (c.flush.ensures.moves.canon told);
@@ -81,7 +82,8 @@ pub returns-in_err-flush-clause-damage : goal.returns-in_err-flush-clause-damage
 returns-in_err-flush-clause-damage g c =
     let p = err_from_is_err_and c.from_residual.result c.from_residual.ensures.1 in
     subst (λ (u : SessionData).
-    ShowsMerge g.row.D (IsTrue g.F.Pages.told) (g.F.Pages.files c.args.folder.now) (g.F.Pages.files c.flush.new.folder) u.set c.from_residual.result)
+    ShowsMerge g.row.D (IsTrue g.F.Pages.told) (g.F.Pages.files c.args.folder.now) (g.F.Pages.files c.flush.new.folder) u.set c.flush.new.self
+    c.from_residual.result)
     c.self.view_is
     (merge_to {T = Unit {0}} _ _ _ _ _ _ c.in_err-flush.field-0.0 (p.1 ∙ ap (λ (e : PageFault). Err e) p.2)
     (record { shown = c.in_err-flush.ensures.damaged.shown; damage = c.in_err-flush.ensures.damaged.damage; doubled = c.in_err-flush.ensures.damaged.doubled }))

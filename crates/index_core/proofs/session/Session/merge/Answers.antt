@@ -13,6 +13,7 @@ use Rattle.page_cache.specs.declared.faults.PageFault.TheVariants as page
 use Rattle.index_core.specs.Damages.{ShowsMerge}
 use Rattle.index_core.proofs.Showing.{damage_to, merge_none, merge_to}
 use Rattle.index_core.proofs.Keeping.{fault_keeps}
+use Rattle.index_core.proofs.Guarding.{grows_alone}
 use Rattle.index_core.proofs.session.Session.merge.Goals as goal
 
 pub returns-clause-applies : goal.returns-clause-applies
@@ -22,7 +23,7 @@ returns-clause-applies g c = applies_seen _ _ _ _ _ _ _ _ _ _ _ c.self.view_is
     (record {
       commit = refl;
       refused = refl;
-      leaf = c.merge_all.ensures.moves.stays.leaf;
+      grows = grows_alone _ _ c.merge_all.ensures.moves.stays;
       keeps = c.merge_all.ensures.moves.kept;
       follows = c.merge_all.ensures.moves.follows;
       brings = λ told.
@@ -40,7 +41,7 @@ returns-in_err-merge_all-clause-applies g c =
     (record {
       commit = refl;
       refused = refl;
-      leaf = c.merge_all.ensures.moves.stays.leaf;
+      grows = grows_alone _ _ c.merge_all.ensures.moves.stays;
       keeps = c.merge_all.ensures.moves.kept;
       follows = c.merge_all.ensures.moves.follows;
       brings = λ told.
@@ -58,7 +59,7 @@ returns-in_err-put_ok-clause-applies g c =
     (record {
       commit = refl;
       refused = refl;
-      leaf = c.merge_all.ensures.moves.stays.leaf;
+      grows = grows_alone _ _ c.merge_all.ensures.moves.stays;
       keeps = c.merge_all.ensures.moves.kept;
       follows = c.merge_all.ensures.moves.follows;
       brings = λ told.
@@ -93,7 +94,8 @@ pub returns-in_err-merge_all-clause-damage : goal.returns-in_err-merge_all-claus
 returns-in_err-merge_all-clause-damage g c =
     let p = err_from_is_err_and c.from_residual.result c.from_residual.ensures.1 in
     subst (λ (u : SessionData).
-    ShowsMerge g.row.D (IsTrue g.F.Pages.told) (g.F.Pages.files c.args.folder.now) (g.F.Pages.files c.merge_all.new.folder) u.set c.from_residual.result)
+    ShowsMerge g.row.D (IsTrue g.F.Pages.told) (g.F.Pages.files c.args.folder.now) (g.F.Pages.files c.merge_all.new.folder) u.set c.merge_all.new.self
+    c.from_residual.result)
     c.self.view_is
     (merge_to {T = Unit {0}} _ _ _ _ _ _ c.in_err-merge_all.field-0.0 (p.1 ∙ ap (λ (e : PageFault). Err e) p.2)
     (record {

@@ -23,6 +23,7 @@ use Rattle.page_cache.specs.declared.faults.PageFault.TheVariants as page
 use Rattle.index_core.specs.Damages.{ShowsMerge}
 use Rattle.index_core.proofs.Showing.{begin_shows, damage_to, merge_none}
 use Rattle.index_core.proofs.Keeping.{answer_keeps, begin_keeps, fault_keeps, still_same}
+use Rattle.index_core.proofs.Guarding.{grows_same}
 use Rattle.index_core.proofs.session.Session.merge_begin.Goals as goal
 
 pub returns-then-is_merging-clause-applies : goal.returns-then-is_merging-clause-applies
@@ -42,7 +43,8 @@ returns-clause-applies g c =
     (applies_seen _ _ _ _ _ _ _ _ _ _ _ c.self.view_is
     (applies_merging_calm _ _ _ _ _ _
     (calm_like _ _ _ _ _ _ _ _ _ _ _ _ (ap (λ (u : SetData). u.names) c.merge_begin.ensures.alone.is)
-    (ap (λ (u : SetData). u.leaf) c.merge_begin.ensures.alone.is)
+    (grows_same _ _ (ap (λ (u : SetData). u.leaf) c.merge_begin.ensures.alone.is) (ap (λ (u : SetData). u.next) c.merge_begin.ensures.alone.is)
+    (ap (λ (u : SetData). u.given) c.merge_begin.ensures.alone.is))
     (follows_same _ _ _ (ap (λ (u : SetData). u.parts) c.merge_begin.ensures.alone.is)) c.merge_begin.ensures.files
     (λ told. brings_same _ _ _ _ _ (c.merge_begin.ensures.files told) (ap (λ (u : SetData). u.parts) c.merge_begin.ensures.alone.is))
     c.merge_begin.ensures.faithful)
@@ -77,10 +79,11 @@ returns-in_err-put_ok-clause-damage g c =
 
 pub returns-clause-damage : goal.returns-clause-damage
 returns-clause-damage g c =
-    subst (ShowsMerge g.row.D (IsTrue g.F.Pages.told) (g.F.Pages.files c.args.folder.now) (g.F.Pages.files c.merge_begin.new.folder) c.args.self.now.set)
+    subst (ShowsMerge g.row.D (IsTrue g.F.Pages.told) (g.F.Pages.files c.args.folder.now) (g.F.Pages.files c.merge_begin.new.folder) c.args.self.now.set
+    c.merge_begin.new.self)
     (sym c.begin_answer.ensures)
     (subst (λ (u : SessionData).
-    ShowsMerge g.row.D (IsTrue g.F.Pages.told) (g.F.Pages.files c.args.folder.now) (g.F.Pages.files c.merge_begin.new.folder) u.set
+    ShowsMerge g.row.D (IsTrue g.F.Pages.told) (g.F.Pages.files c.args.folder.now) (g.F.Pages.files c.merge_begin.new.folder) u.set c.merge_begin.new.self
     (begin_answer c.merge_begin.result)) c.self.view_is
     (record {
       shown = begin_shows _ c.merge_begin.result c.merge_begin.ensures.damaged.shown;

@@ -17,6 +17,7 @@ use Rattle.page_cache.specs.declared.faults.PageFault.TheVariants as page
 use Rattle.index_core.proofs.Showing.{damage_to}
 use Rattle.index_core.proofs.Keeping.{fault_keeps, still_same}
 use Rattle.index_core.proofs.Lightly.{light_released, light_same}
+use Rattle.index_core.proofs.Guarding.{grows_same}
 use Rattle.index_core.proofs.session.Session.release.Goals as goal
 
 pub returns-then-not-has_snapshot-clause-applies : goal.returns-then-not-has_snapshot-clause-applies
@@ -32,7 +33,9 @@ returns-in_err-put_ok-clause-applies g c files faults =
 pub returns-clause-applies : goal.returns-clause-applies
 returns-clause-applies g c files faults = applies_seen _ _ _ _ _ _ _ _ _ _ _ c.self.view_is
     (applies _ _ _ _ _ _
-    (calm_like _ _ _ _ _ _ _ _ _ _ _ _ (ap (λ (u : SetData). u.names) c.release.ensures.kept) (ap (λ (u : SetData). u.leaf) c.release.ensures.kept)
+    (calm_like _ _ _ _ _ _ _ _ _ _ _ _ (ap (λ (u : SetData). u.names) c.release.ensures.kept)
+    (grows_same _ _ (ap (λ (u : SetData). u.leaf) c.release.ensures.kept) (ap (λ (u : SetData). u.next) c.release.ensures.kept)
+    (ap (λ (u : SetData). u.given) c.release.ensures.kept))
     (follows_same _ _ _ (ap (λ (u : SetData). u.parts) c.release.ensures.kept)) (λ told. refl)
     (λ told. brings_same _ _ _ _ _ refl (ap (λ (u : SetData). u.parts) c.release.ensures.kept)) (λ told. c.release.ensures.faithful files))
     (λ told i seen. does_release _ _ _ _ i _ _ _ seen (sym c.has_snapshot.ensures ∙ c.if-not-has_snapshot.false) (c.release.ensures.seen files i seen)

@@ -1,5 +1,5 @@
 -- What is stored is attached anew.
-use Rattle.std.proofs.Common.{◌≡◌, Err, Some, is_some, refl, sym, ap, subst, ◌∙◌, ◌⊎◌, inr}
+use Rattle.std.proofs.Common.{◌≡◌, Err, IsTrue, Some, is_some, refl, sym, ap, subst, ◌∙◌, ◌⊎◌, inr}
 use Rattle.std.proofs.lemmas.Result.{err_from_is_err_and}
 use Rattle.page_cache.specs.declared.faults.PageFault.{PageFault}
 use Rattle.outer_io.specs.Files.{Files}
@@ -14,7 +14,7 @@ use Rattle.index_opening.specs.Evidence.{IsTwice}
 use Rattle.segment_set.specs.Faithful.{IsFaithful}
 use Rattle.index_opening.proofs.Evident.{on_evident_at}
 use Rattle.index_core.specs.Sessions.{AreTraced, Guards, IsCommitAnew, IsUnchanged, SessionData}
-use Rattle.index_core.specs.Brought.{KeepsCommit}
+use Rattle.index_core.specs.Brought.{KeepsCommit, KeepsOwn}
 use Rattle.index_core.specs.Effects.{BringsCanonical}
 use Rattle.index_core.proofs.Bringing.{brings_anew, brings_then}
 use Rattle.index_core.specs.Steps.{SaysCommit}
@@ -50,6 +50,7 @@ returns-in_err-commit-clause-applies g c =
       keeps = record {
         kept = c.in_err-commit.ensures.durable.kept;
         stored = λ told i seen guards e. c.in_err-commit.ensures.durable.stored told i seen guards;
+        own = c.commit.ensures.durable.own;
         lasting = c.commit.ensures.durable.lasting;
       };
       commits = λ e. record {
@@ -90,6 +91,9 @@ returns-in_err-set-clause-applies g c =
         stored = λ told i seen guards e.
             inr (subst (λ (f : Files). IsStored f (Some (at_rest i))) (sym (c.attach_anew.ensures.files told))
             (c.in_ok-commit.ensures.durable.stored told i seen guards).0);
+        own = λ told guards.
+            subst (λ (f : Files). KeepsOwn g.row.D (IsTrue g.F.Pages.told) (g.F.Pages.files c.args.folder.now) f c.args.self.now.set)
+            (sym (c.attach_anew.ensures.files told)) (c.commit.ensures.durable.own told guards);
         lasting = λ told trusts.
             subst (KeepsCommit (g.F.Pages.files c.args.folder.now)) (sym (c.attach_anew.ensures.files told)) (c.commit.ensures.durable.lasting told trusts);
       };
@@ -138,6 +142,9 @@ returns-in_err-put_ok-clause-applies g c =
         stored = λ told i seen guards e.
             inr (subst (λ (f : Files). IsStored f (Some (at_rest i))) (sym (c.attach_anew.ensures.files told))
             (c.in_ok-commit.ensures.durable.stored told i seen guards).0);
+        own = λ told guards.
+            subst (λ (f : Files). KeepsOwn g.row.D (IsTrue g.F.Pages.told) (g.F.Pages.files c.args.folder.now) f c.args.self.now.set)
+            (sym (c.attach_anew.ensures.files told)) (c.commit.ensures.durable.own told guards);
         lasting = λ told trusts.
             subst (KeepsCommit (g.F.Pages.files c.args.folder.now)) (sym (c.attach_anew.ensures.files told)) (c.commit.ensures.durable.lasting told trusts);
       };
@@ -205,6 +212,9 @@ returns-clause-applies g c = record {
       ap (λ (u : SetData). u.buffer) (kept g c) ∙ (c.in_ok-set.ensures.unchanged c.in_ok-commit.ensures.done.unchanged.commit
           c.in_ok-commit.ensures.done.unchanged.is).empty,
     );
+    own = λ told guards.
+        subst (λ (f : Files). KeepsOwn g.row.D (IsTrue g.F.Pages.told) (g.F.Pages.files c.args.folder.now) f c.args.self.now.set)
+        (sym (c.attach_anew.ensures.files told)) (c.commit.ensures.durable.own told guards);
     lasting = λ told trusts.
         subst (KeepsCommit (g.F.Pages.files c.args.folder.now)) (sym (c.attach_anew.ensures.files told)) (c.commit.ensures.durable.lasting told trusts);
   };

@@ -19,7 +19,7 @@ use Rattle.index_core.proofs.Lightly.{light_same, light_still, light_told, refus
 use Rattle.index_core.proofs.session.Session.step.Goals as goal
 
 pub returns-in-Delete-clause-applies : goal.returns-in-Delete-clause-applies
-returns-in-Delete-clause-applies g c = rw c.in-Delete.is (applies_told _ _ _ _ _ _ _ (c.delete.ensures.applies _ _))
+returns-in-Delete-clause-applies g c = rw c.in-Delete.is (applies_told _ _ _ _ _ _ (c.delete.ensures.applies _ _))
 
 pub returns-in-DeleteBox-clause-applies : goal.returns-in-DeleteBox-clause-applies
 returns-in-DeleteBox-clause-applies g c = rw c.in-DeleteBox.is c.delete_box.ensures.applies
@@ -31,10 +31,10 @@ returns-in-InBox-clause-applies g c = rw c.in-InBox.is (applies_as _ _ _ _ _ _ _
     (sym c.new.ensures)) c.find.ensures.applies)
 
 pub returns-in-Snapshot-clause-applies : goal.returns-in-Snapshot-clause-applies
-returns-in-Snapshot-clause-applies g c = rw c.in-Snapshot.is (applies_told _ _ _ _ _ _ _ (c.snapshot.ensures.applies _ _))
+returns-in-Snapshot-clause-applies g c = rw c.in-Snapshot.is (applies_told _ _ _ _ _ _ (c.snapshot.ensures.applies _ _))
 
 pub returns-in-Release-clause-applies : goal.returns-in-Release-clause-applies
-returns-in-Release-clause-applies g c = rw c.in-Release.is (applies_told _ _ _ _ _ _ _ (c.release.ensures.applies _ _))
+returns-in-Release-clause-applies g c = rw c.in-Release.is (applies_told _ _ _ _ _ _ (c.release.ensures.applies _ _))
 
 pub delete_box-requires : goal.delete_box-requires
 delete_box-requires g c = (session_fits g.row.D c.in-DeleteBox.lo.high, point_fits g.row.D c.in-DeleteBox.lo.high)

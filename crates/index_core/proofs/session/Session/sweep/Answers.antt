@@ -11,7 +11,7 @@ use Rattle.segment_set.specs.Kept.{IsNeeded, StaysButFiles}
 use Rattle.index_core.specs.Closed.{IsTracked, NamesOnlyListed}
 use Rattle.index_core.specs.Sessions.{AreTraced, Guards, SessionData}
 use Rattle.index_core.proofs.Closing.{idle_sweep, tracked_swept}
-use Rattle.index_core.proofs.Guarding.{IsSwept, session_swept}
+use Rattle.index_core.proofs.Swept.{IsSwept, session_swept}
 use Rattle.index_core.proofs.Tracing.{session_traced}
 use Rattle.segment_set.proofs.Sizes.{set_fits}
 use Rattle.segment_set.specs.Faithful.{IsFaithful}
@@ -31,6 +31,8 @@ swept g c told = record {
   named = c.sweep.ensures.swept.named;
   parts = ap (λ (u : SetData). u.parts) c.sweep.ensures.swept.alone.is;
   leaf = ap (λ (u : SetData). u.leaf) c.sweep.ensures.swept.alone.is;
+  next = ap (λ (u : SetData). u.next) c.sweep.ensures.swept.alone.is;
+  given = ap (λ (u : SetData). u.given) c.sweep.ensures.swept.alone.is;
 }
 
 done : (g : given.Over) (c : goal.Joined-sweep g) → c.self.inside.refused ≡ false

@@ -36,7 +36,23 @@ unfolding Keeps IsKept
 returns-then-touch-clause-once g c = λ missing. let has = c.if-touch.ensures.found in
     absurd (missing (has.0.value.b, (has.0, c.touch.ensures.fewer (page_key c.args.id c.args.number, has.0) has.1, refl)))
 
+pub returns-then-touch-clause-hit : goal.returns-then-touch-clause-hit
+unfolding Keeps IsKept
+returns-then-touch-clause-hit g c = λ here. (
+  refl,
+  refl,
+  λ i n k. (k.0, keeps_fewer c.touch.new.pages.entries c.args.self.now.pages.entries (page_key i n) k.0 c.touch.ensures.more k.1),
+)
+
 -- ---- it cannot be read, or there is no memory to keep it
+
+pub returns-in_err-page-clause-hit : goal.returns-in_err-page-clause-hit
+unfolding Keeps IsKept
+returns-in_err-page-clause-hit g c = λ here. absurd (c.if-touch.ensures.missing (here.1.0, here.1.1))
+
+pub returns-in_err-keep-clause-hit : goal.returns-in_err-keep-clause-hit
+unfolding Keeps IsKept
+returns-in_err-keep-clause-hit g c = λ here. absurd (c.if-touch.ensures.missing (here.1.0, here.1.1))
 
 pub returns-in_err-page-clause-reading : goal.returns-in_err-page-clause-reading
 unfolding Keeps IsKept KeepsFile Agrees
@@ -72,6 +88,10 @@ returns-in_err-keep-clause-reading g c =
     }
 
 -- ---- it is read
+
+pub returns-clause-hit : goal.returns-clause-hit
+unfolding Keeps IsKept
+returns-clause-hit g c = λ here. absurd (c.if-touch.ensures.missing (here.1.0, here.1.1))
 
 pub returns-clause-reading : goal.returns-clause-reading
 unfolding Keeps IsKept KeepsFile Agrees

@@ -177,7 +177,7 @@ returns-then-is_full-clause-rewrites g c = record {
 
 pub returns-then-is_full-clause-damaged : goal.returns-then-is_full-clause-damaged
 returns-then-is_full-clause-damaged g c =
-    shows_none g.row.D (IsTrue g.F.Pages.told) (g.F.Pages.files c.args.folder.now) (g.F.Pages.files c.args.folder.now) c.args.self.now _ (λ P. tt)
+    shows_none g.row.D (IsTrue g.F.Pages.told) (g.F.Pages.files c.args.folder.now) (g.F.Pages.files c.args.folder.now) c.args.self.now _ _ (λ P. tt)
 
 pub returns-in_err-make_room-clause-rewrites : goal.returns-in_err-make_room-clause-rewrites
 returns-in_err-make_room-clause-rewrites g c =
@@ -186,7 +186,7 @@ returns-in_err-make_room-clause-rewrites g c =
 
 pub returns-in_err-make_room-clause-damaged : goal.returns-in_err-make_room-clause-damaged
 returns-in_err-make_room-clause-damaged g c =
-    shows_on g.row.D (IsTrue g.F.Pages.told) (g.F.Pages.files c.args.folder.now) (g.F.Pages.files c.make_room.new.folder) c.args.self.now
+    shows_on g.row.D (IsTrue g.F.Pages.told) (g.F.Pages.files c.args.folder.now) (g.F.Pages.files c.make_room.new.folder) c.args.self.now _
     _ _ c.in_err-make_room.ensures.damaged
     (λ P. add_damage P c.in_err-make_room.field-0.0 c.from_residual.result c.from_residual.ensures.1)
 
@@ -199,7 +199,7 @@ returns-in_err-push-clause-rewrites g c =
 
 pub returns-in_err-push-clause-damaged : goal.returns-in_err-push-clause-damaged
 returns-in_err-push-clause-damaged g c =
-    shows_none g.row.D (IsTrue g.F.Pages.told) (g.F.Pages.files c.args.folder.now) (g.F.Pages.files c.make_room.new.folder) c.args.self.now
+    shows_none g.row.D (IsTrue g.F.Pages.told) (g.F.Pages.files c.args.folder.now) (g.F.Pages.files c.make_room.new.folder) c.args.self.now _
     _ (λ P. add_memory_damage P c.from_residual-in_err-push.result c.from_residual-in_err-push.ensures.1)
 
 pub returns-clause-rewrites : goal.returns-clause-rewrites
@@ -216,7 +216,7 @@ returns-clause-rewrites g c =
 
 pub returns-clause-damaged : goal.returns-clause-damaged
 returns-clause-damaged g c =
-    shows_none g.row.D (IsTrue g.F.Pages.told) (g.F.Pages.files c.args.folder.now) (g.F.Pages.files c.make_room.new.folder) c.args.self.now _ (λ P. tt)
+    shows_none g.row.D (IsTrue g.F.Pages.told) (g.F.Pages.files c.args.folder.now) (g.F.Pages.files c.make_room.new.folder) c.args.self.now _ _ (λ P. tt)
 
 pub returns-then-is_full-clause-full : goal.returns-then-is_full-clause-full
 returns-then-is_full-clause-full g c = record {

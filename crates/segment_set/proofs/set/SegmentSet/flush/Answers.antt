@@ -60,7 +60,7 @@ returns-in_err-merge_settle-clause-faithful g c = c.in_err-merge_settle.ensures.
 
 pub returns-in_err-merge_settle-clause-damaged : goal.returns-in_err-merge_settle-clause-damaged
 returns-in_err-merge_settle-clause-damaged g c =
-    shows_on g.row.D (IsTrue g.F.Pages.told) (g.F.Pages.files c.args.folder.now) (g.F.Pages.files c.merge_settle.new.folder) c.args.self.now
+    shows_on g.row.D (IsTrue g.F.Pages.told) (g.F.Pages.files c.args.folder.now) (g.F.Pages.files c.merge_settle.new.folder) c.args.self.now _
     _ _ c.in_err-merge_settle.ensures.damaged
     (λ P. same_damage P c.in_err-merge_settle.field-0.0 c.from_residual.result c.from_residual.ensures.1)
 
@@ -69,7 +69,7 @@ returns-clause-faithful g c = λ told faithful. c.write_buffer.ensures.faithful 
 
 pub returns-clause-damaged : goal.returns-clause-damaged
 returns-clause-damaged g c =
-    shows_none g.row.D (IsTrue g.F.Pages.told) (g.F.Pages.files c.args.folder.now) (g.F.Pages.files c.write_buffer.new.folder) c.args.self.now
+    shows_none g.row.D (IsTrue g.F.Pages.told) (g.F.Pages.files c.args.folder.now) (g.F.Pages.files c.write_buffer.new.folder) c.args.self.now _
     _ (λ P. no_damage c.write_buffer.result P c.write_buffer.ensures.whole)
 
 pub returns-in_err-merge_settle-clause-flushed : goal.returns-in_err-merge_settle-clause-flushed

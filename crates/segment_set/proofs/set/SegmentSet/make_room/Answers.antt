@@ -60,7 +60,7 @@ returns-then-has_room-clause-faithful g c = λ told faithful. faithful
 
 pub returns-then-has_room-clause-damaged : goal.returns-then-has_room-clause-damaged
 returns-then-has_room-clause-damaged g c =
-    shows_none g.row.D (IsTrue g.F.Pages.told) (g.F.Pages.files c.args.folder.now) (g.F.Pages.files c.args.folder.now) c.args.self.now _ (λ P. tt)
+    shows_none g.row.D (IsTrue g.F.Pages.told) (g.F.Pages.files c.args.folder.now) (g.F.Pages.files c.args.folder.now) c.args.self.now _ _ (λ P. tt)
 
 pub returns-clause-faithful : goal.returns-clause-faithful
 returns-clause-faithful g c = c.flush.ensures.faithful

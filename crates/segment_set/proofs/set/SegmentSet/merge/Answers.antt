@@ -149,8 +149,9 @@ returns-clause-damaged g c = record {
       (subst (λ n. length (live_in_parts h.contents (parts_among c.args.ids.now s.parts)) ≤ n)
       (ap (λ (u : SetData). u.given) c.self.view_is ∙ sym c.plan-plan.ensures.given)
       (merge_few g.row.D (g.F.Pages.files c.args.folder.now) s i h c.args.ids.now));
-  shown = subst (λ (s : SetData). OnDamage c.merge.result (IsMergeDamage g.row.D s.given s.names s.parts)) c.self.view_is
-      (subst (λ n. OnDamage c.merge.result (IsMergeDamage g.row.D n c.self.inside.names c.self.inside.segments)) (given_is g c) c.merge.ensures.shown);
+  shown = subst (λ (s : SetData). OnDamage c.merge.result (IsMergeDamage g.row.D s.given s.names c.merge.new.names s.parts)) c.self.view_is
+      (subst (λ n. OnDamage c.merge.result (IsMergeDamage g.row.D n c.self.inside.names c.merge.new.names c.self.inside.segments)) (given_is g c)
+      c.merge.ensures.shown);
   damage = λ told agrees. subst (λ n. OnDamage c.merge.result (IsMergeDamageOf (g.F.Pages.files c.merge.new.folder) n)) c.plan-plan.ensures.given
       (c.merge.ensures.damage told (subst (λ (s : SetData). Agrees (g.F.Pages.files c.args.folder.now) s.cache) (sym c.self.view_is) agrees));
   doubled = λ told agrees contents reads.

@@ -56,7 +56,7 @@ returns-in_err-ids-clause-faithful g c = λ told faithful. faithful
 
 pub returns-in_err-ids-clause-damaged : goal.returns-in_err-ids-clause-damaged
 returns-in_err-ids-clause-damaged g c =
-    shows_none g.row.D (IsTrue g.F.Pages.told) (g.F.Pages.files c.args.folder.now) (g.F.Pages.files c.args.folder.now) c.args.self.now
+    shows_none g.row.D (IsTrue g.F.Pages.told) (g.F.Pages.files c.args.folder.now) (g.F.Pages.files c.args.folder.now) c.args.self.now _
     _ (λ P. memory_damage P c.from_residual.result c.from_residual.ensures.1)
 
 pub returns-then-is_settled-clause-faithful : goal.returns-then-is_settled-clause-faithful
@@ -64,7 +64,7 @@ returns-then-is_settled-clause-faithful g c = λ told faithful. faithful
 
 pub returns-then-is_settled-clause-damaged : goal.returns-then-is_settled-clause-damaged
 returns-then-is_settled-clause-damaged g c =
-    shows_none g.row.D (IsTrue g.F.Pages.told) (g.F.Pages.files c.args.folder.now) (g.F.Pages.files c.args.folder.now) c.args.self.now _ (λ P. tt)
+    shows_none g.row.D (IsTrue g.F.Pages.told) (g.F.Pages.files c.args.folder.now) (g.F.Pages.files c.args.folder.now) c.args.self.now _ _ (λ P. tt)
 
 pub returns-clause-faithful : goal.returns-clause-faithful
 returns-clause-faithful g c = c.merge.ensures.faithful

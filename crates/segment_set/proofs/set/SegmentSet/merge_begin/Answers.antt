@@ -157,11 +157,14 @@ returns-in_err-built-clause-damaged g c = record {
   shown =
       let p = err_from_is_err_and c.from_residual-in_err-built.result c.from_residual-in_err-built.ensures.1 in
       rw (p.1, p.2)
-      (begun_damage (Unit {0}) (Unit {0}) (IsMergeDamage g.row.D c.args.self.now.given c.args.self.now.names c.args.self.now.parts) c.in_err-built.field-0.0
-      (subst (λ n. OnDamage {T = Unit {0}} (Err c.in_err-built.field-0.0) (IsMergeDamage g.row.D n c.args.self.now.names c.args.self.now.parts))
+      (begun_damage (Unit {0}) (Unit {0}) (IsMergeDamage g.row.D c.args.self.now.given c.args.self.now.names c.self.inside.names c.args.self.now.parts)
+      c.in_err-built.field-0.0
+      (subst (λ n.
+      OnDamage {T = Unit {0}} (Err c.in_err-built.field-0.0) (IsMergeDamage g.row.D n c.args.self.now.names c.self.inside.names c.args.self.now.parts))
       c.plan-plan.ensures.given
-      (subst (λ (s : SetData). OnDamage {T = Unit {0}} (Err c.in_err-built.field-0.0) (IsMergeDamage g.row.D c.plan-plan.result.given s.names s.parts))
-      c.self.view_is (c.in_err-built.ensures.shown c.self.inside.names))));
+      (subst (λ (s : SetData).
+      OnDamage {T = Unit {0}} (Err c.in_err-built.field-0.0) (IsMergeDamage g.row.D c.plan-plan.result.given s.names c.self.inside.names s.parts))
+      c.self.view_is (c.in_err-built.ensures.shown c.self.inside.names c.self.inside.names))));
   damage = λ told agrees.
       let p = err_from_is_err_and c.from_residual-in_err-built.result c.from_residual-in_err-built.ensures.1 in
       rw (p.1, p.2)

@@ -128,7 +128,7 @@ returns-in_err-ids-clause-faithful g c = c.loop-ids.invariant.faithful
 
 pub returns-in_err-ids-clause-damaged : goal.returns-in_err-ids-clause-damaged
 returns-in_err-ids-clause-damaged g c =
-    shows_none g.row.D (IsTrue g.F.Pages.told) (g.F.Pages.files c.args.folder.now) (g.F.Pages.files c.loop-ids.folder) c.args.self.now
+    shows_none g.row.D (IsTrue g.F.Pages.told) (g.F.Pages.files c.args.folder.now) (g.F.Pages.files c.loop-ids.folder) c.args.self.now _
     _ (λ P. memory_damage P c.from_residual.result c.from_residual.ensures.1)
 
 pub returns-in_err-merge-clause-faithful : goal.returns-in_err-merge-clause-faithful
@@ -142,10 +142,12 @@ returns-in_err-merge-clause-damaged g c = record {
   shown =
       let e = err_from_is_err_and c.from_residual-in_err-merge.result c.from_residual-in_err-merge.ensures.1 in
       rw (e.1, e.2)
-      (on_damage_weaker {T = Unit {0}} (Err c.in_err-merge.field-0.0) (IsMergeDamage g.row.D c.loop-ids.self.given c.loop-ids.self.names c.loop-ids.self.parts)
-      (IsMergeDamage g.row.D c.args.self.now.given c.args.self.now.names c.args.self.now.parts)
+      (on_damage_weaker {T = Unit {0}} (Err c.in_err-merge.field-0.0)
+      (IsMergeDamage g.row.D c.loop-ids.self.given c.loop-ids.self.names c.merge.new.self.names c.loop-ids.self.parts)
+      (IsMergeDamage g.row.D c.args.self.now.given c.args.self.now.names c.merge.new.self.names c.args.self.now.parts)
       (damage_before g.row.D (IsTrue g.F.Pages.told) (g.F.Pages.files c.args.folder.now) (g.F.Pages.files c.loop-ids.folder) c.args.self.now c.loop-ids.self
-      (c.loop-ids.invariant.moves c.next_merge.ensures.well)) c.in_err-merge.ensures.damaged.shown);
+      c.merge.new.self.names (c.loop-ids.invariant.moves c.next_merge.ensures.well) c.next_merge.ensures.well.named c.merge.ensures.moves.kept.more)
+      c.in_err-merge.ensures.damaged.shown);
   damage = λ told agrees. same_damage (IsMergeDamageOf (g.F.Pages.files c.merge.new.folder) c.args.self.now.given) c.in_err-merge.field-0.0
       c.from_residual-in_err-merge.result c.from_residual-in_err-merge.ensures.1
       (subst (λ n. OnDamage {T = Unit {0}} (Err c.in_err-merge.field-0.0) (IsMergeDamageOf (g.F.Pages.files c.merge.new.folder) n))
@@ -174,7 +176,7 @@ returns-clause-faithful g c = c.loop-ids.invariant.faithful
 
 pub returns-clause-damaged : goal.returns-clause-damaged
 returns-clause-damaged g c =
-    shows_none g.row.D (IsTrue g.F.Pages.told) (g.F.Pages.files c.args.folder.now) (g.F.Pages.files c.loop-ids.folder) c.args.self.now _ (λ P. tt)
+    shows_none g.row.D (IsTrue g.F.Pages.told) (g.F.Pages.files c.args.folder.now) (g.F.Pages.files c.loop-ids.folder) c.args.self.now _ _ (λ P. tt)
 
 pub returns-in_err-ids-clause-settled : goal.returns-in_err-ids-clause-settled
 returns-in_err-ids-clause-settled g c = never_ok _ c.from_residual.result c.from_residual.ensures.1 _

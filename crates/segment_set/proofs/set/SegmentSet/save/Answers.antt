@@ -96,7 +96,7 @@ returns-in_err-flush-clause-rewrites g c = record {
 
 pub returns-in_err-flush-clause-damaged : goal.returns-in_err-flush-clause-damaged
 returns-in_err-flush-clause-damaged g c =
-    shows_on g.row.D (IsTrue g.F.Pages.told) (g.F.Pages.files c.args.folder.now) (g.F.Pages.files c.flush.new.folder) c.args.self.now
+    shows_on g.row.D (IsTrue g.F.Pages.told) (g.F.Pages.files c.args.folder.now) (g.F.Pages.files c.flush.new.folder) c.args.self.now _
     _ _ c.in_err-flush.ensures.damaged
     (λ P. same_damage P c.in_err-flush.field-0.0 c.from_residual.result c.from_residual.ensures.1)
 
@@ -164,7 +164,7 @@ returns-clause-rewrites g c = record {
 
 pub returns-clause-damaged : goal.returns-clause-damaged
 returns-clause-damaged g c =
-    shows_none g.row.D (IsTrue g.F.Pages.told) (g.F.Pages.files c.args.folder.now) (g.F.Pages.files c.list_segments.new.folder) c.args.self.now
+    shows_none g.row.D (IsTrue g.F.Pages.told) (g.F.Pages.files c.args.folder.now) (g.F.Pages.files c.list_segments.new.folder) c.args.self.now _
     _ (λ P. no_damage c.list_segments.result P c.list_segments.ensures.whole)
 
 pub returns-in_err-flush-clause-flushed : goal.returns-in_err-flush-clause-flushed

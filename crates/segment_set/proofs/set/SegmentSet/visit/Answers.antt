@@ -94,7 +94,7 @@ returns-clause-compares g c =
 
 pub returns-clause-reads : goal.returns-clause-reads
 returns-clause-reads g c n are =
-    c.visit.ensures.reads n
+    c.visit.ensures.reads.most n
     (subst (λ (ps : List LiveSegment). AreTouched g.row.D (g.S.Shape.has c.args.shape.now) (g.S.Shape.crosses c.args.shape.now) (heads_of ps) n)
     (sym (parts_are g c))
     are)
