@@ -24,11 +24,8 @@ use crate::reading::{body_length, decode};
 use crate::writing::encode_commit;
 use byte_cursor::{Bytes, Memory};
 use outer_io::{FileName, Folder, WriteFault};
-use page_cache::{Damage, FirstPage, PageFault, pages_for, pages_of, read_payloads};
+use page_cache::{Damage, FirstPage, PAYLOAD_LEN, PageFault, pages_for, pages_of, read_payloads};
 use std::alloc::Global;
-
-/// The bytes of a page's payload.
-const PAYLOAD_LEN: usize = 4064;
 
 /// The commit of the folder, in either layout. None exactly where the folder has no Commit.
 ///

@@ -28,4 +28,5 @@ pub use laws::{
     payloads_join,
 };
 pub use note::LeafNote;
+pub use page_file::{PAGE_LEN, PAYLOAD_LEN};
 pub use read::read_payloads;
