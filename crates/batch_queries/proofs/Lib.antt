@@ -1,7 +1,6 @@
 mod Lines
 mod Tells
 mod Replying
-mod Sizes
 mod Applying
 mod Places
 mod Ended

@@ -13,11 +13,8 @@ ghost use Rattle.batch_run.specs.Copies.{IsCopied, ReadsListed, pages_in};
 use crate::Memory;
 use commit_list::{Commit, encode_commit};
 use outer_io::{FileName, MemFolder, Pages};
-use page_cache::{PageFault, pages_of};
+use page_cache::{PAGE_LEN, PageFault, pages_of};
 use std::alloc::Global;
-
-/// How many bytes are read by one call.
-const PAGE_LEN: usize = 4096;
 
 /// A copy in memory of the files that a commit lists, with a file of that commit. Each page is read once.
 pub(crate) fn copy_index<F: Pages>(

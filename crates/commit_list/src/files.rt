@@ -4,7 +4,8 @@ ghost use Rattle.std.specs.Prelude.{◌≡◌, ◌≤◌, ◌+◌, ◌*◌, ◌/
 ghost use Rattle.std.specs.Prelude.{IfOk, OnSome, OnOk, OnErr, IsErrOf, MatchOption, replicate, ◌↔◌};
 ghost use Rattle.outer_io.specs.Files.{Files, bytes_of, SameButTwo};
 ghost use Rattle.outer_io.specs.declared.file_name.FileName.TheVariants.{Commit as CommitName, CommitNew};
-ghost use Rattle.page_cache.specs.Causes.{HasPageCause, HasStoreCause, IsSteady};
+ghost use Rattle.outer_io.specs.Faults.{HasWriteCause};
+ghost use Rattle.page_cache.specs.Causes.{HasPageCause, IsSteady};
 ghost use Rattle.page_cache.specs.Bodies.{pages_for as pages_for_body};
 ghost use Rattle.page_cache.specs.Evidence.{OnDamage, NotDamaged, SizeWithin, IsFileDamage, IsFileDamageOf};
 ghost use Rattle.page_cache.specs.Evidence.{ArePayloadsOf};
@@ -12,7 +13,7 @@ ghost use Rattle.page_cache.specs.FilePages.{ArePages, payloads_of};
 ghost use Rattle.page_cache.specs.declared.faults.Damage.TheVariants.{Body};
 ghost use Rattle.page_cache.specs.FirstPages.{first_name, first_payload, IsFirstPage};
 ghost use Rattle.page_cache.specs.declared.faults.PageFault.TheVariants as page;
-ghost use Rattle.page_cache.specs.declared.faults.StoreFault.TheVariants as store;
+ghost use Rattle.outer_io.specs.declared.faults.WriteFault.TheVariants as write;
 ghost use Rattle.commit_list.specs.Commits.{CommitData};
 ghost use Rattle.commit_list.specs.Layout.{BeginsBody};
 ghost use Rattle.commit_list.specs.CommitFiles.{IsCommitFile, IsWrittenCommit, SpellsFilled, HasNoFilled};
@@ -22,12 +23,9 @@ use crate::commits::Commit;
 use crate::reading::{body_length, decode};
 use crate::writing::encode_commit;
 use byte_cursor::{Bytes, Memory};
-use outer_io::{FileName, Folder};
-use page_cache::{Damage, FirstPage, PageFault, StoreFault, pages_for, pages_of, read_payloads};
+use outer_io::{FileName, Folder, WriteFault};
+use page_cache::{Damage, FirstPage, PAYLOAD_LEN, PageFault, pages_for, pages_of, read_payloads};
 use std::alloc::Global;
-
-/// The bytes of a page's payload.
-const PAYLOAD_LEN: usize = 4064;
 
 /// The commit of the folder, in either layout. None exactly where the folder has no Commit.
 ///
@@ -192,17 +190,17 @@ fn is_zero(bytes: &[u8]) -> bool
 
 /// Makes the commit the folder's: it is written beside the Commit of before, and then put into its place by its
 /// name. After want of memory the Commit is as before; after a failure it is as before or this one.
-pub fn write_commit<F: Folder>(alloc: Global, folder: &mut F, c: &Commit) -> Result<(), StoreFault>
+pub fn write_commit<F: Folder>(alloc: Global, folder: &mut F, c: &Commit) -> Result<(), WriteFault>
     ensures written { IsTrue F.told → OnOk result (IsWrittenCommit (bytes_of (F.files folder.new CommitName)) c.now) }
     ensures commit { IsTrue F.told → OnOk result (IsCommitFile (bytes_of (F.files folder.new CommitName)) c.now) }
     ensures gone { IsTrue F.told → OnOk result (F.files folder.new CommitNew ≡ None) }
     ensures kept { IsTrue F.told → OnErr result ((F.files folder.new CommitName ≡ F.files folder.old CommitName)
         ⊎ IsWrittenCommit (bytes_of (F.files folder.new CommitName)) c.now) }
-    ensures memory { IsTrue F.told → IsErrOf result store.Memory
+    ensures memory { IsTrue F.told → IsErrOf result write.Memory
         → F.files folder.new CommitName ≡ F.files folder.old CommitName }
     ensures others { IsTrue F.told → SameButTwo CommitNew CommitName (F.files folder.old) (F.files folder.new) }
     ensures reads { F.reads folder.new ≡ F.reads folder.old }
-    ensures cause { HasStoreCause (F.faults folder.old) (F.faults folder.new) result }
+    ensures cause { HasWriteCause (F.faults folder.old) (F.faults folder.new) result }
 {
     let body = encode_commit(alloc, c)?;
     let pages = pages_of(alloc, &FileName::Commit, body.as_slice())?;
@@ -210,16 +208,16 @@ pub fn write_commit<F: Folder>(alloc: Global, folder: &mut F, c: &Commit) -> Res
 }
 
 /// Makes the bytes the Commit of the folder, whole or not at all.
-fn replace<F: Folder>(folder: &mut F, bytes: &[u8]) -> Result<(), StoreFault>
+fn replace<F: Folder>(folder: &mut F, bytes: &[u8]) -> Result<(), WriteFault>
     ensures written { IsTrue F.told → OnOk result (F.files folder.new CommitName ≡ Some bytes.now) }
     ensures gone { IsTrue F.told → OnOk result (F.files folder.new CommitNew ≡ None) }
     ensures kept { IsTrue F.told → OnErr result ((F.files folder.new CommitName ≡ F.files folder.old CommitName)
         ⊎ (F.files folder.new CommitName ≡ Some bytes.now)) }
-    ensures memory { IsTrue F.told → IsErrOf result store.Memory
+    ensures memory { IsTrue F.told → IsErrOf result write.Memory
         → F.files folder.new CommitName ≡ F.files folder.old CommitName }
     ensures others { IsTrue F.told → SameButTwo CommitNew CommitName (F.files folder.old) (F.files folder.new) }
     ensures reads { F.reads folder.new ≡ F.reads folder.old }
-    ensures cause { HasStoreCause (F.faults folder.old) (F.faults folder.new) result }
+    ensures cause { HasWriteCause (F.faults folder.old) (F.faults folder.new) result }
 {
     folder.write_file(&FileName::CommitNew, bytes)?;
     folder.rename(&FileName::CommitNew, &FileName::Commit)?;

@@ -8,6 +8,7 @@ use Rattle.point_codec.specs.Points.{Region}
 use Rattle.page_cache.specs.declared.faults.PageFault.{PageFault}
 use Rattle.page_cache.specs.declared.faults.PageFault.TheVariants as page
 use Rattle.page_cache.specs.Causes.{HasPageCause}
+use Rattle.page_cache.proofs.Causes.{memory_cause}
 use Rattle.page_cache.specs.Evidence.{NotDamaged, OnDamage}
 use Rattle.documents.specs.Nearest.{found_of}
 use Rattle.nearest_query.specs.Segments.{bound_of, last_of}
@@ -43,9 +44,6 @@ Telling = Scope → Told → Type 0
 
 no_cause : {T : Type 0} (faults : ℕ) (x : T) → HasPageCause faults faults (Ok x)
 no_cause faults x = record { later = omega arith; fine = refl; failed = λ e. absurd cc }
-
-memory_cause : {T : Type 0} (before now : ℕ) → before ≤ now → HasPageCause {T = T} before now (Err page.Memory)
-memory_cause before now later = record { later = later; fine = tt; failed = λ e. absurd cc }
 
 -- a set that stays is faithful to the files that stay
 faithful_still : (D : ℕ) (old new : ExplainMoment) → new.set ≡ old.set → new.files ≡ old.files → IsFaithful D old.files old.set → IsFaithful D new.files new.set

@@ -4,8 +4,8 @@ use crate::asserts::{holds, holds_at, same, same_at};
 use crate::commit_list_bodies::{BODY, OLD_BODY, long_body, read};
 use crate::samples::{changed, flipped};
 use commit_list::{read_commit, write_commit};
-use outer_io::{FileName, MemFolder};
-use page_cache::{Damage, PageFault, StoreFault, pages_of};
+use outer_io::{FileName, MemFolder, WriteFault};
+use page_cache::{Damage, PageFault, pages_of};
 use std::process::Abort;
 use std::test::Fail;
 
@@ -218,8 +218,8 @@ fn was_written(rt: &(impl Abort + AllocGlobal), folder: &mut MemFolder) -> Resul
     let c = read(rt, BODY.as_slice())?;
     match write_commit(rt.alloc(), folder, &c) {
         Ok(()) => Ok(true),
-        Err(StoreFault::Failed) => Ok(false),
-        Err(StoreFault::Memory) => Err("memory is wanting")?,
+        Err(WriteFault::Failed) => Ok(false),
+        Err(WriteFault::Memory) => Err("memory is wanting")?,
     }
 }
 

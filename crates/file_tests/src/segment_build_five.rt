@@ -7,8 +7,7 @@ use crate::samples::file_of_three;
 use bkd_build::OpenGate;
 use byte_cursor::Memory;
 use live_bits::LiveBits;
-use outer_io::{FileName, MemFolder};
-use page_cache::StoreFault;
+use outer_io::{FileName, MemFolder, WriteFault};
 use point_codec::{Entry, Point};
 use segment_build::{NewSegment, build_segment};
 use std::alloc::Global;
@@ -45,7 +44,7 @@ fn five_entries_are_written_after_a_refusal(rt: HostRuntime) -> Result<(), Fail>
     same(&rt, segment.entries(), 5);
     let mut folder = MemFolder::new(rt.alloc(), [0].to_vec(rt.alloc())?);
     let failed = segment.write(rt.alloc(), &mut folder, 7);
-    holds(&rt, failed.is_err_and(|fault| fault == StoreFault::Failed));
+    holds(&rt, failed.is_err_and(|fault| fault == WriteFault::Failed));
     let head = segment.write(rt.alloc(), &mut folder, 7);
     holds(
         &rt,

@@ -6,8 +6,8 @@ ghost use Rattle.bkd_build.specs.Pieces.{AreEntries};
 
 use crate::asserts::{holds_at, same, same_at};
 use bkd_build::OpenGate;
-use outer_io::{FileName, MemFolder};
-use page_cache::{PageCache, PageFault, StoreFault};
+use outer_io::{FileName, MemFolder, WriteFault};
+use page_cache::{PageCache, PageFault};
 use point_codec::{Entry, Point};
 use segment_build::{NewSegment, build_segment};
 use segment_file::read_entries;
@@ -83,8 +83,8 @@ fn is_written(
     folder.plan(vec![in alloc; call]?, None);
     match segment.write(alloc, folder, 3) {
         Ok(head) => Ok(head.entries() == MANY && size(folder) > 256 * 4096),
-        Err(StoreFault::Failed) => Ok(false),
-        Err(StoreFault::Memory) => Err("memory is wanting")?,
+        Err(WriteFault::Failed) => Ok(false),
+        Err(WriteFault::Memory) => Err("memory is wanting")?,
     }
 }
 

@@ -11,8 +11,7 @@ use byte_cursor::Bytes;
 use inner_pack::Index;
 use leaf_codec::LeafView;
 use live_bits::LiveBits;
-use outer_io::{FileName, MemFolder};
-use page_cache::StoreFault;
+use outer_io::{FileName, MemFolder, WriteFault};
 use page_file::{PageBytes, seal};
 use point_codec::{Cell, Point};
 use segment_file::{SegmentHead, read_live, write_live, write_segment};
@@ -66,7 +65,7 @@ fn live_bits_are_a_page_of_their_own(rt: HostRuntime) -> Result<(), Fail> {
     same(&rt, back.live_count(), 3);
     folder.plan([0].to_vec(rt.alloc())?, None);
     let failed = write_live(rt.alloc(), &mut folder, 2, 2, &back);
-    same(&rt, failed, Err(StoreFault::Failed));
+    same(&rt, failed, Err(WriteFault::Failed));
     has_page(&rt, &folder);
     Ok(())
 }
@@ -198,7 +197,7 @@ fn leaf(rt: &HostRuntime, bytes: &[u8], cell: &Cell<1>, count: u16) -> Result<By
 fn write_three(
     rt: &HostRuntime,
     folder: &mut MemFolder,
-) -> Result<Result<SegmentHead<1>, StoreFault>, Fail> {
+) -> Result<Result<SegmentHead<1>, WriteFault>, Fail> {
     let wide = line(5, 7);
     let narrow = line(7, 7);
     let index = Index::pack(
@@ -222,7 +221,7 @@ fn three_leaves_are_written_behind_their_index(rt: HostRuntime) -> Result<(), Fa
     let mut folder = folder_with(&rt, FileName::Commit, BEFORE)?;
     folder.plan([0].to_vec(rt.alloc())?, None);
     let failed = write_three(&rt, &mut folder)?;
-    holds(&rt, failed.is_err_and(|fault| fault == StoreFault::Failed));
+    holds(&rt, failed.is_err_and(|fault| fault == WriteFault::Failed));
     let written = write_three(&rt, &mut folder)?;
     holds(&rt, written.is_ok_and(|head| head.entries() == 5));
     same(

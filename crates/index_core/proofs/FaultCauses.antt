@@ -1,8 +1,9 @@
 -- The causes of faults, and answers that are no damage.
-use Rattle.std.proofs.Common.{◌≡◌, ◌≤◌, ℕ, Result, Ok, Err, IsErrOf, refl, sym, ap, subst}
+use Rattle.std.proofs.Common.{◌≡◌, ℕ, Result, Ok, Err, IsErrOf, refl, sym, ap, subst}
 use Rattle.page_cache.specs.declared.faults.PageFault.{PageFault}
 use Rattle.page_cache.specs.declared.faults.PageFault.TheVariants as page
 use Rattle.page_cache.specs.Causes.{HasPageCause}
+pub use Rattle.page_cache.proofs.Causes.{memory_cause}
 use Rattle.page_cache.specs.Evidence.{NotDamaged}
 use Rattle.segment_set.specs.declared.faults.AddFault.{AddFault}
 use Rattle.segment_set.specs.declared.faults.AddFault.TheVariants as add
@@ -12,9 +13,6 @@ use Rattle.segment_set.specs.declared.faults.EndFault.{EndFault}
 use Rattle.segment_set.specs.declared.faults.EndFault.TheVariants as end
 use Rattle.segment_set.specs.Faults.{HasCauseOf, OnAddDamage, OnBeginDamage, OnEndDamage}
 use Rattle.index_core.specs.Replies.{add_answer, begin_answer, end_answer}
-
-pub memory_cause : {T : Type 0} (before now : ℕ) → before ≤ now → HasPageCause {T = T} before now (Err page.Memory)
-memory_cause before now later = record { later = later; fine = tt; failed = λ e. absurd cc }
 
 pub cause_add : (before now : ℕ) (r : Result ℕ AddFault) → (IsErrOf r add.Full → ⊥) → HasCauseOf add.Failed before now r
     → HasPageCause before now (add_answer r)

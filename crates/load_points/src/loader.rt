@@ -26,6 +26,7 @@ use byte_cursor::Bytes;
 use commit_list::{Commit, read_commit};
 use csv_load::{CsvFault, read_points};
 use index_core::{Session, Work};
+use index_model::MAX_POINTS;
 use leaf_codec::greatest_leaf;
 use outer_io::Folder;
 use page_cache::PageFault;
@@ -33,9 +34,6 @@ use point_codec::Point;
 use std::alloc::AllocError;
 use std::marker::Sync;
 use std::thread::Threads;
-
-/// The greatest number of points that are ever given.
-const MAX_POINTS: u32 = 1 << 24;
 
 /// Adds the points of a CSV file to the index of a folder, and commits; the columns of these names are the
 /// dimensions. Where no index is there, one is made. The answer is appended to `text`; it is true where the load is

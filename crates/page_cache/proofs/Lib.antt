@@ -9,3 +9,4 @@ pub mod FileSizes
 pub mod Sealed
 pub mod Notes
 pub mod Unread
+pub mod Causes

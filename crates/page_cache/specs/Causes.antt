@@ -6,8 +6,6 @@ use Rattle.outer_io.specs.declared.faults.WriteFault.{WriteFault}
 use Rattle.outer_io.specs.declared.faults.WriteFault.TheVariants as write
 use Rattle.page_cache.specs.declared.faults.PageFault.{PageFault}
 use Rattle.page_cache.specs.declared.faults.PageFault.TheVariants as page
-use Rattle.page_cache.specs.declared.faults.StoreFault.{StoreFault}
-use Rattle.page_cache.specs.declared.faults.StoreFault.TheVariants as store
 
 -- faults are never forgotten; a call that is done raised none; a call that answers Failed raised some
 pub record HasPageCause {T : Type 0} (before now : ℕ) (result : Result T PageFault) : Type 0 where
@@ -22,18 +20,7 @@ IsSteady before now (Err page.Failed) = Unit {0}
 IsSteady before now (Err (page.Damaged d)) = now ≡ before
 IsSteady before now (Err page.Memory) = now ≡ before
 
--- causes, of a call that writes
-pub record HasStoreCause {T : Type 0} (before now : ℕ) (result : Result T StoreFault) : Type 0 where
-  pub later : before ≤ now
-  pub fine : OnOk result (now ≡ before)
-  pub failed : IsErrOf result store.Failed → Rose before now
-
--- what a fault of a write is as a fault of a segment
-abbrev pub store_fault : WriteFault → StoreFault
-store_fault write.Failed = store.Failed
-store_fault write.Memory = store.Memory
-
 -- what a fault of a call that writes is where a call may meet damage too
-abbrev pub page_fault : StoreFault → PageFault
-page_fault store.Failed = page.Failed
-page_fault store.Memory = page.Memory
+abbrev pub page_fault : WriteFault → PageFault
+page_fault write.Failed = page.Failed
+page_fault write.Memory = page.Memory

@@ -8,15 +8,6 @@ use std::alloc::AllocError;
 /// Memory is wanting.
 pub type Memory = AllocError;
 
-/// Why a file wasn't written.
-#[derive(Clone, Copy, PartialEq, Eq, Debug, Drop)]
-pub enum StoreFault {
-    /// The folder failed, and counted it.
-    Failed,
-    /// Memory is wanting, which is no fault of the folder.
-    Memory,
-}
-
 /// Why something stored wasn't read.
 #[derive(Debug, Drop)]
 pub enum PageFault {
@@ -112,52 +103,16 @@ impl From<Damage> for PageFault {
     }
 }
 
-impl From<StoreFault> for PageFault {
+impl From<WriteFault> for PageFault {
     ghost use Rattle.std.specs.Prelude.{◌≡◌};
     ghost use Rattle.page_cache.specs.Causes.{page_fault};
 
-    ghost from_gives = { λ s e. e ≡ page_fault s };
+    ghost from_gives = { λ w e. e ≡ page_fault w };
 
-    fn from(fault: StoreFault) -> PageFault {
+    fn from(fault: WriteFault) -> PageFault {
         match fault {
-            StoreFault::Failed => PageFault::Failed,
-            StoreFault::Memory => PageFault::Memory,
-        }
-    }
-}
-
-impl From<Failed> for StoreFault {
-    ghost use Rattle.std.specs.Prelude.{◌≡◌};
-    ghost use Rattle.page_cache.specs.declared.faults.StoreFault.TheVariants as store;
-
-    ghost from_gives = { λ _ e. e ≡ store.Failed };
-
-    fn from(_failed: Failed) -> StoreFault {
-        StoreFault::Failed
-    }
-}
-
-impl From<AllocError> for StoreFault {
-    ghost use Rattle.std.specs.Prelude.{◌≡◌};
-    ghost use Rattle.page_cache.specs.declared.faults.StoreFault.TheVariants as store;
-
-    ghost from_gives = { λ _ e. e ≡ store.Memory };
-
-    fn from(_memory: AllocError) -> StoreFault {
-        StoreFault::Memory
-    }
-}
-
-impl From<WriteFault> for StoreFault {
-    ghost use Rattle.std.specs.Prelude.{◌≡◌};
-    ghost use Rattle.page_cache.specs.Causes.{store_fault};
-
-    ghost from_gives = { λ w e. e ≡ store_fault w };
-
-    fn from(fault: WriteFault) -> StoreFault {
-        match fault {
-            WriteFault::Failed => StoreFault::Failed,
-            WriteFault::Memory => StoreFault::Memory,
+            WriteFault::Failed => PageFault::Failed,
+            WriteFault::Memory => PageFault::Memory,
         }
     }
 }

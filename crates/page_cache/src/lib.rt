@@ -21,11 +21,12 @@ mod read;
 
 pub use bodies::{pages_for, pages_of, put_pages};
 pub use cache::PageCache;
-pub use faults::{Damage, Memory, PageFault, StoreFault};
+pub use faults::{Damage, Memory, PageFault};
 pub use first_page::FirstPage;
 pub use laws::{
     agreement_is_of_kept_files, bodies_of_one_length_are_equal, pages_put_behind, pages_that_agree,
     payloads_join,
 };
 pub use note::LeafNote;
+pub use page_file::{PAGE_LEN, PAYLOAD_LEN};
 pub use read::read_payloads;

@@ -92,9 +92,9 @@ reads_from seen (Err f) read same e h = e ∙ h (λ m. cc)
 pub no_document : (dims place n : ℕ) (words : List (List ℕ)) → n ≡ length words → (n % dims == 0 && is_from_to 1 16 (n / dims)) ≡ false
     → document_of dims place words ≡ Err fault.Words
 unfolding document_of
-no_document dims place n words is no =
+no_document dims place n words is wrong =
     ap (λ (t : Bool). cond t (points_of (length words / dims) dims (values_of coordinate place words)) (Err fault.Words))
-    (subst (λ (m : ℕ). (m % dims == 0 && is_from_to 1 16 (m / dims)) ≡ false) is no)
+    (subst (λ (m : ℕ). (m % dims == 0 && is_from_to 1 16 (m / dims)) ≡ false) is wrong)
 
 -- words write a document of so many points
 pub record IsDocument (dims place count : ℕ) (words : List (List ℕ)) : Type 0 where

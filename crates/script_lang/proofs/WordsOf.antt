@@ -110,7 +110,7 @@ both_some : (v : List ℕ) (ws : List (List ℕ)) → 0 < length v → 0 < lengt
 both_some v ws more most = ne_eqb (length v) 0 (λ e. omega arith) ∙ sym (ne_eqb (length ws) 0 (λ e. omega arith))
 
 both_none : (v : List ℕ) (ws : List (List ℕ)) → length v ≡ 0 → length ws ≡ 0 → (length v == 0) ≡ (length ws == 0)
-both_none v ws none no = eq-eqb (length v) 0 none ∙ sym (eq-eqb (length ws) 0 no)
+both_none v ws none lacks = eq-eqb (length v) 0 none ∙ sym (eq-eqb (length ws) 0 lacks)
 
 -- no byte is left behind the blanks at the front exactly where no word is
 pub empty_from : (text w : List ℕ) (n : ℕ) → n ≡ prefix_len is_blank text → w ≡ drop n text → (length w == 0) ≡ (length (words_of text) == 0)

@@ -2,8 +2,7 @@
 
 use bkd_build::Built;
 use live_bits::LiveBits;
-use outer_io::Folder;
-use page_cache::StoreFault;
+use outer_io::{Folder, WriteFault};
 use segment_file::{SegmentHead, write_segment};
 use std::alloc::Global;
 use std::marker::Model;
@@ -42,7 +41,7 @@ impl<const D: usize> NewSegment<D> {
     ghost use Rattle.outer_io.specs.declared.file_name.FileName.TheVariants.{Segment};
     ghost use Rattle.point_codec.specs.Points.{Item};
     ghost use Rattle.live_bits.specs.LiveSet.{IsLiveSet, is_live, live_set_without};
-    ghost use Rattle.page_cache.specs.Causes.{HasStoreCause};
+    ghost use Rattle.outer_io.specs.Faults.{HasWriteCause};
     ghost use Rattle.segment_file.specs.Segments.{IsSegment};
     ghost use Rattle.segment_file.specs.Written.{head_of};
     ghost use Rattle.segment_build.specs.NewSegments.{HasEntries, IsCanonical};
@@ -85,14 +84,14 @@ impl<const D: usize> NewSegment<D> {
         alloc: Global,
         folder: &mut F,
         id: u64,
-    ) -> Result<SegmentHead<D>, StoreFault>
+    ) -> Result<SegmentHead<D>, WriteFault>
         ensures head { IfOk result (λ h. h ≡ head_of id self.now.entries self.now.leaf self.now.index) }
         ensures written { IsTrue F.told → (items : List Item) → HasEntries D items self.now
             → IfOk result (λ h. IsSegment D (bytes_of (F.files folder.new (Segment id))) h items) }
         ensures canon { (items : List Item) → HasEntries D items self.now → IfOk result (λ h. IsCanonical D h items) }
         ensures others { IsTrue F.told → SameBut (Segment id) (F.files folder.old) (F.files folder.new) }
         ensures reads { F.reads folder.new ≡ F.reads folder.old }
-        ensures cause { HasStoreCause (F.faults folder.old) (F.faults folder.new) result }
+        ensures cause { HasWriteCause (F.faults folder.old) (F.faults folder.new) result }
     {
         let index = self.built.index().copy(alloc)?;
         write_segment(

@@ -8,7 +8,8 @@ ghost use Rattle.live_bits.specs.LiveSet.{LiveSet, IsLiveSet};
 ghost use Rattle.live_bits.specs.LiveBody.{IsLiveBody, SaysLength};
 ghost use Rattle.page_cache.specs.declared.faults.PageFault.TheVariants as page;
 ghost use Rattle.page_cache.specs.Bodies.{pages_for as pages_for_body};
-ghost use Rattle.page_cache.specs.Causes.{HasPageCause, HasStoreCause};
+ghost use Rattle.outer_io.specs.Faults.{HasWriteCause};
+ghost use Rattle.page_cache.specs.Causes.{HasPageCause};
 ghost use Rattle.page_cache.specs.Evidence.{OnDamage, NotDamaged};
 ghost use Rattle.segment_file.specs.LiveFiles.{pages_once, IsLiveFile, IsSetOf};
 ghost use Rattle.segment_file.specs.Kept.{OnFault};
@@ -17,8 +18,8 @@ ghost use Rattle.segment_file.specs.Damages.{BeginsNoSet, IsBodyDamage, IsLiveDa
 use crate::payloads::{all_payloads, is_blank};
 use byte_cursor::{Bytes, Memory};
 use live_bits::{BitsFault, LiveBits, body_len};
-use outer_io::{FileName, Folder, Pages};
-use page_cache::{Damage, FirstPage, PageFault, StoreFault, pages_for, pages_of};
+use outer_io::{FileName, Folder, Pages, WriteFault};
+use page_cache::{Damage, FirstPage, PageFault, pages_for, pages_of};
 use std::alloc::Global;
 
 /// Writes the live bits of a segment as the file of this generation. On a refusal that file holds any bytes or
@@ -29,12 +30,12 @@ pub fn write_live<F: Folder>(
     id: u64,
     generation: u64,
     live: &LiveBits,
-) -> Result<(), StoreFault>
+) -> Result<(), WriteFault>
     ensures written { IsTrue F.told
         → OnOk result (IsLiveFile id generation (bytes_of (F.files folder.new (Live id generation))) live.now) }
     ensures others { IsTrue F.told → SameBut (Live id generation) (F.files folder.old) (F.files folder.new) }
     ensures reads { F.reads folder.new ≡ F.reads folder.old }
-    ensures cause { HasStoreCause (F.faults folder.old) (F.faults folder.new) result }
+    ensures cause { HasWriteCause (F.faults folder.old) (F.faults folder.new) result }
 {
     let name = FileName::Live {
         segment: id,

@@ -4,11 +4,11 @@ ghost use Rattle.std.specs.Prelude.{◌≡◌, ◌<◌, ◌+◌, ◌++◌, ◌^�
 ghost use Rattle.outer_io.specs.Files.{bytes_of, SameBut};
 ghost use Rattle.outer_io.specs.declared.file_name.FileName.TheVariants.{Segment};
 ghost use Rattle.page_cache.specs.Bodies.{pages_for as pages_for_body, padded_body};
-ghost use Rattle.page_cache.specs.Causes.{HasStoreCause};
+ghost use Rattle.outer_io.specs.Faults.{HasWriteCause};
 
 use byte_cursor::Memory;
-use outer_io::{FileName, Folder};
-use page_cache::{StoreFault, pages_for, put_pages};
+use outer_io::{FileName, Folder, WriteFault};
+use page_cache::{pages_for, put_pages};
 use std::alloc::Global;
 
 /// How many bytes are collected before they are handed over: 256 pages.
@@ -42,7 +42,7 @@ impl Pieces {
     }
 
     /// Adds the pages of a body.
-    pub(crate) fn push<F: Folder>(&mut self, folder: &mut F, body: &[u8]) -> Result<(), StoreFault>
+    pub(crate) fn push<F: Folder>(&mut self, folder: &mut F, body: &[u8]) -> Result<(), WriteFault>
         requires short { length body.now < 2 ^ 32 }
         requires room { piece_pages self.old + pages_for_body (length body.now) < 2 ^ 32 }
         ensures id { piece_id self.new ≡ piece_id self.old }
@@ -55,7 +55,7 @@ impl Pieces {
         ensures others { IsTrue F.told
             → SameBut (Segment (piece_id self.old)) (F.files folder.old) (F.files folder.new) }
         ensures reads { F.reads folder.new ≡ F.reads folder.old }
-        ensures cause { HasStoreCause (F.faults folder.old) (F.faults folder.new) result }
+        ensures cause { HasWriteCause (F.faults folder.old) (F.faults folder.new) result }
     {
         self.put(body)?;
         if self.out.len() < PIECE {
@@ -82,7 +82,7 @@ impl Pieces {
     }
 
     /// Hands over what isn't yet.
-    pub(crate) fn hand_over<F: Folder>(&mut self, folder: &mut F) -> Result<(), StoreFault>
+    pub(crate) fn hand_over<F: Folder>(&mut self, folder: &mut F) -> Result<(), WriteFault>
         ensures id { piece_id self.new ≡ piece_id self.old }
         ensures pages { piece_pages self.new ≡ piece_pages self.old }
         ensures same { IsTrue F.told
@@ -95,7 +95,7 @@ impl Pieces {
         ensures others { IsTrue F.told
             → SameBut (Segment (piece_id self.old)) (F.files folder.old) (F.files folder.new) }
         ensures reads { F.reads folder.new ≡ F.reads folder.old }
-        ensures cause { HasStoreCause (F.faults folder.old) (F.faults folder.new) result }
+        ensures cause { HasWriteCause (F.faults folder.old) (F.faults folder.new) result }
     {
         let name = FileName::Segment(self.id);
         if self.started {

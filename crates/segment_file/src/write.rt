@@ -5,7 +5,7 @@ ghost use Rattle.outer_io.specs.Files.{bytes_of, SameBut};
 ghost use Rattle.outer_io.specs.declared.file_name.FileName.TheVariants.{Segment};
 ghost use Rattle.point_codec.specs.Points.{Item};
 ghost use Rattle.page_cache.specs.Bodies.{padded_body};
-ghost use Rattle.page_cache.specs.Causes.{HasStoreCause};
+ghost use Rattle.outer_io.specs.Faults.{HasWriteCause};
 ghost use Rattle.segment_file.specs.Heads.{fields_bytes};
 ghost use Rattle.segment_file.specs.FieldsSeen.{fields_said};
 ghost use Rattle.segment_file.specs.Pieced.{piece_id, piece_pages, so_far, IsPaged, laid_pages};
@@ -17,8 +17,7 @@ use crate::head::SegmentHead;
 use crate::pieces::Pieces;
 use byte_cursor::Bytes;
 use inner_pack::Index;
-use outer_io::Folder;
-use page_cache::StoreFault;
+use outer_io::{Folder, WriteFault};
 use std::alloc::Global;
 
 /// Writes the file of a segment: its head, its index and its leaves, which spell so many entries, a leaf's each. The
@@ -31,17 +30,17 @@ pub fn write_segment<const D: usize, F: Folder>(
     entries: u32,
     index: Index<D>,
     leaves: &[Bytes],
-) -> Result<SegmentHead<D>, StoreFault>
+) -> Result<SegmentHead<D>, WriteFault>
     requires { ∥ CanWrite D id leaf entries index leaves.now ∥₁ }
     ensures head { IfOk result (λ h. h ≡ head_of id entries leaf index.entry) }
     ensures written { IsTrue F.told → (items : List Item) → FitsSegment D id leaf entries index.entry leaves.now items
         → IfOk result (λ h. IsSegment D (bytes_of (F.files folder.new (Segment id))) h items) }
     ensures others { IsTrue F.told → SameBut (Segment id) (F.files folder.old) (F.files folder.new) }
     ensures reads { F.reads folder.new ≡ F.reads folder.old }
-    ensures cause { HasStoreCause (F.faults folder.old) (F.faults folder.new) result }
+    ensures cause { HasWriteCause (F.faults folder.old) (F.faults folder.new) result }
 {
     let Ok(index_length) = u32::try_from(index.body().len()) else {
-        return Err(StoreFault::Memory);
+        return Err(WriteFault::Memory);
     };
     let fields = HeadFields {
         dims: D as u8,
@@ -69,7 +68,7 @@ fn put_segment<F: Folder>(
     fields: HeadFields,
     index: &[u8],
     leaves: &[Bytes],
-) -> Result<(), StoreFault>
+) -> Result<(), WriteFault>
     requires short { length index.now < 2 ^ 32 }
     requires leaves { All (λ b. length b ≤ 4064) leaves.now }
     requires few { length leaves.now ≤ 8388608 }
@@ -78,7 +77,7 @@ fn put_segment<F: Folder>(
         (bytes_of (F.files folder.new (Segment id)))) }
     ensures others { IsTrue F.told → SameBut (Segment id) (F.files folder.old) (F.files folder.new) }
     ensures reads { F.reads folder.new ≡ F.reads folder.old }
-    ensures cause { HasStoreCause (F.faults folder.old) (F.faults folder.new) result }
+    ensures cause { HasWriteCause (F.faults folder.old) (F.faults folder.new) result }
 {
     let mut pieces = Pieces::new(alloc, id)?;
     let first = fields.write(alloc)?;
@@ -96,7 +95,7 @@ fn put_leaves<F: Folder>(
     folder: &mut F,
     pieces: &mut Pieces,
     leaves: &[Bytes],
-) -> Result<(), StoreFault>
+) -> Result<(), WriteFault>
     requires leaves { All (λ b. length b ≤ 4064) leaves.now }
     requires room { piece_pages pieces.old + length leaves.now + 1 < 2 ^ 32 }
     ensures id { piece_id pieces.new ≡ piece_id pieces.old }
@@ -107,7 +106,7 @@ fn put_leaves<F: Folder>(
         (so_far (bytes_of (F.files folder.new (Segment (piece_id pieces.old)))) pieces.new)) }
     ensures others { IsTrue F.told → SameBut (Segment (piece_id pieces.old)) (F.files folder.old) (F.files folder.new) }
     ensures reads { F.reads folder.new ≡ F.reads folder.old }
-    ensures cause { HasStoreCause (F.faults folder.old) (F.faults folder.new) result }
+    ensures cause { HasWriteCause (F.faults folder.old) (F.faults folder.new) result }
 {
     let mut page = Vec::with_capacity(alloc, 4064)?;
     for leaf in leaves {
@@ -123,7 +122,7 @@ fn make_room<F: Folder>(
     pieces: &mut Pieces,
     page: &mut Vec<u8>,
     leaf: &[u8],
-) -> Result<(), StoreFault>
+) -> Result<(), WriteFault>
     requires page { length page.old.items ≤ 4064 }
     requires leaf { length leaf.now ≤ 4064 }
     requires room { piece_pages pieces.old + 1 < 2 ^ 32 }
@@ -140,7 +139,7 @@ fn make_room<F: Folder>(
         (page.new.items ++ leaf.now) leaves)) }
     ensures others { IsTrue F.told → SameBut (Segment (piece_id pieces.old)) (F.files folder.old) (F.files folder.new) }
     ensures reads { F.reads folder.new ≡ F.reads folder.old }
-    ensures cause { HasStoreCause (F.faults folder.old) (F.faults folder.new) result }
+    ensures cause { HasWriteCause (F.faults folder.old) (F.faults folder.new) result }
 {
     if page.len() + leaf.len() <= 4064 {
         return Ok(());

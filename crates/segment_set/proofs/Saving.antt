@@ -12,9 +12,10 @@ use Rattle.page_cache.specs.declared.cache.PageCache.{PageCache}
 use Rattle.page_cache.specs.Cache.{Agrees, KeepsFile}
 use Rattle.page_cache.specs.declared.faults.Damage.{Damage}
 use Rattle.page_cache.specs.declared.faults.PageFault.{PageFault}
-use Rattle.page_cache.specs.declared.faults.StoreFault.{StoreFault}
-use Rattle.page_cache.specs.declared.faults.StoreFault.TheVariants as store
-use Rattle.page_cache.specs.Causes.{HasPageCause, HasStoreCause, page_fault}
+use Rattle.outer_io.specs.declared.faults.WriteFault.{WriteFault}
+use Rattle.outer_io.specs.declared.faults.WriteFault.TheVariants as write
+use Rattle.page_cache.specs.Causes.{HasPageCause, page_fault}
+pub use Rattle.page_cache.proofs.Causes.{done_cause}
 use Rattle.page_cache.specs.Evidence.{FaultShows, NotDamaged, OnDamage}
 use Rattle.page_cache.proofs.Damages.{on_damage_weaker}
 use Rattle.commit_list.specs.declared.listed.Listed.{Listed}
@@ -198,18 +199,9 @@ all_written files listed parts others same all =
 
 -- ---- what an error says
 
--- a fault of a write, where a call may meet damage too
-pub seg_cause : {T U : Type 0} (before now : ℕ) (f : StoreFault) → HasStoreCause {T = U} before now (Err f)
-    → HasPageCause {T = T} before now (Err (page_fault f))
-seg_cause before now store.Failed cause = record { later = cause.later; fine = tt; failed = λ e. cause.failed refl }
-seg_cause before now store.Memory cause = record { later = cause.later; fine = tt; failed = λ e. absurd cc }
-
-pub seg_whole : (f : StoreFault) → FaultShows (λ _. ⊥) (page_fault f)
-seg_whole store.Failed = tt
-seg_whole store.Memory = tt
-
-pub done_cause : {T : Type 0} (before now : ℕ) (x : T) → now ≡ before → HasPageCause before now (Ok x)
-done_cause before now x same = record { later = omega (arith, same); fine = same; failed = λ e. absurd cc }
+pub seg_whole : (f : WriteFault) → FaultShows (λ _. ⊥) (page_fault f)
+seg_whole write.Failed = tt
+seg_whole write.Memory = tt
 
 -- a call after one that is done
 pub cause_after : {T : Type 0} (before mid now : ℕ) (r : Result T PageFault) → mid ≡ before → HasPageCause mid now r → HasPageCause before now r

@@ -22,14 +22,6 @@ returns-in_err-places-clause-fault g c =
     c.in_err-places.field-0.0
     first c.in_err-places.ensures.fault)
 
-pub check_rows-requires-clause-reading : goal.check_rows-requires-clause-reading
-check_rows-requires-clause-reading g c = (c.in_ok-next_record.ensures.more c.if-not-branch.false).reading
-
-pub check_rows-requires-clause-short : goal.check_rows-requires-clause-short
-check_rows-requires-clause-short g c =
-    let gave = c.in_ok-next_record.ensures.more c.if-not-branch.false in
-    omega (arith, gave.shorter, c.open-reader.ensures.short)
-
 pub returns-clause-fine : goal.returns-clause-fine
 returns-clause-fine g c =
     let first = sym c.open-reader.ensures.records ∙ (c.in_ok-next_record.ensures.more c.if-not-branch.false).first in

@@ -1,5 +1,5 @@
 -- As for the points that are kept, but that what they are is not told.
-use Rattle.std.proofs.Common.{◌≡◌, ◌+◌, ◌∙◌, [], ◌∷◌, ◌++◌, sym, refl, ap, arith}
+use Rattle.std.proofs.Common.{◌+◌, ◌∙◌, [], ◌∷◌, ◌++◌, sym, refl, ap, arith}
 use Rattle.csv.specs.Records.{fields_of}
 use Rattle.csv_load.specs.Loading.{each_ok, point_of}
 use Rattle.csv_load.specs.Reading.{records_left}

@@ -4,7 +4,7 @@ use Rattle.std.proofs.lemmas.Result.{err_from_is_err_and}
 use Rattle.page_cache.specs.declared.faults.PageFault.{PageFault}
 use Rattle.index_core.proofs.Sizes.{session_fits}
 use Rattle.batch_queries.proofs.Ended.{end_stopped, ended_committed}
-use Rattle.batch_queries.proofs.Sizes.{command_fits}
+use Rattle.index_model.proofs.Sizes.{command_fits}
 use Rattle.batch_queries.proofs.begun.end_merge.Goals as goal
 
 pub apply-requires-after_bounds : goal.apply-requires-after_bounds

@@ -1,7 +1,7 @@
 -- Both halves may be called, and what they hold has room in memory.
 use Rattle.std.proofs.Common.{lit<, refl}
 use Rattle.index_core.proofs.Sizes.{session_fits}
-use Rattle.batch_queries.proofs.Sizes.{command_fits}
+use Rattle.index_model.proofs.Sizes.{command_fits}
 use Rattle.batch_queries.proofs.both.beside.Goals as goal
 use Rattle.batch_run.proofs.Sizes.{query_fits}
 

@@ -3,7 +3,7 @@ use Rattle.std.proofs.Common.{◌≢◌, refl, rules}
 use Rattle.segment_set.proofs.Sizes.{set_fits}
 use Rattle.script_lang.specs.Seen.{request_of}
 use Rattle.script_lang.specs.declared.faults.LineFault.TheVariants as fault
-use Rattle.explain_queries.proofs.Sizes.{command_fits}
+use Rattle.index_model.proofs.Sizes.{command_fits}
 use Rattle.explain_queries.proofs.Explaining.{explains_as, explains_no_memory, explains_refused, fault_read, line_from, line_to, line_unread}
 use Rattle.explain_queries.proofs.explain.explain_line.Goals as goal
 

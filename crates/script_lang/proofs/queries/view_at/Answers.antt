@@ -8,8 +8,8 @@ use Rattle.script_lang.proofs.queries.view_at.Goals as goal
 now_query : (words : List (List ℕ)) (place : ℕ) → place ≡ 2 → names_view words ≡ false
     → query_of words ≡ Ok (record { view = None; place = place; words = words })
 unfolding query_of
-now_query [] place two no = rw two refl
-now_query (w ∷ ws) place two no = let test : (slice_index w 0 == 64) ≡ false = no in rw (two, test) refl
+now_query [] place two none = rw two refl
+now_query (w ∷ ws) place two none = let test : (slice_index w 0 == 64) ≡ false = none in rw (two, test) refl
 
 pub returns-then-not-names_view-clause-query : goal.returns-then-not-names_view-clause-query
 returns-then-not-names_view-clause-query c = now_query _ _ c.requires (sym c.names_view.ensures ∙ c.if-not-names_view.true)

@@ -11,7 +11,7 @@ use Rattle.script_run.proofs.Lined.{page_still}
 use Rattle.script_run.proofs.Passing.{passes_none, passes_unread}
 use Rattle.script_run.proofs.Shown.{memory_shows}
 use Rattle.script_run.proofs.answers.reply_to.Goals as goal
-use Rattle.explain_queries.proofs.Sizes.{command_fits}
+use Rattle.index_model.proofs.Sizes.{command_fits}
 use Rattle.run_status.proofs.Ending.{page_memory}
 
 pub obey-requires-after_bounds : goal.obey-requires-after_bounds

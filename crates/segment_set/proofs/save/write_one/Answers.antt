@@ -3,7 +3,8 @@ use Rattle.std.specs.Prelude.{IsTrue}
 use Rattle.std.proofs.lemmas.Result.{err_from_is_err_and}
 use Rattle.outer_io.specs.declared.file_name.FileName.TheVariants.{Live}
 use Rattle.segment_set.proofs.Carried.{keeps_written}
-use Rattle.segment_set.proofs.Saving.{done_cause, seg_cause, seg_whole}
+use Rattle.segment_set.proofs.Causes.{wrote_cause}
+use Rattle.segment_set.proofs.Saving.{done_cause, seg_whole}
 use Rattle.segment_set.proofs.save.write_one.Goals as goal
 
 pub returns-in_err-write_live-clause-kept : goal.returns-in_err-write_live-clause-kept
@@ -17,7 +18,7 @@ pub returns-in_err-write_live-clause-cause : goal.returns-in_err-write_live-clau
 returns-in_err-write_live-clause-cause g c =
     let e = err_from_is_err_and c.from_residual-in_err-write_live.result c.from_residual-in_err-write_live.ensures.1 in
     rw (e.1, e.2)
-    (seg_cause (g.F.Pages.faults c.args.folder.now) (g.F.Pages.faults c.write_live.new.folder) c.in_err-write_live.field-0.0 c.in_err-write_live.ensures.cause)
+    (wrote_cause (g.F.Pages.faults c.args.folder.now) (g.F.Pages.faults c.write_live.new.folder) c.in_err-write_live.field-0.0 c.in_err-write_live.ensures.cause)
 
 pub returns-in_err-write_live-clause-whole : goal.returns-in_err-write_live-clause-whole
 returns-in_err-write_live-clause-whole g c =
