@@ -1,6 +1,6 @@
 -- The first line of the last commit that is the segment's still.
-use Rattle.std.proofs.Common.{subst, sym}
-use Rattle.std.specs.List.{All, Contains}
+use Rattle.std.proofs.Common.{subst}
+use Rattle.std.specs.List.{All}
 use Rattle.std.proofs.lemmas.Bool.{both_ways}
 use Rattle.std.proofs.lemmas.List.{take_all}
 use Rattle.std.proofs.lemmas.List.Elements.{All-contains, All-contains_itself, All-more}
@@ -10,17 +10,14 @@ use Rattle.segment_set.specs.Saved.{IsLineOf}
 use Rattle.segment_set.proofs.save.kept_line.Goals as goal
 
 pub returns-then-is_line_of-clause-some : goal.returns-then-is_line_of-clause-some
-returns-then-is_line_of-clause-some g c = (
-  subst (Contains c.args.last.now) (sym c.line-item.is)
-      (All-contains_itself c.args.last.now c.loop-line.line-index c.line-item.result c.loop-line-test.true),
-  c.is_line_of.ensures.0 c.if-is_line_of.true,
-)
+returns-then-is_line_of-clause-some g c =
+    (All-contains_itself c.args.last.now c.loop-line.line-index _ c.loop-line-test.true, c.is_line_of.ensures.0 c.if-is_line_of.true)
 
 pub loop-line-preserved : goal.loop-line-preserved
 loop-line-preserved g c =
-    let Other : Listed → Type 0 = λ m. IsLineOf c.args.names.now m (live_segment c.args.head.now c.args.live.now) → ⊥ in
-    All-more Other c.args.last.now c.loop-line.line-index c.line-item.result c.loop-line-test.true c.loop-line.invariant
-    (subst Other c.line-item.is (λ is. both_ways c.is_line_of.result c.if-is_line_of.false (c.is_line_of.ensures.1 is)))
+    All-more (λ (m : Listed). IsLineOf c.args.names.now m (live_segment c.args.head.now c.args.live.now) → ⊥) c.args.last.now c.loop-line.line-index _
+    c.loop-line-test.true c.loop-line.invariant
+    (λ is. both_ways c.is_line_of.result c.if-is_line_of.false (c.is_line_of.ensures.1 is))
 
 pub returns-clause-none : goal.returns-clause-none
 returns-clause-none g c = λ l inside is.
