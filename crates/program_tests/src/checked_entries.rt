@@ -1,5 +1,5 @@
 //! What a check answers of documents with several points: a segment of three leaves that is spelled here, whose last
-//! entry is put to another number. Numbers 0 to 3 are live, or as many as there are entries.
+//! entry is put to another number. Numbers 0 to 3 are live.
 
 use crate::answers::assert_said;
 use crate::checked_folders::reseal;
@@ -61,27 +61,12 @@ fn segment(alloc: Global) -> Result<Vec<u8>, Fail> {
     Ok(pages_of(alloc, &SEGMENT, body.as_slice())?)
 }
 
-/// The last entry where numbers 0 to 4 are live, and what is answered.
-const AS_MANY: [(u8, &str); 3] = [
-    (4, "ok dims 1 leaf 2 next 5 live 5 segments 1\n"),
-    // number 4 has no entry, which is told before that number 2 has one point twice
-    (
-        2,
-        "live-0000000000000007-0000000000000001.bkd says 5, found 4",
-    ),
-    // nor where the entry's number isn't live
-    (
-        9,
-        "live-0000000000000007-0000000000000001.bkd says 5, found 4",
-    ),
-];
-
-/// The folder with the segment, these numbers live, and the commit.
-fn stored(alloc: Global, docs: &[u32]) -> Result<MemFolder, Fail> {
+/// The folder with the segment, numbers 0 to 3 live, and the commit.
+fn stored(alloc: Global) -> Result<MemFolder, Fail> {
     let mut folder = MemFolder::new(alloc, Vec::new(alloc));
     let file = segment(alloc)?;
     folder.put(SEGMENT, file)?;
-    let live = LiveBits::of_docs(alloc, docs)?;
+    let live = LiveBits::of_docs(alloc, &[0, 1, 2, 3])?;
     write_live(alloc, &mut folder, 7, 1, &live)
         .ok()
         .ok_or("no live bits")?;
@@ -92,20 +77,10 @@ fn stored(alloc: Global, docs: &[u32]) -> Result<MemFolder, Fail> {
 
 /// The folder where the last entry has this number, and so many points were given.
 fn changed(alloc: Global, number: u8, given: u8) -> Result<MemFolder, Fail> {
-    let mut folder = stored(alloc, &[0, 1, 2, 3])?;
+    let mut folder = stored(alloc)?;
     reseal(alloc, &mut folder, &SEGMENT, SEGMENT, &[(LAST, &[number])])?;
     let commit = FileName::Commit;
     reseal(alloc, &mut folder, &commit, commit, &[(18, &[given])])?;
-    Ok(folder)
-}
-
-/// The folder where the last entry has this number, and numbers 0 to 4 are live: five points given, next 5.
-fn as_many(alloc: Global, number: u8) -> Result<MemFolder, Fail> {
-    let mut folder = stored(alloc, &[0, 1, 2, 3, 4])?;
-    reseal(alloc, &mut folder, &SEGMENT, SEGMENT, &[(LAST, &[number])])?;
-    let commit = FileName::Commit;
-    let fives: [(usize, &[u8]); 3] = [(14, &[5]), (18, &[5]), (52, &[5])];
-    reseal(alloc, &mut folder, &commit, commit, &fives)?;
     Ok(folder)
 }
 
@@ -114,15 +89,6 @@ fn entries_of_other_numbers(rt: HostRuntime) -> Result<(), Fail> {
     for (number, given, want) in ROWS {
         // opening reads no leaf
         let mut folder = changed(rt.alloc(), number, given)?;
-        assert_said(&rt, rt.alloc(), &mut folder, want, false)?;
-    }
-    Ok(())
-}
-
-#[test]
-fn as_many_entries_as_live_numbers(rt: HostRuntime) -> Result<(), Fail> {
-    for (number, want) in AS_MANY {
-        let mut folder = as_many(rt.alloc(), number)?;
         assert_said(&rt, rt.alloc(), &mut folder, want, false)?;
     }
     Ok(())
