@@ -80,6 +80,49 @@ pub fn read_entries<const D: usize, F: Pages>(
     Ok(entries)
 }
 
+/// Puts the entries of a segment whose numbers are live behind those of the list, in the order of the leaves. Each leaf
+/// page is read once at most. Ok only where each leaf of this head is spelled in its page. Where there is room for the
+/// live entries and for a leaf more the list isn't moved. After an error it may have some of them.
+pub fn append_entries<const D: usize, F: Pages>(
+    alloc: Global,
+    folder: &mut F,
+    cache: &mut PageCache,
+    head: &SegmentHead<D>,
+    live: &LiveBits,
+    entries: &mut Vec<Entry<D>>,
+) -> Result<(), PageFault>
+    ensures reading { ReadsCached F.told (λ i. i ≡ head.now.id) (F.files folder.old) (F.files folder.new)
+        cache.old cache.new (F.faults folder.old) (F.faults folder.new) result }
+    ensures reads { (root : Region) (t : IndexTree) → HasTree D head.now.index root t
+        → F.reads folder.new ≤ F.reads folder.old + head.now.index.leaves }
+    // each leaf page once at most, whatever the cache held
+    ensures pages { (root : Region) (t : IndexTree) → HasTree D head.now.index root t
+        → F.reads folder.new ≤ F.reads folder.old + pages_of t }
+    ensures spelled { IsTrue F.told → Agrees (F.files folder.old) cache.old
+        → IsHeadOf D (bytes_of (F.files folder.old (Segment head.now.id))) head.now
+        → OnOk result
+        ((items : List Item) × IsSegment D (bytes_of (F.files folder.old (Segment head.now.id))) head.now items
+        × (items_of entries.new.items ≡ items_of entries.old.items ++ filter (λ x. is_live live.now x.doc) items)) }
+    ensures entries { IsTrue F.told → Agrees (F.files folder.old) cache.old → (items : List Item)
+        → IsSegment D (bytes_of (F.files folder.old (Segment head.now.id))) head.now items
+        → OnOk result
+        (items_of entries.new.items ≡ items_of entries.old.items ++ filter (λ x. is_live live.now x.doc) items) }
+    // whatever the folder gives
+    ensures live { OnOk result
+        ((more : List Item) × (items_of entries.new.items ≡ items_of entries.old.items ++ more)
+        × All (λ x. is_live live.now x.doc ≡ true) more) }
+    ensures shown { (root : Region) (t : IndexTree) → HasTree D head.now.index root t
+        → OnDamage result (IsLeafDamage D head.now 0 front t) }
+    ensures damage { IsTrue F.told → Agrees (F.files folder.old) cache.old
+        → OnDamage result (IsLeafDamageOf (F.files folder.old)) }
+    ensures whole { IsTrue F.told → Agrees (F.files folder.old) cache.old → (items : List Item)
+        → IsSegment D (bytes_of (F.files folder.old (Segment head.now.id))) head.now items
+        → NotDamaged result }
+{
+    let root = head.index().walk();
+    gather(alloc, folder, cache, head, live, &root, entries)
+}
+
 /// Appends the live entries of all leaves at or below the node.
 fn gather<const D: usize, F: Pages>(
     alloc: Global,
@@ -104,6 +147,9 @@ fn gather<const D: usize, F: Pages>(
         → OnOk result
         (Gathers D (bytes_of (F.files folder.old (Segment head.now.id))) head.now first s t live.now
         (items_of entries.old.items) (items_of entries.new.items)) }
+    ensures added { OnOk result
+        ((items : List Item)
+        × (items_of entries.new.items ≡ items_of entries.old.items ++ filter (λ x. is_live live.now x.doc) items)) }
     ensures live { All (λ x. is_live live.now x.doc ≡ true) (items_of entries.old.items)
         → All (λ x. is_live live.now x.doc ≡ true) (items_of entries.new.items) }
     ensures shown { (first : ℕ) (s : Spot) (path : Region) (t : IndexTree) → IsAt node.now first s path t
@@ -151,6 +197,9 @@ fn gather_leaf<const D: usize, F: Pages>(
         → OnOk result
         (Gathers D (bytes_of (F.files folder.old (Segment head.now.id))) head.now first s t live.now
         (items_of entries.old.items) (items_of entries.new.items)) }
+    ensures added { OnOk result
+        ((items : List Item)
+        × (items_of entries.new.items ≡ items_of entries.old.items ++ filter (λ x. is_live live.now x.doc) items)) }
     ensures live { All (λ x. is_live live.now x.doc ≡ true) (items_of entries.old.items)
         → All (λ x. is_live live.now x.doc ≡ true) (items_of entries.new.items) }
     ensures shown { (first : ℕ) (s : Spot) (path : Region) (t : IndexTree) → IsAt node.now first s path t

@@ -243,13 +243,28 @@ live_below s number set live =
     let within = All-contains (λ n. (s.base ≤ n) × (n < s.base + s.span)) s.live number set.within (among_to s.live number live) in
     omega (arith, within.1, set.limit)
 
-pub numbers_below : {D : ℕ} (s : LiveSet) (entries : List (Entry D)) → IsLiveSet s → All (λ (x : Item). is_live s x.doc ≡ true) (items_of entries)
-    → All (λ (e : Entry D). e.doc < 2 ^ 24) entries
-numbers_below {D} s [] set all = All-nil (λ (e : Entry D). e.doc < 2 ^ 24)
-numbers_below {D} s (e ∷ es) set all =
+entries_below : {D : ℕ} (es : List (Entry D)) → All (λ (x : Item). x.doc < 2 ^ 24) (items_of es) → All (λ (e : Entry D). e.doc < 2 ^ 24) es
+entries_below {D} [] h = All-nil (λ (e : Entry D). e.doc < 2 ^ 24)
+entries_below {D} (e ∷ es) h =
     All-cons (λ (x : Entry D). x.doc < 2 ^ 24) e es
-    (live_below s e.doc set (All-head (λ (x : Item). is_live s x.doc ≡ true) (record { doc = e.doc; at = e.point.c }) (items_of es) all))
-    (numbers_below s es set (All-tail (λ (x : Item). is_live s x.doc ≡ true) (record { doc = e.doc; at = e.point.c }) (items_of es) all))
+    (All-head (λ (x : Item). x.doc < 2 ^ 24) (record { doc = e.doc; at = e.point.c }) (items_of es) h)
+    (entries_below es (All-tail (λ (x : Item). x.doc < 2 ^ 24) (record { doc = e.doc; at = e.point.c }) (items_of es) h))
+
+items_below : {D : ℕ} (es : List (Entry D)) → All (λ (e : Entry D). e.doc < 2 ^ 24) es → All (λ (x : Item). x.doc < 2 ^ 24) (items_of es)
+items_below {D} [] h = All-nil (λ (x : Item). x.doc < 2 ^ 24)
+items_below {D} (e ∷ es) h =
+    All-cons (λ (x : Item). x.doc < 2 ^ 24) (record { doc = e.doc; at = e.point.c }) (items_of es)
+    (All-head (λ (x : Entry D). x.doc < 2 ^ 24) e es h)
+    (items_below es (All-tail (λ (x : Entry D). x.doc < 2 ^ 24) e es h))
+
+-- entries with live numbers behind others
+pub numbers_more : {D : ℕ} (s : LiveSet) (old new : List (Entry D)) (more : List Item) → IsLiveSet s → items_of new ≡ items_of old ++ more
+    → All (λ (x : Item). is_live s x.doc ≡ true) more → All (λ (e : Entry D). e.doc < 2 ^ 24) old → All (λ (e : Entry D). e.doc < 2 ^ 24) new
+numbers_more {D} s old new more set is all below =
+    entries_below new
+    (subst (All (λ (x : Item). x.doc < 2 ^ 24)) (sym is)
+    (All-append (λ (x : Item). x.doc < 2 ^ 24) (items_of old) more (items_below old below)
+    (All-weaker (λ (x : Item). is_live s x.doc ≡ true) (λ (x : Item). x.doc < 2 ^ 24) (λ x live. live_below s x.doc set live) more all)))
 
 -- where nothing is live there is nothing
 none_kept : (xs : List Item) → filter (λ (x : Item). false) xs ≡ []

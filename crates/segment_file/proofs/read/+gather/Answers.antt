@@ -1,4 +1,4 @@
-use Rattle.std.proofs.Common.{◌≡◌, ◌+◌, ◌∙◌, ℕ, ap, sym, subst, arith}
+use Rattle.std.proofs.Common.{◌≡◌, ◌+◌, ◌++◌, ◌∙◌, ℕ, ap, sym, subst, arith}
 use Rattle.std.proofs.lemmas.Result.{err_from_is_err_and}
 use Rattle.outer_io.specs.Files.{bytes_of}
 use Rattle.outer_io.specs.declared.file_name.FileName.TheVariants.{Segment}
@@ -12,6 +12,7 @@ use Rattle.segment_file.specs.Segments.{HoldsTree}
 use Rattle.segment_file.specs.Damages.{IsLeafDamage}
 use Rattle.segment_file.specs.Heads.{page_of}
 use Rattle.segment_file.specs.Gathers.{Gathers, ReadsEach, last_page}
+use Rattle.segment_file.proofs.Entries.{added_then}
 use Rattle.segment_file.proofs.Subtrees.{OnOk-weaker, left_damage, right_damage, gathers_join}
 use Rattle.segment_file.proofs.LeafPages.{left_reads, right_last, both_read}
 use Rattle.segment_file.proofs.read.+gather.Goals as goal
@@ -86,6 +87,17 @@ returns-in_ok-gather-in-Some-clause-gathers g t c = λ told agrees first s path 
     (gathers_join g.row.D bytes c.args.head.now first s k.l k.r k.dimension k.value c.args.live.now (items_of c.args.entries.now.items)
     (items_of c.gather.new.entries.items) (items_of c.gather-in-Some.new.entries.items) left (rw (c.gather.ensures.reading.files told) at r)))
     right
+
+pub returns-in_ok-gather-in-Some-clause-added : goal.returns-in_ok-gather-in-Some-clause-added
+returns-in_ok-gather-in-Some-clause-added g t c =
+    let left = c.in_ok-gather-in-Some.ensures.added in
+    OnOk-weaker c.gather-in-Some.result _ _
+    (λ right. (
+      left.0 ++ right.0,
+      added_then c.args.live.now (items_of c.args.entries.now.items) (items_of c.gather.new.entries.items)
+          (items_of c.gather-in-Some.new.entries.items) left.0 right.0 left.1 right.1,
+    ))
+    c.gather-in-Some.ensures.added
 
 pub returns-in_ok-gather-in-Some-clause-live : goal.returns-in_ok-gather-in-Some-clause-live
 returns-in_ok-gather-in-Some-clause-live g t c = λ h. c.gather-in-Some.ensures.live (c.gather.ensures.live h)

@@ -64,3 +64,6 @@ pub returns-clause-last : goal.returns-clause-last
 returns-clause-last g c = λ first s path t at.
     let place = c.in_ok-place.ensures.place first s path t at in
     leaf_last g.row.D c.args.node.now c.load_leaf.new.cache c.args.head.now c.in_ok-place.place first s path t at place c.in_ok-place.ensures.kept
+
+pub returns-clause-added : goal.returns-clause-added
+returns-clause-added g c = (c.in-Some.view, c.in_ok-push_live.ensures.all)
