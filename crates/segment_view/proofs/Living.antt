@@ -13,8 +13,6 @@ use Rattle.std.proofs.lemmas.Option.{get_or_from_slice_get, slice_get_within}
 use Rattle.outer_io.specs.Files.{Files, bytes_of}
 use Rattle.outer_io.specs.declared.file_name.FileName.TheVariants.{Segment}
 use Rattle.point_codec.specs.Points.{Item}
-use Rattle.point_codec.specs.Seen.{items_of}
-use Rattle.point_codec.specs.declared.entries.Entry.{Entry}
 use Rattle.live_bits.specs.LiveSet.{LiveSet, IsLiveSet, is_live, live_set_without}
 use Rattle.live_bits.proofs.LiveNumbers.{is_live-without, none_live}
 use Rattle.documents.specs.Entries.{SameTotals, entries_but, has_entry, is_among}
@@ -242,29 +240,6 @@ unfolding is_live
 live_below s number set live =
     let within = All-contains (λ n. (s.base ≤ n) × (n < s.base + s.span)) s.live number set.within (among_to s.live number live) in
     omega (arith, within.1, set.limit)
-
-entries_below : {D : ℕ} (es : List (Entry D)) → All (λ (x : Item). x.doc < 2 ^ 24) (items_of es) → All (λ (e : Entry D). e.doc < 2 ^ 24) es
-entries_below {D} [] h = All-nil (λ (e : Entry D). e.doc < 2 ^ 24)
-entries_below {D} (e ∷ es) h =
-    All-cons (λ (x : Entry D). x.doc < 2 ^ 24) e es
-    (All-head (λ (x : Item). x.doc < 2 ^ 24) (record { doc = e.doc; at = e.point.c }) (items_of es) h)
-    (entries_below es (All-tail (λ (x : Item). x.doc < 2 ^ 24) (record { doc = e.doc; at = e.point.c }) (items_of es) h))
-
-items_below : {D : ℕ} (es : List (Entry D)) → All (λ (e : Entry D). e.doc < 2 ^ 24) es → All (λ (x : Item). x.doc < 2 ^ 24) (items_of es)
-items_below {D} [] h = All-nil (λ (x : Item). x.doc < 2 ^ 24)
-items_below {D} (e ∷ es) h =
-    All-cons (λ (x : Item). x.doc < 2 ^ 24) (record { doc = e.doc; at = e.point.c }) (items_of es)
-    (All-head (λ (x : Entry D). x.doc < 2 ^ 24) e es h)
-    (items_below es (All-tail (λ (x : Entry D). x.doc < 2 ^ 24) e es h))
-
--- entries with live numbers behind others
-pub numbers_more : {D : ℕ} (s : LiveSet) (old new : List (Entry D)) (more : List Item) → IsLiveSet s → items_of new ≡ items_of old ++ more
-    → All (λ (x : Item). is_live s x.doc ≡ true) more → All (λ (e : Entry D). e.doc < 2 ^ 24) old → All (λ (e : Entry D). e.doc < 2 ^ 24) new
-numbers_more {D} s old new more set is all below =
-    entries_below new
-    (subst (All (λ (x : Item). x.doc < 2 ^ 24)) (sym is)
-    (All-append (λ (x : Item). x.doc < 2 ^ 24) (items_of old) more (items_below old below)
-    (All-weaker (λ (x : Item). is_live s x.doc ≡ true) (λ (x : Item). x.doc < 2 ^ 24) (λ x live. live_below s x.doc set live) more all)))
 
 -- where nothing is live there is nothing
 none_kept : (xs : List Item) → filter (λ (x : Item). false) xs ≡ []

@@ -6,7 +6,8 @@ use Rattle.point_codec.specs.Points.{Item}
 use Rattle.point_codec.specs.Seen.{items_of}
 use Rattle.live_bits.specs.LiveSet.{is_live}
 use Rattle.segment_view.specs.LiveSegments.{live_segment}
-use Rattle.segment_view.proofs.Living.{live_one, nothing_live, numbers_more}
+use Rattle.segment_view.proofs.Living.{live_one, nothing_live}
+use Rattle.segment_view.proofs.Numbered.{numbers_more}
 use Rattle.segment_view.proofs.Reading.{calm_alone}
 use Rattle.segment_view.proofs.Counting.{le_by_tree}
 use Rattle.segment_view.proofs.Shown.{read_shown}
