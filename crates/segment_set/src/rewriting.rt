@@ -92,8 +92,8 @@ fn build_of<const D: usize, R: Threads + Sync, G: Gate>(
     Ok(build_segment(rt, alloc, entries, plan.leaf, plan.forks, gate)?)
 }
 
-/// Gathers what is live in the segments of these ids, and builds a segment of it; none, where nothing is live. Pages are
-/// read by way of a cache of one page: leaves of one page follow each other, and what queries keep stays kept.
+/// Gathers what is live in the segments of these ids, and builds a segment of it; none, where nothing is live. Leaves
+/// are read by way of a cache of one page, since those of a page follow each other, and what queries keep stays kept.
 pub(crate) fn gathered<const D: usize, R: Threads + Sync, F: Pages, G: Gate>(
     rt: &R,
     alloc: Global,

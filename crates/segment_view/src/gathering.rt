@@ -29,8 +29,8 @@ use std::alloc::Global;
 /// that no segment has counts for nothing.
 ///
 /// Each leaf of these segments is read once at most, by way of the cache; where no number of a segment is live
-/// nothing of it is read. Memory for all is taken before the first leaf is read. The answer may be a damage of a leaf that
-/// had to be read, Failed and Memory.
+/// nothing of it is read. Memory for all is taken before the first leaf is read. The answer may be a damage of a leaf
+/// that had to be read, Failed and Memory.
 pub fn gather<const D: usize, F: Pages>(
     alloc: Global,
     segments: &Segments<D>,
