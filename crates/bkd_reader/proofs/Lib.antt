@@ -2,3 +2,4 @@ pub mod HitLemmas
 pub mod Cells
 pub mod Trees
 pub mod Beyond
+pub mod Uncrossed
