@@ -18,3 +18,4 @@ pub mod Start
 pub mod Parts
 pub mod LeftOut
 pub mod Waits
+pub mod Narrower
