@@ -21,4 +21,6 @@ touched_leaves has crosses (Split d x l r) = touched_leaves has crosses l + touc
 abbrev pub asked_cells : (crosses : Region → Bool) (path : Region) → IndexTree → ℕ
 asked_cells crosses path (Leaf len own) = 1
 asked_cells crosses path (Split d x l r) =
-    1 + (if crosses path then asked_cells crosses (left_of path d x) l + asked_cells crosses (right_of path d x) r else 0)
+    1 + (if crosses path then
+    asked_cells crosses (left_of path d x) l + asked_cells crosses (right_of path d x) r
+    else 0)

@@ -18,11 +18,15 @@ meets_wider box outer inner lies met =
       both.1,
     ) refl
 
-within_wider : (box outer inner : Region) → within inner outer ≡ true → within outer box ≡ true → within inner box ≡ true
+within_wider : (box outer inner : Region) → within inner outer ≡ true → within outer box ≡ true
+    → within inner box ≡ true
 within_wider box outer inner lies whole =
     let corners = both_true (all_le outer.lo inner.lo) (all_le inner.hi outer.hi) lies in
     let ends = both_true (all_le box.lo outer.lo) (all_le outer.hi box.hi) whole in
-    rw (all_le-trans box.lo outer.lo inner.lo ends.0 corners.0, all_le-trans inner.hi outer.hi box.hi corners.1 ends.1) refl
+    rw (
+      all_le-trans box.lo outer.lo inner.lo ends.0 corners.0,
+      all_le-trans inner.hi outer.hi box.hi corners.1 ends.1,
+    ) refl
 
 not_false : (b : Bool) → not b ≡ false → b ≡ true
 not_false true h = refl

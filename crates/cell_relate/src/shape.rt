@@ -22,8 +22,8 @@ pub enum Relation {
 ///
 /// `has` says which points the shape has, `crosses` which cells it crosses: a cell that it doesn't cross has all its
 /// points in the shape or none, and by the law `within_uncrossed` each cell within it isn't crossed either. `tests` and
-/// `compares` are how often `contains` and `compare` were asked; a count stands still at the greatest number of 64 bits.
-/// No call changes which points the shape has or which cells it crosses.
+/// `compares` are how often `contains` and `compare` were asked; a count stands still at the greatest number of 64
+/// bits. No call changes which points the shape has or which cells it crosses.
 pub trait Shape<const D: usize> {
     ghost has: { Self → List ℤ → Bool };
 
