@@ -65,3 +65,9 @@ returns-clause-numbers g c = λ below.
 
 pub returns-clause-cause : goal.returns-clause-cause
 returns-clause-cause g c = c.append_entries.ensures.reading.cause
+
+pub returns-clause-damage : goal.returns-clause-damage
+returns-clause-damage g c = c.append_entries.ensures.damage
+
+pub returns-clause-whole : goal.returns-clause-whole
+returns-clause-whole g c = λ told agrees es r. c.append_entries.ensures.whole told agrees (es c.args.head.now.id) r.held
