@@ -41,11 +41,13 @@ use Rattle.segment_set.specs.declared.faults.AddFault.TheVariants as add
 use Rattle.index_core.specs.Sessions.{Guards, SessionData, Trusts}
 use Rattle.index_core.specs.Whole.{Adds, SessionMoment, add_result, with_point, with_points}
 use Rattle.index_core.proofs.Answering.{no_cause}
-use Rattle.index_core.proofs.FaultCauses.{cause_then, fault_to, memory_cause}
+use Rattle.index_core.proofs.FaultCauses.{fault_to, memory_cause}
 use Rattle.index_core.proofs.Bringing.{brings_same, brings_then, brings_written}
 use Rattle.index_core.proofs.Guarding.{Grows, grows_like, guards_after, kept_after_calls}
 use Rattle.index_core.proofs.Tracing.{traced_by, traced_shows}
 use Rattle.segment_set.proofs.Rearranged.{empty_list}
+use Rattle.segment_set.proofs.Saving.{cause_after}
+use Rattle.std.proofs.lemmas.Result.{on_ok_weaker}
 
 -- nothing was added
 pub adds_none : {T : Type 0} (D : ℕ) (told : Type 0) (at : SessionMoment) (x : T) → Adds D told [] at at (Ok x)
@@ -82,21 +84,17 @@ adds_no_memory D told points at = record {
   evident = tt;
 }
 
-pub on_ok_map : {T E P Q : Type 0} (r : Result T E) → (P → Q) → OnOk r P → OnOk r Q
-on_ok_map (Ok x) h p = h p
-on_ok_map (Err e) h p = tt
-
 -- some, and then more
 pub adds_then : {T U : Type 0} (D : ℕ) (told : Type 0) (xs ys : List (List ℤ)) (a b c : SessionMoment) (x : U) (r : Result T PageFault)
     → Adds D told xs a b (Ok x) → Adds D told ys b c r → Adds D told (xs ++ ys) a c r
 adds_then D told xs ys a b c x r first second = record {
   seen = λ t i seen.
-      on_ok_map r (subst (Sees D c.files c.session.set) (sym (fold-append with_point i xs ys))) (second.seen t (with_points i xs) (first.seen t i seen));
-  given = on_ok_map r (λ more. let long = length-append xs ys in let some = first.given in omega arith) second.given;
+      on_ok_weaker r (subst (Sees D c.files c.session.set) (sym (fold-append with_point i xs ys))) (second.seen t (with_points i xs) (first.seen t i seen));
+  given = on_ok_weaker r (λ more. let long = length-append xs ys in let some = first.given in omega arith) second.given;
   guards = λ t guards. second.guards t (first.guards t guards);
   kept = λ t guards. kept_after a.files b.files c.files (first.kept t guards) (second.kept t (first.guards t guards));
   canon = λ t. brings_then D a.files b.files c.files a.session.set.parts b.session.set.parts c.session.set.parts (first.canon t) (second.canon t);
-  cause = cause_then a.faults b.faults c.faults r first.cause.fine second.cause;
+  cause = cause_after a.faults b.faults c.faults r first.cause.fine second.cause;
   whole = λ t i seen. second.whole t (with_points i xs) (first.seen t i seen);
   faithful = λ t faithful. second.faithful t (first.faithful t faithful);
   traced = λ t trusts. second.traced t (trusts_then t trusts);
@@ -207,7 +205,7 @@ put_seen D told point points f g s t r is seen = subst
 pub put_given : (P : Type 0) (point : List ℤ) (points : List (List ℤ)) (before now : ℕ) (r : Result ℕ AddFault) → points ≡ point ∷ []
     → OnOk r (P × (now ≡ before + length points)) → OnOk r (now ≡ before + 1)
 put_given P point points before now r is given =
-    on_ok_map r (λ (both : P × (now ≡ before + length points)). both.1 ∙ ap (λ (ps : List (List ℤ)). before + length ps) is) given
+    on_ok_weaker r (λ (both : P × (now ≡ before + length points)). both.1 ∙ ap (λ (ps : List (List ℤ)). before + length ps) is) given
 
 -- ---- of the session that the code opened
 

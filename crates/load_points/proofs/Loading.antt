@@ -30,7 +30,7 @@ use Rattle.index_core.specs.Light.{KeepsLevels}
 use Rattle.index_core.specs.Steps.{FaultKeeps, KeepsUndone}
 use Rattle.index_core.specs.Whole.{Adds, DoesWhole, HasNewCanonical, IsNewSegment, SessionMoment, with_point, with_points}
 use Rattle.index_core.proofs.Answering.{no_cause}
-use Rattle.index_core.proofs.FaultCauses.{cause_then, fault_to, memory_cause}
+use Rattle.index_core.proofs.FaultCauses.{fault_to, memory_cause}
 use Rattle.load_points.specs.Loaded.{full_text, loaded_text, columns_answer, opened_state, refusal}
 use Rattle.load_points.specs.Loads.{IsLoading, Loads, LoadMoment, StartsFrom, StartsNone}
 use Rattle.load_points.proofs.Counted.{added_is, done_answer, full_is, matched_is, rest_done}
@@ -39,6 +39,7 @@ use Rattle.index_core.proofs.Brought.{commit_after, commit_itself}
 use Rattle.index_core.proofs.Listed.{attached_listed, new_canonical}
 use Rattle.index_core.proofs.Undone.{begins_none, fault_kept, levels_after, undone_after}
 use Rattle.index_core.proofs.Wholes.{CommitSays, does_fault}
+use Rattle.segment_set.proofs.Saving.{cause_after}
 
 abbrev pub Starting : Type 1
 Starting = State → Type 0
@@ -146,7 +147,7 @@ loads_after told trusted trusts From Starts answer old middle new x r same text 
   levels = λ t state h. subst (λ (f : Files). OnOk r (KeepsLevels f new.files)) (same t) (loads.levels t state (starts t state h));
   undone = λ t h. subst (λ (f : Files). KeepsUndone f new.files r) (same t) (loads.undone t (more t h));
   lasting = λ t h. subst (λ (f : Files). KeepsCommit f new.files) (same t) (loads.lasting t (more t h));
-  cause = cause_then old.faults middle.faults new.faults r cause.fine loads.cause;
+  cause = cause_after old.faults middle.faults new.faults r cause.fine loads.cause;
   evident = on_evident_less (told × trusts) (told × trusted) new.files r (λ h. (h.0, more h.0 h.1)) loads.evident;
 }
 
@@ -254,7 +255,7 @@ commit_stopped {T = T} D told points a b c x before after fault r is fits adds c
     (subst (λ (i : Index). IsStored c.files (Some i)) (rest_done l.index points (loading_rests D a.files a.session stored l)) there)))
     (commits.durable.stored t (with_points l.index points) (adds.seen t l.index l.seen) (adds.guards t l.guards)))
     (λ t stored l. commits.faults.whole t (with_points l.index points) (adds.seen t l.index l.seen))
-    (cause_then a.faults b.faults c.faults (Err fault) adds.cause.fine commits.faults.cause)
+    (cause_after a.faults b.faults c.faults (Err fault) adds.cause.fine commits.faults.cause)
     (on_evident_less {X = T} (told × Trusts D b.files b.session) (told × Trusts D a.files a.session) c.files (Err fault)
     (λ h. (h.0, adds_trusts D told points a b (Ok x) adds h.0 h.1)) commits.faults.evident)
     (λ t h. undone_after {T = T} a.files b.files c.files (Err fault) (adds.kept t h.guards) (commits.durable.undone t (adds.guards t h.guards)))
