@@ -104,14 +104,14 @@ pub makes_add : {T : Type 0} (told : Type 0) (seed n : ℕ) (p : List ℤ) (a b 
     → Makes told (IsDrawn seed n 0) (IsDrawn seed (n + 1) 0) a b r
 makes_add told seed n p a b r drawn all more_all more adds = record {
   made = λ t before. on_ok_weaker r (subst (Sees 2 b.files b.session.set) one_more) (adds.seen t (drawn_index seed n 0) before);
-  guards = adds.guards;
+  guards = adds.stays.guards;
   kept = adds.kept;
   canon = adds.canon;
-  cause = adds.cause;
-  whole = λ t before. adds.whole t (drawn_index seed n 0) before;
-  faithful = adds.faithful;
-  traced = adds.traced;
-  evident = adds.evident;
+  cause = adds.faults.cause;
+  whole = λ t before. adds.faults.whole t (drawn_index seed n 0) before;
+  faithful = adds.stays.faithful;
+  traced = adds.stays.traced;
+  evident = adds.faults.evident;
 }
   where
     grown : kept_docs 0 (documents seed n) ++ record { number = n; points = p ∷ [] } ∷ [] ≡ kept_docs 0 (documents seed (n + 1))
