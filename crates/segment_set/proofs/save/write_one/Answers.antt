@@ -18,7 +18,8 @@ pub returns-in_err-write_live-clause-cause : goal.returns-in_err-write_live-clau
 returns-in_err-write_live-clause-cause g c =
     let e = err_from_is_err_and c.from_residual-in_err-write_live.result c.from_residual-in_err-write_live.ensures.1 in
     rw (e.1, e.2)
-    (wrote_cause (g.F.Pages.faults c.args.folder.now) (g.F.Pages.faults c.write_live.new.folder) c.in_err-write_live.field-0.0 c.in_err-write_live.ensures.cause)
+    (wrote_cause (g.F.Pages.faults c.args.folder.now) (g.F.Pages.faults c.write_live.new.folder) c.in_err-write_live.field-0.0
+    c.in_err-write_live.ensures.cause)
 
 pub returns-in_err-write_live-clause-whole : goal.returns-in_err-write_live-clause-whole
 returns-in_err-write_live-clause-whole g c =

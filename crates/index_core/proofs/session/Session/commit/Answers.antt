@@ -124,8 +124,7 @@ returns-in_err-commit g c =
         whole = λ told i seen.
             rw (p.1, p.2) (c.in_err-commit.ensures.damaged.whole told i (subst (λ (u : SessionData). Sees g.row.D old u.set i) (sym c.self.view_is) seen));
         evident = damage_to _ _ c.in_err-commit.field-0.0 error
-            (subst (λ (u : SessionData). FaultShows (IsEvident (IsTrue g.F.Pages.told × Trusts g.row.D old u) saved) c.in_err-commit.field-0.0)
-            c.self.view_is
+            (subst (λ (u : SessionData). FaultShows (IsEvident (IsTrue g.F.Pages.told × Trusts g.row.D old u) saved) c.in_err-commit.field-0.0) c.self.view_is
             (traced_shows {X = Unit {0}} _ _ _ _ inside _ (Err c.in_err-commit.field-0.0) c.save.ensures.rewrites.kept
             (subst (λ (u : SessionData). All (IsNamed u.set.names) u.set.parts) (sym c.self.view_is) c.is_changed.ensures.named)
             c.in_err-commit.ensures.damaged.evident));
@@ -217,8 +216,7 @@ returns g c =
     let flown = ap (λ (u : SetData). u.saved) c.sweep.ensures.alone.is
     ∙ (ap (λ (u : SetData). u.saved) c.write.ensures.set ∙ c.in_ok-commit.ensures.saves.saved ∙ sym c.in_ok-write.ensures.written.0)
     ∙ sym c.sweep.ensures.written.0 in
-    let empty = ap (λ (u : SetData). u.buffer) c.sweep.ensures.alone.is ∙ ap (λ (u : SetData). u.buffer) c.write.ensures.set
-    ∙ c.in_ok-commit.ensures.emptied in
+    let empty = ap (λ (u : SetData). u.buffer) c.sweep.ensures.alone.is ∙ ap (λ (u : SetData). u.buffer) c.write.ensures.set ∙ c.in_ok-commit.ensures.emptied in
     let covers : Guards g.row.D old c.args.self.now → AreCovering old c.last_lines-last.result.now c.self.inside.set =
     λ guards. covered g.row.D old _ c.last_lines-last.result.now c.last_lines-last.ensures (subst (Guards g.row.D old) (sym c.self.view_is) guards) in
     let guarded : IsTrue g.F.Pages.told → Guards g.row.D old c.args.self.now → Guards g.row.D written c.write.new.self =
@@ -246,26 +244,22 @@ returns g c =
       durable = record {
         kept = λ told guards. keeps_any old swept c.sweep.new.self c.sweep.result flown (says told guards);
         stored = λ told i seen guards. stores_any old swept i c.sweep.new.self.set c.sweep.result
-            (stored_still written swept (Some (at_rest i)) (c.sweep.ensures.kept told (guarded told guards))
-            (c.in_ok-write.ensures.stored told i
+            (stored_still written swept (Some (at_rest i)) (c.sweep.ensures.kept told (guarded told guards)) (c.in_ok-write.ensures.stored told i
             (c.in_ok-commit.ensures.saves.stored told (covers guards) i (subst (λ (u : SessionData). Sees g.row.D old u.set i) (sym c.self.view_is) seen))).0)
             empty;
         undone = λ told guards. undone_written old swept c.sweep.new.self.commit c.sweep.result c.sweep.ensures.faults.whole (says told guards);
         own = λ told guards. own_swept g.row.D (IsTrue g.F.Pages.told) old written swept _
             (own_flight g.row.D (IsTrue g.F.Pages.told) old saved written _ _ c.save.new.self c.in_ok-commit.commit c.write.new.self.commit
             c.self.view_is c.in_ok-write.ensures.written.0 c.in_ok-commit.ensures.saves.commit c.in_ok-commit.ensures.emptied
-            c.in_ok-commit.ensures.flushed (kept told guards) (inr (c.in_ok-write.ensures.kept told)))
-            (c.sweep.ensures.kept told (guarded told guards));
+            c.in_ok-commit.ensures.flushed (kept told guards) (inr (c.in_ok-write.ensures.kept told))) (c.sweep.ensures.kept told (guarded told guards));
         lasting = λ told trusts.
             let before = subst (Trusts g.row.D old) (sym c.self.view_is) trusts in
-            commit_swept old written swept
-            (commit_after old saved written (kept told trusts.guards)
+            commit_swept old written swept (commit_after old saved written (kept told trusts.guards)
             (keeps_flight g.row.D saved written c.save.new.self c.in_ok-commit.commit c.write.new.self.commit c.in_ok-write.ensures.written.0
             c.in_ok-commit.ensures.saves.commit (c.in_ok-commit.ensures.saves.live told (covers trusts.guards)) (c.write.ensures.others told)
             (set_alone _ _ _ _ _ _ told c.save.ensures.rewrites.kept c.save.ensures.stays before.guards.set)
             (traced_by _ _ _ _ _ c.save.new.self told c.save.ensures.rewrites.kept c.save.ensures.rewrites.follows (c.save.ensures.rewrites.canon told) before)
-            (inr (c.in_ok-write.ensures.kept told))))
-            (c.sweep.ensures.kept told (guarded told trusts.guards));
+            (inr (c.in_ok-write.ensures.kept told)))) (c.sweep.ensures.kept told (guarded told trusts.guards));
       };
       flight = λ told guards. inr (says_still written swept _ _ (c.sweep.ensures.kept told (guarded told guards)) (flown ∙ c.sweep.ensures.written.0)
           (c.in_ok-write.ensures.kept told));
@@ -289,8 +283,7 @@ returns g c =
       rested = λ settled. c.sweep.ensures.unread ∙ c.write.ensures.unread
           ∙ c.save.ensures.rested (subst (λ (u : SessionData). IsSettled u.set) (sym c.self.view_is) settled);
       canon = λ told. subst (λ (u : SessionData). BringsCanonical g.row.D old swept u.set.parts c.sweep.new.self.set.parts) c.self.view_is
-          (brings_then _ _ _ _ _ c.write.new.self.set.parts _
-          (brings_then _ _ _ _ _ c.save.new.self.parts _
+          (brings_then _ _ _ _ _ c.write.new.self.set.parts _ (brings_then _ _ _ _ _ c.save.new.self.parts _
           (brings_written _ _ _ _ _ _ _ _ told c.save.ensures.rewrites.kept c.save.ensures.rewrites.follows (c.save.ensures.rewrites.canon told))
           (brings_two _ _ _ _ _ (c.write.ensures.others told) (ap (λ (u : SetData). u.parts) c.write.ensures.set)))
           (brings_still _ _ _ _ _ (c.sweep.ensures.removes.segments told) (ap (λ (u : SetData). u.parts) c.sweep.ensures.alone.is)));
