@@ -1,8 +1,9 @@
 -- A new commit is that of the session's set.
-use Rattle.std.proofs.Common.{◌≡◌, ℕ, [], length, map, Option, Some, sym, ap, subst, ◌∙◌, ◌⊎◌, inl, inr, ⊎_elim}
+use Rattle.std.proofs.Common.{◌≡◌, ℕ, List, [], length, map, Option, Some, sym, ap, subst, ◌∙◌, ◌⊎◌, inl, inr, ⊎_elim}
 use Rattle.std.specs.List.{All}
 use Rattle.outer_io.specs.declared.file_name.FileName.TheVariants.{Commit}
 use Rattle.outer_io.specs.Files.{Files, bytes_of}
+use Rattle.commit_list.specs.declared.listed.Listed.{Listed}
 use Rattle.commit_list.specs.Commits.{CommitData}
 use Rattle.commit_list.specs.CommitFiles.{IsCommitFile}
 use Rattle.stored_index.specs.Kept.{SameKept}
@@ -10,7 +11,7 @@ use Rattle.stored_index.proofs.KeptFiles.{kept_after, still_says}
 use Rattle.segment_view.specs.LiveSegments.{LiveSegment, ids_of}
 use Rattle.segment_set.specs.Sets.{SetData}
 use Rattle.segment_set.specs.Kept.{IsCommitOf}
-use Rattle.segment_set.specs.Saved.{HasNextGeneration, StaysButSaved}
+use Rattle.segment_set.specs.Saved.{IsLastOrNext, StaysButSaved}
 use Rattle.segment_set.specs.Settles.{Flushes, SetMoment, moment}
 use Rattle.index_core.specs.Brought.{IsCommitAfter, KeepsOwn}
 use Rattle.index_core.specs.Sessions.{SessionData}
@@ -18,13 +19,13 @@ use Rattle.index_core.specs.Steps.{SaysCommit}
 use Rattle.index_core.proofs.Committing.{saved_ids, some_same}
 
 -- what a save says of the commit that it answers: the set was flushed, and saved then
-abbrev pub IsSavedAfter : (D : ℕ) (told : Type 0) → Files → (s t : SetData) → CommitData → Type 0
-IsSavedAfter D told files s t c =
-    (m : SetMoment) × Flushes D told (moment files s) m × StaysButSaved m.set t × All (HasNextGeneration m.set.names) c.listed
+abbrev pub IsSavedAfter : (D : ℕ) (told : Type 0) → Files → (last : List Listed) → (s t : SetData) → CommitData → Type 0
+IsSavedAfter D told files last s t c =
+    (m : SetMoment) × Flushes D told (moment files s) m × StaysButSaved m.set t × All (IsLastOrNext m.set.names last) c.listed
 
-commit_after_save : (D : ℕ) (told : Type 0) (files : Files) (s t : SetData) (c : CommitData) → IsCommitOf D t c → t.buffer ≡ []
-    → IsSavedAfter D told files s t c → IsCommitAfter D told files s c
-commit_after_save D told files s t c of empty (m, flushes, stays, next) = record {
+commit_after_save : (D : ℕ) (told : Type 0) (files : Files) (last : List Listed) (s t : SetData) (c : CommitData) → IsCommitOf D t c
+    → t.buffer ≡ [] → IsSavedAfter D told files last s t c → IsCommitAfter D told files s c
+commit_after_save D told files last s t c of empty (m, flushes, stays, next) = record {
   flushed = m;
   flushes = flushes;
   is = record {
@@ -45,12 +46,13 @@ own_kept D told old saved written s c flying is kept after which = ⊎_elim
     which
 
 -- of the session that the code opened
-pub own_flight : (D : ℕ) (told : Type 0) (old saved written : Files) (s u : SessionData) (t : SetData) (c : CommitData) (flying : Option CommitData) → u ≡ s
-    → flying ≡ Some c → IsCommitOf D t c → t.buffer ≡ [] → IsSavedAfter D told old u.set t c → SameKept old saved
+pub own_flight : (D : ℕ) (told : Type 0) (old saved written : Files) (last : List Listed) (s u : SessionData) (t : SetData) (c : CommitData)
+    (flying : Option CommitData) → u ≡ s
+    → flying ≡ Some c → IsCommitOf D t c → t.buffer ≡ [] → IsSavedAfter D told old last u.set t c → SameKept old saved
     → SameKept saved written ⊎ SaysCommit written flying → KeepsOwn D told old written s.set
-own_flight D told old saved written s u t c flying same is of empty flushed kept which =
+own_flight D told old saved written last s u t c flying same is of empty flushed kept which =
     subst (λ (v : SessionData). KeepsOwn D told old written v.set) same
-    (own_kept D told old saved written u.set c flying is kept (commit_after_save D told old u.set t c of empty flushed) which)
+    (own_kept D told old saved written u.set c flying is kept (commit_after_save D told old last u.set t c of empty flushed) which)
 
 -- and what keeps all behind it
 pub own_swept : (D : ℕ) (told : Type 0) (old written swept : Files) (s : SetData) → KeepsOwn D told old written s → SameKept written swept

@@ -7,7 +7,7 @@ use Rattle.outer_io.specs.Files.{Files, bytes_of}
 use Rattle.commit_list.specs.Commits.{CommitData}
 use Rattle.commit_list.specs.CommitFiles.{IsCommitFile}
 use Rattle.commit_list.proofs.CommitPages.{one_file}
-use Rattle.stored_index.specs.Kept.{SameKept}
+use Rattle.stored_index.specs.Kept.{ListsFile, SameKept}
 use Rattle.segment_view.specs.LiveSegments.{LiveSegment}
 use Rattle.file_names.specs.Names.{is_named}
 use Rattle.segment_set.specs.Sets.{SetData}

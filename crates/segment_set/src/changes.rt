@@ -56,9 +56,10 @@ impl<const D: usize> SegmentSet<D> {
         ensures refused { IsTrue F.told → (i : Index) → Sees D (F.files folder.old) self.old i
             → OnErr result (Sees D (F.files folder.new) self.new i) }
         ensures gives { GivesNumber self.old self.new (length points.now) result }
+        // where it is full everything stays, and nothing is read
         ensures full { RefusesFull (IsTrue F.told) (F.files folder.old) (F.files folder.new) self.old self.new
             (F.reads folder.old) (F.reads folder.new) (length points.now) result }
-        // what stays: where it is full everything, and after a fault what whole merges of the policy left
+        // what is done, and after a fault what was done before: merges of the policy and a flush, each whole
         ensures added { OnOk result
             ((s : SetMoment) × Flushes D (IsTrue F.told) (moment (F.files folder.old) self.old) s
             × (self.new ≡ set_with points.now s.set)) }

@@ -31,12 +31,12 @@ impl<const D: usize> SegmentSet<D> {
     pub fn sweep<F: Folder>(&mut self, folder: &mut F, c: &Commit) -> Result<(), Failed>
         ensures seen { IsTrue F.told → (i : Index) → Sees D (F.files folder.old) self.old i
             → Sees D (F.files folder.new) self.new i }
+        // whatever is answered: what left the list is gone
         ensures swept { IsSwept (IsTrue F.told) c.now self.old self.new (F.files folder.old) (F.files folder.new) }
         ensures only { OnOk result ((m : FileName) → is_named self.new.names.names m ≡ true
             → IsNeeded self.old c.now m) }
         ensures gone { IsTrue F.told → OnOk result ((m : FileName) → is_named self.old.names.names m ≡ true
             → (IsNeeded self.old c.now m → ⊥) → F.files folder.new m ≡ None) }
-        // whatever is answered: what left the list is gone
         ensures faithful { IsTrue F.told → IsFaithful D (F.files folder.old) self.old
             → IsFaithful D (F.files folder.new) self.new }
         ensures unread { F.reads folder.new ≡ F.reads folder.old }

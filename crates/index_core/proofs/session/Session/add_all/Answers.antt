@@ -1,5 +1,5 @@
 -- One document's list is made, and each point added by way of it.
-use Rattle.std.proofs.Common.{length, length-append, Err, ap, lit<, ◌∙◌, arith}
+use Rattle.std.proofs.Common.{List, [], ◌∷◌, ◌++◌, length, Err, ap, lit<, ◌∙◌, arith}
 use Rattle.std.proofs.lemmas.Result.{err_from_is_err_and}
 use Rattle.page_cache.specs.declared.faults.PageFault.{PageFault}
 use Rattle.point_codec.specs.declared.coordinates.Point.{Point}
@@ -8,16 +8,10 @@ use Rattle.index_core.proofs.Sizes.{session_fits}
 use Rattle.index_core.proofs.Adding.{adds_memory_as}
 use Rattle.index_core.proofs.session.Session.add_all.Goals as goal
 
-pub of-requires : goal.of-requires
-of-requires g c =
-    let pushed = ap length c.push_reserved.ensures.items in
-    let before = ap length c.in_ok-list.ensures.items in (
-      point_fits g.row.D c.args.first.now.high,
-      (
-        lit< tt,
-        (omega (arith, pushed, before, length-append {A = Point g.row.D}), omega (arith, pushed, before, length-append {A = Point g.row.D})),
-      ),
-    )
+pub of-one-requires : goal.of-one-requires
+of-one-requires g c =
+    let one = ap length (c.push_reserved.ensures.items ∙ ap (λ (ps : List (Point g.row.D)). ps ++ c.args.first.now ∷ []) c.in_ok-list.ensures.items) in
+    (point_fits g.row.D c.args.first.now.high, (lit< tt, (omega (arith, one), omega (arith, one))))
 
 pub add_each-requires-after_bounds : goal.add_each-requires-after_bounds
 add_each-requires-after_bounds g c κs = λ _. (

@@ -2,6 +2,7 @@
 use Rattle.std.proofs.Common.{refl, lit<}
 use Rattle.segment_set.proofs.Sizes.{point_fits, set_fits}
 use Rattle.index_core.proofs.Adding.{adds_as, adds_one, adds_seen, put_given, put_seen}
+use Rattle.index_core.proofs.Guarding.{grows_added}
 use Rattle.index_core.proofs.session.Session.add_by.Goals as goal
 
 pub add-requires-after_bounds : goal.add-requires-after_bounds
@@ -20,7 +21,7 @@ returns g c =
     (adds_one _ _ _ _ _ c.add.result (record {
       commit = refl;
       refused = refl;
-      leaf = c.add.ensures.alone.leaf;
+      grows = grows_added _ _ _ c.add.result c.add.ensures.alone.leaf c.add.ensures.gives.given c.add.ensures.left.stays;
       keeps = c.add.ensures.rewrites.kept;
       follows = c.add.ensures.rewrites.follows;
       named = c.leaf-leaf.ensures.well.named;

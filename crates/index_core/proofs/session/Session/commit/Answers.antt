@@ -169,7 +169,7 @@ returns-in_err-write g c =
             (c.in_ok-commit.ensures.saves.stored told (covers guards) i (subst (λ (u : SessionData). Sees g.row.D old u.set i) (sym c.self.view_is) seen))));
         undone = λ told guards. undone_flight (Unit {0}) old written c.write.new.self.set.saved fault _ error c.in_err-write.ensures.faults.whole
             (kept_on old saved written (kept told guards) (c.in_err-write.ensures.kept told));
-        own = λ told guards. own_flight g.row.D (IsTrue g.F.Pages.told) old saved written _ _ c.save.new.self c.in_ok-commit.commit
+        own = λ told guards. own_flight g.row.D (IsTrue g.F.Pages.told) old saved written c.last_lines-last.result.now _ _ c.save.new.self c.in_ok-commit.commit
             c.write.new.self.set.saved c.self.view_is (ap (λ (u : SetData). u.saved) c.write.ensures.set ∙ c.in_ok-commit.ensures.saves.saved)
             c.in_ok-commit.ensures.saves.commit c.in_ok-commit.ensures.emptied c.in_ok-commit.ensures.flushed (kept told guards)
             (c.in_err-write.ensures.kept told);
@@ -249,8 +249,8 @@ returns g c =
             empty;
         undone = λ told guards. undone_written old swept c.sweep.new.self.commit c.sweep.result c.sweep.ensures.faults.whole (says told guards);
         own = λ told guards. own_swept g.row.D (IsTrue g.F.Pages.told) old written swept _
-            (own_flight g.row.D (IsTrue g.F.Pages.told) old saved written _ _ c.save.new.self c.in_ok-commit.commit c.write.new.self.commit
-            c.self.view_is c.in_ok-write.ensures.written.0 c.in_ok-commit.ensures.saves.commit c.in_ok-commit.ensures.emptied
+            (own_flight g.row.D (IsTrue g.F.Pages.told) old saved written c.last_lines-last.result.now _ _ c.save.new.self c.in_ok-commit.commit
+            c.write.new.self.commit c.self.view_is c.in_ok-write.ensures.written.0 c.in_ok-commit.ensures.saves.commit c.in_ok-commit.ensures.emptied
             c.in_ok-commit.ensures.flushed (kept told guards) (inr (c.in_ok-write.ensures.kept told))) (c.sweep.ensures.kept told (guarded told guards));
         lasting = λ told trusts.
             let before = subst (Trusts g.row.D old) (sym c.self.view_is) trusts in

@@ -14,7 +14,7 @@ use Rattle.index_core.specs.Effects.{HasEnded, OnDone}
 use Rattle.index_core.specs.Replies.{end_answer}
 use Rattle.index_core.proofs.Leaving.{end_leaves}
 use Rattle.index_core.proofs.Bringing.{brings_written}
-use Rattle.index_core.proofs.Guarding.{grows_alone}
+use Rattle.index_core.proofs.Guarding.{grows_same}
 use Rattle.page_cache.specs.Evidence.{NotDamaged}
 use Rattle.page_cache.specs.declared.faults.PageFault.TheVariants as page
 use Rattle.index_core.proofs.Showing.{damage_to}
@@ -41,7 +41,8 @@ returns-clause-applies g c =
     (record {
       commit = refl;
       refused = refl;
-      grows = grows_alone _ _ c.merge_end.ensures.stays;
+      grows = grows_same c.self.inside.set c.merge_end.new.self c.merge_end.ensures.stays.leaf c.merge_end.ensures.stays.next
+          c.merge_end.ensures.stays.given;
       keeps = c.merge_end.ensures.rewrites.kept;
       follows = c.merge_end.ensures.rewrites.follows;
       brings = λ told.

@@ -62,7 +62,7 @@ returns-in_err-inputs-clause-cause g c =
 pub returns-in_err-inputs-clause-damaged : goal.returns-in_err-inputs-clause-damaged
 returns-in_err-inputs-clause-damaged g c =
     let p = err_from_is_err_and c.from_residual.result c.from_residual.ensures.1 in
-    shows_none g.row.D (IsTrue g.F.Pages.told) (g.F.Pages.files c.args.folder.now) (g.F.Pages.files c.args.folder.now) c.args.self.now _
+    shows_none g.row.D (IsTrue g.F.Pages.told) (g.F.Pages.files c.args.folder.now) (g.F.Pages.files c.args.folder.now) c.args.self.now _ _
     (λ P. rw (p.1, p.2) tt)
 
 pub returns-in_err-built-clause-refused : goal.returns-in_err-built-clause-refused
