@@ -1,7 +1,7 @@
 -- What is told of lines, and of their replies.
 use Rattle.std.proofs.Common.{◌≡◌, ◌≤◌, ℕ, Bool, true, false, cond, List, [], ◌∷◌, ◌++◌, map, drop, length}
 use Rattle.std.proofs.Common.{◌+◌, ◌/◌, ap, subst, sum_by, sym, ◌∙◌, arith}
-use Rattle.std.proofs.Common.{OnOk, Result, Ok, Err, append-nil, length-append, length-drop, zero-add}
+use Rattle.std.proofs.Common.{append-nil, length-append, length-drop, zero-add}
 use mir.Val.{bool_byte}
 use Rattle.outer_io.specs.declared.file_name.FileName.TheVariants.{Commit}
 use Rattle.outer_io.specs.Files.{Files, bytes_of}
@@ -58,8 +58,3 @@ reads_once files c before mid now says first then d again =
     let few = first c says in
     let same : c ≡ d = one_file (bytes_of (files Commit)) c d says again in
     subst (λ (e : CommitData). now ≤ before + length (bytes_of (files Commit)) / 4096 + sum_by (copied_pages files) e.listed) same (omega (arith, few, then))
-
--- what follows where the call is done
-pub on_ok_weaker : {T E : Type 0} (r : Result T E) (P Q : Type 0) → (P → Q) → OnOk r P → OnOk r Q
-on_ok_weaker (Ok x) P Q more h = more h
-on_ok_weaker (Err e) P Q more h = tt

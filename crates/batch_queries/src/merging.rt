@@ -20,6 +20,7 @@ use crate::begun::{answer_beside, end_merge};
 use crate::telling::tell_bare;
 use batch_run::Resident;
 use bkd_build::Gate;
+use command_words::CACHE_PAGES;
 use commit_list::{Commit, read_commit};
 use index_core::{Session, Settings, Work};
 use outer_io::{Folder, ReadAll, Sink, Source, read_all};
@@ -27,9 +28,6 @@ use run_status::{MAX_INPUT, Status, Stop, send, status_of};
 use std::alloc::Global;
 use std::marker::Sync;
 use std::thread::Threads;
-
-/// How many pages the session keeps.
-const CACHE_PAGES: u32 = 1024;
 
 /// The command `batch` with `--merge`: answers a list of queries as `run_batch` does, and merges the segments that the
 /// commit lists, the first 64 of them. The merge is built beside the batch. Then the text goes out, and then the merge

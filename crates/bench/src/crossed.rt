@@ -27,6 +27,8 @@ impl Shape<2> for Crossed {
 
     ghost crosses = { λ s cell. true };
 
+    ghost within_uncrossed = { λ s outer inner lies ordered crossed. crossed };
+
     ghost tests = { λ s. s.bounds.tests };
 
     ghost compares = { λ s. s.compares };

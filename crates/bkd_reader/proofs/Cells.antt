@@ -3,13 +3,13 @@ use Rattle.std.proofs.Common.{◌≡◌, ℕ, zero, suc, Bool, true, false, List
 use Rattle.std.proofs.lemmas.Int.{ints}
 use Rattle.point_codec.specs.Points.{Region, all_le}
 use Rattle.point_codec.specs.Cells.{within, left_of, right_of}
-use Rattle.cell_relate.specs.Relations.{AllAnswer, IsUncrossed}
-use Rattle.cell_relate.proofs.RelationLemmas.{AllAnswer-within, is_outside-all, is_outside-inside, is_outside-outside, is_outside-crosses}
+use Rattle.cell_relate.specs.Relations.{AllAnswer}
+use Rattle.cell_relate.proofs.RelationLemmas.{AllAnswer-within, is_outside-all, is_outside-crosses}
 use Rattle.inner_pack.specs.Trees.{IndexTree, Leaf, Split, HasCells, cell_of, leaf_count}
 use Rattle.bkd_reader.specs.Counts.{tested_entries, touched_leaves}
 use Rattle.point_codec.proofs.Corners.{all_le-refl}
 
-set_below : (h : List ℤ) (d : ℕ) (x : ℤ) → x ≤ℤ get_or h d (pos 0) → all_le (set h d x) h ≡ true
+pub set_below : (h : List ℤ) (d : ℕ) (x : ℤ) → x ≤ℤ get_or h d (pos 0) → all_le (set h d x) h ≡ true
 set_below [] d x le = refl
 set_below (y ∷ ys) zero x le = rw (all_le-refl ys) (grind (arith, ints))
 set_below (y ∷ ys) (suc d) x le = rw (set_below ys d x le) (grind (arith, ints))
@@ -19,10 +19,10 @@ set_above [] d x le = refl
 set_above (y ∷ ys) zero x le = rw (all_le-refl ys) (grind (arith, ints))
 set_above (y ∷ ys) (suc d) x le = rw (set_above ys d x le) (grind (arith, ints))
 
-left_within : (path : Region) (d : ℕ) (x : ℤ) → x ≤ℤ get_or path.hi d (pos 0) → within (left_of path d x) path ≡ true
+pub left_within : (path : Region) (d : ℕ) (x : ℤ) → x ≤ℤ get_or path.hi d (pos 0) → within (left_of path d x) path ≡ true
 left_within path d x le = rw (all_le-refl path.lo, set_below path.hi d x le) refl
 
-right_within : (path : Region) (d : ℕ) (x : ℤ) → get_or path.lo d (pos 0) ≤ℤ x → within (right_of path d x) path ≡ true
+pub right_within : (path : Region) (d : ℕ) (x : ℤ) → get_or path.lo d (pos 0) ≤ℤ x → within (right_of path d x) path ≡ true
 right_within path d x le = rw (set_above path.lo d x le, all_le-refl path.hi) refl
 
 -- what the shape answers on all of the path cell, it answers on the paths of both children
@@ -58,18 +58,9 @@ pub touched_all : (D : ℕ) (has : List ℤ → Bool) (crosses : Region → Bool
 touched_all D has crosses path (Leaf len own) cells all = one_touched D has crosses path len own cells all
 touched_all D has crosses path (Split d x l r) cells all = touched_below D has crosses path (Split d x l r) cells all
 
--- ---- what a leaf costs, by the answer on its own cell
+-- ---- what a leaf costs whose own cell is crossed
 
 module _ (has : List ℤ → Bool) (crosses : Region → Bool) (count : ℕ → ℕ) (first len : ℕ) (seen own : Region) (same : seen ≡ own) where
-  pub uncrossed_tested : (b : Bool) → IsUncrossed has crosses seen b → 0 ≡ tested_entries crosses count first (Leaf len own)
-  uncrossed_tested b u = subst (λ r. 0 ≡ tested_entries crosses count first (Leaf len r)) same (rw u.uncrossed refl)
-
-  pub outside_touched : IsUncrossed has crosses seen false → 0 ≡ touched_leaves has crosses (Leaf len own)
-  outside_touched u = subst (λ r. 0 ≡ touched_leaves has crosses (Leaf len r)) same (rw (is_outside-outside has crosses seen u) refl)
-
-  pub inside_touched : IsUncrossed has crosses seen true → 1 ≡ touched_leaves has crosses (Leaf len own)
-  inside_touched u = subst (λ r. 1 ≡ touched_leaves has crosses (Leaf len r)) same (rw (is_outside-inside has crosses seen u) refl)
-
   pub crossed_tested : crosses seen ≡ true → count first ≡ tested_entries crosses count first (Leaf len own)
   crossed_tested e = subst (λ r. count first ≡ tested_entries crosses count first (Leaf len r)) same (rw e refl)
 

@@ -3,3 +3,4 @@ pub mod Cells
 pub mod Trees
 pub mod Beyond
 pub mod Unread
+pub mod Uncrossed

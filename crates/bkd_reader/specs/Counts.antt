@@ -1,6 +1,7 @@
 -- What a walk over an index costs at most, leaf by leaf; each leaf is judged by its own cell (Apache Lucene's points).
 use Rattle.std.specs.Prelude.{ℕ, ◌+◌, Bool, if◌then◌else◌, List, ℤ}
 use Rattle.point_codec.specs.Points.{Region}
+use Rattle.point_codec.specs.Cells.{left_of, right_of}
 use Rattle.cell_relate.specs.Relations.{is_outside}
 use Rattle.inner_pack.specs.Trees.{IndexTree, Leaf, Split, leaf_count}
 
@@ -15,3 +16,11 @@ tested_entries crosses count first (Split d x l r) =
 abbrev pub touched_leaves : (has : List ℤ → Bool) (crosses : Region → Bool) → IndexTree → ℕ
 touched_leaves has crosses (Leaf len own) = if is_outside has crosses own then 0 else 1
 touched_leaves has crosses (Split d x l r) = touched_leaves has crosses l + touched_leaves has crosses r
+
+-- of how many nodes the cell is asked where none is below one that isn't crossed
+abbrev pub asked_cells : (crosses : Region → Bool) (path : Region) → IndexTree → ℕ
+asked_cells crosses path (Leaf len own) = 1
+asked_cells crosses path (Split d x l r) =
+    1 + (if crosses path then
+    asked_cells crosses (left_of path d x) l + asked_cells crosses (right_of path d x) r
+    else 0)

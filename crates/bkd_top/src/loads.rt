@@ -23,6 +23,7 @@ ghost use Rattle.run_status.specs.Ends.{DoesNothing, IsDamaged, OnStatusDamage};
 
 use bkd_build::Gate;
 use byte_cursor::Bytes;
+use command_words::CACHE_PAGES;
 use generate_index::generate;
 use index_core::{Settings, Work};
 use load_points::load;
@@ -32,9 +33,6 @@ use run_status::{MAX_INPUT, Status, send, status_of, stopped};
 use std::alloc::Global;
 use std::marker::Sync;
 use std::thread::Threads;
-
-/// How many pages are kept where no word says it.
-const CACHE_PAGES: u32 = 1024;
 
 /// The command `load`: adds the points of a CSV file, whose columns of these names are the dimensions, and commits.
 /// It says how many came and the number of the next document, or the first refusal, which leaves the folder's files.

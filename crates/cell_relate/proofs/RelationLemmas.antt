@@ -5,7 +5,7 @@ use Rattle.point_codec.specs.Points.{Region, all_le, in_box}
 use Rattle.point_codec.specs.Cells.{within}
 use Rattle.cell_relate.specs.declared.shape.Relation.{Relation}
 use Rattle.cell_relate.specs.declared.shape.Relation.TheVariants.{Inside, Outside, Crosses}
-use Rattle.cell_relate.specs.Relations.{AllAnswer, RelatesTo, is_outside}
+use Rattle.cell_relate.specs.Relations.{AllAnswer, IsUncrossed, KeepsUncrossed, RelatesTo, is_outside}
 use Rattle.point_codec.proofs.Corners.{both_true, all_le-refl, all_le-trans}
 
 -- the least corner is a point of its cell
@@ -23,6 +23,13 @@ in_box-within inner outer p h k =
 pub AllAnswer-within : (has : List ℤ → Bool) (answer : Bool) (inner outer : Region) → within inner outer ≡ true → AllAnswer has answer outer
     → AllAnswer has answer inner
 AllAnswer-within has answer inner outer h all p k = all p (in_box-within inner outer p h k)
+
+-- a cell within an uncrossed one is so with the same answer
+pub uncrossed_within : (has : List ℤ → Bool) (crosses : Region → Bool) → KeepsUncrossed crosses → (answer : Bool) (inner outer : Region)
+    → within inner outer ≡ true → all_le inner.lo inner.hi ≡ true → IsUncrossed has crosses outer answer → IsUncrossed has crosses inner answer
+uncrossed_within has crosses keeps answer inner outer lies ordered u =
+    let all = AllAnswer-within has answer inner outer lies u.all in
+    record { uncrossed = keeps outer inner lies ordered u.uncrossed; all = all; corner = all inner.lo (in_box-lo inner ordered) }
 
 -- a cell of which the shape has all points is not outside, crossed or not
 pub is_outside-all : (has : List ℤ → Bool) (crosses : Region → Bool) (cell : Region) → all_le cell.lo cell.hi ≡ true → AllAnswer has true cell

@@ -1,2 +1,3 @@
 pub mod Relations
 pub mod Boxes
+pub mod BoxLaws

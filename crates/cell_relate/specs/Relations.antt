@@ -1,7 +1,8 @@
 -- How a cell lies to a shape (Apache Lucene's points: PointValues.Relation). A shape is the test of which points it
 -- has, beside the test of which cells it crosses.
 use Rattle.std.specs.Prelude.{◌≡◌, ℕ, Bool, true, false, not, ◌&&◌, List, ℤ, pos, int_le, slice_index_or}
-use Rattle.point_codec.specs.Points.{Region, in_box}
+use Rattle.point_codec.specs.Points.{Region, all_le, in_box}
+use Rattle.point_codec.specs.Cells.{within}
 use Rattle.cell_relate.specs.declared.shape.Relation.{Relation}
 use Rattle.cell_relate.specs.declared.shape.Relation.TheVariants.{Inside, Outside, Crosses}
 
@@ -25,6 +26,11 @@ RelatesTo has crosses cell Crosses = crosses cell ≡ true
 -- corner tells which
 abbrev pub is_outside : (List ℤ → Bool) → (Region → Bool) → Region → Bool
 is_outside has crosses cell = not (crosses cell) && not (has cell.lo)
+
+-- a cell within one that is not crossed isn't crossed either
+abbrev pub KeepsUncrossed : (Region → Bool) → Type 0
+KeepsUncrossed crosses = (outer inner : Region) → within inner outer ≡ true → all_le inner.lo inner.hi ≡ true
+    → crosses outer ≡ false → crosses inner ≡ false
 
 -- a point that the shape has lies from low to high in dimension d
 abbrev pub IsReach : (List ℤ → Bool) → ℕ → (low high : ℤ) → Type 0

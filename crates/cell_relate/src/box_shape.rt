@@ -5,6 +5,7 @@ ghost use Rattle.point_codec.specs.Points.{Region, all_le, in_box};
 ghost use Rattle.point_codec.specs.Seen.{region_of};
 ghost use Rattle.point_codec.specs.Cells.{within};
 ghost use Rattle.cell_relate.specs.Boxes.{meets, crosses};
+ghost use Rattle.cell_relate.specs.BoxLaws.{box_keeps};
 ghost use Rattle.cell_relate.specs.Relations.{RelatesTo};
 
 use crate::shape::{Relation, Shape};
@@ -61,6 +62,8 @@ impl<const D: usize> Shape<D> for BoxShape<D> {
     ghost has = { λ s p. in_box s.bounds p };
 
     ghost crosses = { λ s cell. crosses s.bounds cell };
+
+    ghost within_uncrossed = { λ s. box_keeps s.bounds };
 
     ghost tests = { λ s. s.tests };
 

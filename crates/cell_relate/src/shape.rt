@@ -3,7 +3,7 @@
 ghost use Rattle.std.specs.Prelude.{◌≡◌, ℕ, ◌+◌, ◌-◌, ◌^◌, ◌<◌, min, List, ℤ, Bool, IfSome};
 ghost use Rattle.point_codec.specs.Points.{Region};
 ghost use Rattle.point_codec.specs.Seen.{region_of};
-ghost use Rattle.cell_relate.specs.Relations.{RelatesTo, IsReach};
+ghost use Rattle.cell_relate.specs.Relations.{RelatesTo, KeepsUncrossed, IsReach};
 
 use point_codec::{Cell, Point};
 
@@ -21,13 +21,15 @@ pub enum Relation {
 /// A set of points that can be asked for a point and for a cell, and counts both questions.
 ///
 /// `has` says which points the shape has, `crosses` which cells it crosses: a cell that it doesn't cross has all its
-/// points in the shape or none. `tests` and `compares` are how often `contains` and `compare` were asked; a count
-/// stands still at the greatest number of 64 bits. No call changes which points the shape has or which cells it
-/// crosses.
+/// points in the shape or none, and by the law `within_uncrossed` each cell within it isn't crossed either. `tests` and
+/// `compares` are how often `contains` and `compare` were asked; a count stands still at the greatest number of 64
+/// bits. No call changes which points the shape has or which cells it crosses.
 pub trait Shape<const D: usize> {
     ghost has: { Self → List ℤ → Bool };
 
     ghost crosses: { Self → Region → Bool };
+
+    ghost within_uncrossed: { (s : Self) → KeepsUncrossed (crosses s) };
 
     ghost tests: { Self → ℕ };
 

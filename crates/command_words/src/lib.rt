@@ -10,6 +10,7 @@ ghost use Rattle.std.specs.Prelude.{◌≡◌, Some, None, IfOk, Err, map, strin
 ghost use Rattle.command_words.specs.Commands.{IsWithin, task_in, task_of};
 
 use byte_cursor::Bytes;
+pub use reading::CACHE_PAGES;
 use reading::{
     read_batch, read_check, read_count, read_explain, read_generate, read_load, read_ranges,
     read_run, read_session,

@@ -15,7 +15,7 @@ use clap::{ArgMatches, Command, Error};
 use std::alloc::{AllocError, Global};
 
 /// Pages that are kept where the words don't say how many.
-const CACHE_PAGES: u32 = 1_024;
+pub const CACHE_PAGES: u32 = 1_024;
 
 /// Levels that fork where the words don't say how many.
 const FORK_LEVELS: u32 = 1;

@@ -9,15 +9,13 @@ ghost use Rattle.commit_list.specs.declared.head.Head.{Head};
 ghost use Rattle.commit_list.specs.declared.head.Layout.{Layout};
 
 use byte_cursor::Cursor;
+use point_codec::MOST_POINTS;
 
 /// What a body of the first layout begins with.
 const FIRST: &[u8; 8] = b"BKDPCOM1";
 
 /// What a body of the second layout begins with.
 pub(crate) const SECOND: &[u8; 8] = b"BKDPCOM2";
-
-/// The greatest number of points given.
-const MOST_GIVEN: u32 = 1 << 24;
 
 /// The greatest number of listed segments.
 const MOST_SEGMENTS: u16 = 200;
@@ -64,7 +62,7 @@ impl Head {
         if self.next > self.given {
             return false;
         }
-        if self.given > MOST_GIVEN {
+        if self.given > MOST_POINTS {
             return false;
         }
         self.count <= MOST_SEGMENTS

@@ -6,9 +6,7 @@ ghost use Rattle.commit_list.specs.Commits.{IsListed, AreListed};
 ghost use Rattle.commit_list.specs.Layout.{spell_listed, FitsListed};
 
 use byte_cursor::Cursor;
-
-/// The greatest number of entries.
-const MOST_ENTRIES: u32 = 1 << 24;
+use point_codec::MOST_POINTS;
 
 /// A segment in the list of a commit.
 #[derive(Clone, Copy, Debug, PartialEq, Eq)]
@@ -33,7 +31,7 @@ fn is_listed(next_segment: u64, s: &Listed) -> bool
     if s.entries == 0 {
         return false;
     }
-    if s.entries > MOST_ENTRIES {
+    if s.entries > MOST_POINTS {
         return false;
     }
     s.live <= s.entries

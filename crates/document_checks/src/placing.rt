@@ -10,10 +10,8 @@ use crate::Memory;
 use crate::marks::mark_word;
 use crate::told::Misplaced;
 use live_bits::LiveBits;
+use point_codec::MOST_POINTS;
 use std::alloc::Global;
-
-/// What no set has: each live number is below it.
-const LIMIT: u32 = 1 << 24;
 
 /// The least live number that isn't below `next` or is live in two of the sets, if there is one. A number of which
 /// both hold is told as Beyond. The sets are gone through once, a word of their bits at a time, and the call takes
@@ -29,7 +27,7 @@ pub fn misplaced(alloc: Global, lives: &[LiveBits], next: u32) -> Result<Option<
         return Ok(Some(Misplaced::Doubled(doubled)));
     }
     let beyond = least_beyond(lives, next);
-    if beyond < LIMIT {
+    if beyond < MOST_POINTS {
         return Ok(Some(Misplaced::Beyond(beyond)));
     }
     Ok(None)
@@ -72,14 +70,14 @@ fn mark_live(marks: &mut [u64], live: &LiveBits, limit: u32) -> u32
     limit
 }
 
-/// The least live number of the sets from `next` on, or LIMIT where there is none.
+/// The least live number of the sets from `next` on, or MOST_POINTS where there is none.
 fn least_beyond(lives: &[LiveBits], next: u32) -> u32
     ensures within { result ≤ 2 ^ 24 }
     ensures before { (n : ℕ) → next ≤ n → n < result → places n lives.now ≡ 0 }
     ensures found { result < 2 ^ 24 → (next ≤ result) × (1 ≤ places result lives.now) }
     ensures above { (n : ℕ) → 2 ^ 24 ≤ n → places n lives.now ≡ 0 }
 {
-    let mut limit = LIMIT;
+    let mut limit = MOST_POINTS;
     for live in lives {
         limit = first_live(live, next, limit);
     }

@@ -10,9 +10,10 @@ use outer_io::{FileName, MemFolder, WriteFault};
 use page_cache::{PageCache, PageFault};
 use point_codec::{Entry, Point};
 use segment_build::{NewSegment, build_segment};
-use segment_file::read_entries;
+use segment_file::{SegmentHead, append_entries, read_entries};
 use std::alloc::{AllocError, Global};
 use std::marker::Sync;
+use std::process::Abort;
 use std::test::Fail;
 use std::thread::Threads;
 
@@ -101,6 +102,24 @@ fn each_piece_that_fails(rt: HostRuntime) -> Result<(), Fail> {
     Ok(())
 }
 
+/// All entries come once more behind those that are there.
+fn append_again(
+    rt: &(impl Abort + AllocGlobal),
+    folder: &mut MemFolder,
+    cache: &mut PageCache,
+    head: &SegmentHead<2>,
+    segment: &NewSegment<2>,
+    entries: &mut Vec<Entry<2>>,
+) -> Result<(), Fail> {
+    let mut twice = entries.as_slice().to_vec(rt.alloc())?;
+    twice.extend_from_slice(entries.as_slice())?;
+    append_entries(rt.alloc(), folder, cache, head, segment.live(), entries)
+        .ok()
+        .ok_or("no entries")?;
+    same(rt, entries.as_slice(), twice.as_slice());
+    Ok(())
+}
+
 /// Six full leaves lie on three pages, and behind them the seventh one, of two entries.
 #[test]
 fn each_read_that_fails(rt: HostRuntime) -> Result<(), Fail> {
@@ -120,7 +139,10 @@ fn each_read_that_fails(rt: HostRuntime) -> Result<(), Fail> {
         let mut cache = PageCache::new(rt.alloc(), 9)?;
         folder.plan(vec![in rt.alloc(); call]?, None);
         match read_entries(rt.alloc(), &mut folder, &mut cache, &head, segment.live()) {
-            Ok(entries) => assert_eq!(rt; (entries.len(), call), (2_000, 3)),
+            Ok(mut entries) => {
+                assert_eq!(rt; (entries.len(), call), (2_000, 3));
+                append_again(&rt, &mut folder, &mut cache, &head, &segment, &mut entries)?;
+            }
             Err(fault) => {
                 holds_at(&rt, matches!(fault, PageFault::Failed) && call < 3, &call);
             }

@@ -4,6 +4,7 @@ use Rattle.std.proofs.lemmas.Bool.Decides.{nat_tests}
 use Rattle.std.proofs.lemmas.List.Elements.{All-head, All-tail}
 use Rattle.documents.specs.Documents.{Ascend, Document, docs_without, is_live}
 use Rattle.documents.proofs.Lists.{pairs_after, pairs_tail}
+use Rattle.index_core.proofs.Changing.{deleted_none}
 
 none_above : (n : ℕ) (docs : List Document) → All (λ (d : Document). n < d.number) docs → is_live n docs ≡ false
 none_above n [] above = refl
@@ -11,15 +12,6 @@ none_above n (d ∷ ds) above =
     let first = All-head (λ (x : Document). n < x.number) d ds above in
     let other : nat_eq d.number n ≡ false = grind (arith, nat_tests) in
     ap (λ b. b || is_live n ds) other ∙ none_above n ds (All-tail (λ (x : Document). n < x.number) d ds above)
-
-deleted_none : (n : ℕ) (docs : List Document) → is_live n docs ≡ false → docs_without n docs ≡ docs
-deleted_none n [] none = refl
-deleted_none n (d ∷ ds) none = by (nat_eq d.number n) (deleted_none n ds) none
-  where
-    by : (b : Bool) → (is_live n ds ≡ false → docs_without n ds ≡ ds) → (b || is_live n ds) ≡ false
-        → cond (not b) (d ∷ docs_without n ds) (docs_without n ds) ≡ d ∷ ds
-    by true rest e = absurd cc
-    by false rest e = ap (λ (xs : List Document). d ∷ xs) (rest e)
 
 pub one_less : (n : ℕ) (docs : List Document) → Ascend docs → is_live n docs ≡ true → length (docs_without n docs) + 1 ≡ length docs
 one_less n [] up live = absurd cc

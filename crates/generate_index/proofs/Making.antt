@@ -20,13 +20,14 @@ use Rattle.index_core.specs.Sessions.{AreTraced, Guards, IsTraced, SessionData, 
 use Rattle.index_core.specs.Effects.{BringsCanonical}
 use Rattle.index_core.specs.Whole.{Adds, SessionMoment, with_points}
 use Rattle.index_core.proofs.Answering.{no_cause}
-use Rattle.index_core.proofs.FaultCauses.{cause_then, fault_to}
+use Rattle.index_core.proofs.FaultCauses.{fault_to}
 use Rattle.index_core.proofs.Bringing.{brings_same, brings_then}
 use Rattle.drawn_points.specs.Draws.{point}
 use Rattle.drawn_points.specs.Generated.{document, documents, kept_docs}
 use Rattle.generate_index.specs.Generates.{IsDrawn, Makes, drawn_index}
-use Rattle.index_core.proofs.Adding.{on_ok_map}
 use Rattle.index_core.proofs.Committing.{on_ok_any}
+use Rattle.segment_set.proofs.Saving.{cause_after}
+use Rattle.std.proofs.lemmas.Result.{on_ok_weaker}
 
 abbrev pub At : Type 1
 At = SessionMoment → Type 0
@@ -67,7 +68,7 @@ makes_then told Before Between After a b c x r first second = record {
   guards = λ t guards. second.guards t (first.guards t guards);
   kept = λ t guards. kept_after a.files b.files c.files (first.kept t guards) (second.kept t (first.guards t guards));
   canon = λ t. brings_then 2 a.files b.files c.files a.session.set.parts b.session.set.parts c.session.set.parts (first.canon t) (second.canon t);
-  cause = cause_then a.faults b.faults c.faults r first.cause.fine second.cause;
+  cause = cause_after a.faults b.faults c.faults r first.cause.fine second.cause;
   whole = λ t before. second.whole t (first.made t before);
   faithful = λ t faithful. second.faithful t (first.faithful t faithful);
   traced = λ t trusts. second.traced t (makes_trusts told Before Between a b (Ok x) first t trusts);
@@ -102,15 +103,15 @@ pub makes_add : {T : Type 0} (told : Type 0) (seed n : ℕ) (p : List ℤ) (a b 
     → documents seed (n + 1) ≡ documents seed n ++ document seed n ∷ [] → Adds 2 told (p ∷ []) a b r
     → Makes told (IsDrawn seed n 0) (IsDrawn seed (n + 1) 0) a b r
 makes_add told seed n p a b r drawn all more_all more adds = record {
-  made = λ t before. on_ok_map r (subst (Sees 2 b.files b.session.set) one_more) (adds.seen t (drawn_index seed n 0) before);
-  guards = adds.guards;
+  made = λ t before. on_ok_weaker r (subst (Sees 2 b.files b.session.set) one_more) (adds.seen t (drawn_index seed n 0) before);
+  guards = adds.stays.guards;
   kept = adds.kept;
   canon = adds.canon;
-  cause = adds.cause;
-  whole = λ t before. adds.whole t (drawn_index seed n 0) before;
-  faithful = adds.faithful;
-  traced = adds.traced;
-  evident = adds.evident;
+  cause = adds.faults.cause;
+  whole = λ t before. adds.faults.whole t (drawn_index seed n 0) before;
+  faithful = adds.stays.faithful;
+  traced = adds.stays.traced;
+  evident = adds.faults.evident;
 }
   where
     grown : kept_docs 0 (documents seed n) ++ record { number = n; points = p ∷ [] } ∷ [] ≡ kept_docs 0 (documents seed (n + 1))

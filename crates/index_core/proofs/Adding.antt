@@ -41,25 +41,23 @@ use Rattle.segment_set.specs.declared.faults.AddFault.TheVariants as add
 use Rattle.index_core.specs.Sessions.{Guards, SessionData, Trusts}
 use Rattle.index_core.specs.Whole.{Adds, SessionMoment, add_result, with_point, with_points}
 use Rattle.index_core.proofs.Answering.{no_cause}
-use Rattle.index_core.proofs.FaultCauses.{cause_then, fault_to, memory_cause}
+use Rattle.index_core.proofs.FaultCauses.{fault_to, memory_cause}
 use Rattle.index_core.proofs.Bringing.{brings_same, brings_then, brings_written}
 use Rattle.index_core.proofs.Guarding.{Grows, grows_like, guards_after, kept_after_calls}
 use Rattle.index_core.proofs.Tracing.{traced_by, traced_shows}
 use Rattle.segment_set.proofs.Rearranged.{empty_list}
+use Rattle.segment_set.proofs.Saving.{cause_after}
+use Rattle.std.proofs.lemmas.Result.{on_ok_weaker}
 
 -- nothing was added
 pub adds_none : {T : Type 0} (D : ℕ) (told : Type 0) (at : SessionMoment) (x : T) → Adds D told [] at at (Ok x)
 adds_none D told at x = record {
   seen = λ t i seen. seen;
   given = omega arith;
-  guards = λ t guards. guards;
+  stays = record { guards = λ t guards. guards; faithful = λ t faithful. faithful; traced = λ t trusts. trusts.traced };
   kept = λ t guards. kept_itself at.files;
   canon = λ t. brings_same D at.files at.files at.session.set.parts at.session.set.parts refl refl;
-  cause = no_cause at.faults x;
-  whole = λ t i seen. tt;
-  faithful = λ t faithful. faithful;
-  traced = λ t trusts. trusts.traced;
-  evident = tt;
+  faults = record { cause = no_cause at.faults x; whole = λ t i seen. tt; evident = tt };
 }
 
 pub adds_empty : {T : Type 0} (D : ℕ) (told : Type 0) (points : List (Point D)) (at : SessionMoment) (x : T) → length points < 1
@@ -72,40 +70,37 @@ pub adds_no_memory : {T : Type 0} (D : ℕ) (told : Type 0) (points : List (List
 adds_no_memory D told points at = record {
   seen = λ t i seen. tt;
   given = tt;
-  guards = λ t guards. guards;
+  stays = record { guards = λ t guards. guards; faithful = λ t faithful. faithful; traced = λ t trusts. trusts.traced };
   kept = λ t guards. kept_itself at.files;
   canon = λ t. brings_same D at.files at.files at.session.set.parts at.session.set.parts refl refl;
-  cause = memory_cause at.faults at.faults (omega arith);
-  whole = λ t i seen. tt;
-  faithful = λ t faithful. faithful;
-  traced = λ t trusts. trusts.traced;
-  evident = tt;
+  faults = record { cause = memory_cause at.faults at.faults (omega arith); whole = λ t i seen. tt; evident = tt };
 }
-
-pub on_ok_map : {T E P Q : Type 0} (r : Result T E) → (P → Q) → OnOk r P → OnOk r Q
-on_ok_map (Ok x) h p = h p
-on_ok_map (Err e) h p = tt
 
 -- some, and then more
 pub adds_then : {T U : Type 0} (D : ℕ) (told : Type 0) (xs ys : List (List ℤ)) (a b c : SessionMoment) (x : U) (r : Result T PageFault)
     → Adds D told xs a b (Ok x) → Adds D told ys b c r → Adds D told (xs ++ ys) a c r
 adds_then D told xs ys a b c x r first second = record {
   seen = λ t i seen.
-      on_ok_map r (subst (Sees D c.files c.session.set) (sym (fold-append with_point i xs ys))) (second.seen t (with_points i xs) (first.seen t i seen));
-  given = on_ok_map r (λ more. let long = length-append xs ys in let some = first.given in omega arith) second.given;
-  guards = λ t guards. second.guards t (first.guards t guards);
-  kept = λ t guards. kept_after a.files b.files c.files (first.kept t guards) (second.kept t (first.guards t guards));
+      on_ok_weaker r (subst (Sees D c.files c.session.set) (sym (fold-append with_point i xs ys))) (second.seen t (with_points i xs) (first.seen t i seen));
+  given = on_ok_weaker r (λ more. let long = length-append xs ys in let some = first.given in omega arith) second.given;
+  stays = record {
+    guards = λ t guards. second.stays.guards t (first.stays.guards t guards);
+    faithful = λ t faithful. second.stays.faithful t (first.stays.faithful t faithful);
+    traced = λ t trusts. second.stays.traced t (trusts_then t trusts);
+  };
+  kept = λ t guards. kept_after a.files b.files c.files (first.kept t guards) (second.kept t (first.stays.guards t guards));
   canon = λ t. brings_then D a.files b.files c.files a.session.set.parts b.session.set.parts c.session.set.parts (first.canon t) (second.canon t);
-  cause = cause_then a.faults b.faults c.faults r first.cause.fine second.cause;
-  whole = λ t i seen. second.whole t (with_points i xs) (first.seen t i seen);
-  faithful = λ t faithful. second.faithful t (first.faithful t faithful);
-  traced = λ t trusts. second.traced t (trusts_then t trusts);
-  evident = on_evident_less (told × Trusts D b.files b.session) (told × Trusts D a.files a.session) c.files r (λ (t, trusts). (t, trusts_then t trusts))
-      second.evident;
+  faults = record {
+    cause = cause_after a.faults b.faults c.faults r first.faults.cause.fine second.faults.cause;
+    whole = λ t i seen. second.faults.whole t (with_points i xs) (first.seen t i seen);
+    evident = on_evident_less (told × Trusts D b.files b.session) (told × Trusts D a.files a.session) c.files r (λ (t, trusts). (t, trusts_then t trusts))
+        second.faults.evident;
+  };
 }
   where
     trusts_then : told → Trusts D a.files a.session → Trusts D b.files b.session
-    trusts_then t trusts = record { guards = first.guards t trusts.guards; faithful = first.faithful t trusts.faithful; traced = first.traced t trusts }
+    trusts_then t trusts =
+        record { guards = first.stays.guards t trusts.guards; faithful = first.stays.faithful t trusts.faithful; traced = first.stays.traced t trusts }
 
 -- after a fault it says the same of all that were to come
 pub adds_stopped : {T U : Type 0} (D : ℕ) (told : Type 0) (xs ys : List (List ℤ)) (a b : SessionMoment) (fault : PageFault) (r : Result U PageFault)
@@ -114,14 +109,14 @@ pub adds_stopped : {T U : Type 0} (D : ℕ) (told : Type 0) (xs ys : List (List 
 adds_stopped {T = T} {U = U} D told xs ys a b fault r is adds = subst (Adds D told ys a b) (sym is) (record {
   seen = λ t i seen. tt;
   given = tt;
-  guards = adds.guards;
+  stays = adds.stays;
   kept = adds.kept;
   canon = adds.canon;
-  cause = fault_to a.faults b.faults fault adds.cause;
-  whole = λ t i seen. to_other fault (adds.whole t i seen);
-  faithful = adds.faithful;
-  traced = adds.traced;
-  evident = adds.evident;
+  faults = record {
+    cause = fault_to a.faults b.faults fault adds.faults.cause;
+    whole = λ t i seen. to_other fault (adds.faults.whole t i seen);
+    evident = adds.faults.evident;
+  };
 })
   where
     to_other : (f : PageFault) → NotDamaged {T = T} (Err f) → NotDamaged {T = U} (Err f)
@@ -173,16 +168,20 @@ pub adds_one : (D : ℕ) (told : Type 0) (point : List ℤ) (old new : SessionMo
 adds_one D told point old new r put = record {
   seen = λ t i seen. put_ok (Sees D new.files new.session.set (with_point i point)) r (put.seen t i seen);
   given = put_ok (new.session.set.given ≡ old.session.set.given + 1) r put.given;
-  guards = λ t guards. guards_after D told old.files new.files old.session new.session t put.commit put.refused put.keeps put.follows put.grows guards;
+  stays = record {
+    guards = λ t guards. guards_after D told old.files new.files old.session new.session t put.commit put.refused put.keeps put.follows put.grows guards;
+    faithful = put.faithful;
+    traced = λ t trusts. traced_by D told old.files new.files old.session new.session.set t put.keeps put.follows (put.second t) trusts;
+  };
   kept = λ t guards. kept_after_calls D told old.files new.files old.session.set new.session.set.names t put.keeps guards.set;
   canon = λ t. brings_written D told old.files new.files old.session.set.names new.session.set.names old.session.set.parts new.session.set.parts t put.keeps
       put.follows (put.second t);
-  cause = put_cause old.faults new.faults r put.cause;
-  whole = λ t i seen. put_shows (λ _. ⊥) r (put.whole t i seen);
-  faithful = put.faithful;
-  traced = λ t trusts. traced_by D told old.files new.files old.session new.session.set t put.keeps put.follows (put.second t) trusts;
-  evident = traced_shows D told old.files new.files old.session new.session.set.names (add_result r) put.keeps put.named
-      (put_shows (IsEvidentIn D old.session.set.parts (told × IsFaithful D old.files old.session.set) new.files) r put.evident);
+  faults = record {
+    cause = put_cause old.faults new.faults r put.cause;
+    whole = λ t i seen. put_shows (λ _. ⊥) r (put.whole t i seen);
+    evident = traced_shows D told old.files new.files old.session new.session.set.names (add_result r) put.keeps put.named
+        (put_shows (IsEvidentIn D old.session.set.parts (told × IsFaithful D old.files old.session.set) new.files) r put.evident);
+  };
 }
 
 one_in_order : {K : Type 0} (R : K → K → Ordering) (o : IsTotalOrder R) (x : K) → in_order R (x ∷ []) ≡ x ∷ []
@@ -207,7 +206,7 @@ put_seen D told point points f g s t r is seen = subst
 pub put_given : (P : Type 0) (point : List ℤ) (points : List (List ℤ)) (before now : ℕ) (r : Result ℕ AddFault) → points ≡ point ∷ []
     → OnOk r (P × (now ≡ before + length points)) → OnOk r (now ≡ before + 1)
 put_given P point points before now r is given =
-    on_ok_map r (λ (both : P × (now ≡ before + length points)). both.1 ∙ ap (λ (ps : List (List ℤ)). before + length ps) is) given
+    on_ok_weaker r (λ (both : P × (now ≡ before + length points)). both.1 ∙ ap (λ (ps : List (List ℤ)). before + length ps) is) given
 
 -- ---- of the session that the code opened
 

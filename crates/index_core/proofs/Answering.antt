@@ -95,11 +95,7 @@ applies_with D told outcome old new r calm does begins cause whole evident = rec
   };
   commits = λ e. absurd cc;
   canon = λ is_told i seen guards. calm.brings is_told;
-  faults = record {
-    cause = cause;
-    whole = λ is_told i seen guards. whole is_told i seen;
-    evident = evident;
-  };
+  faults = record { cause = cause; whole = λ is_told i seen guards. whole is_told i seen; evident = evident };
 }
 
 pub applies : (D : ℕ) (told : Type 0) (outcome : Index → Outcome) (old new : StepMoment) (r : Result Applied PageFault) → IsCalm D told old new

@@ -68,7 +68,7 @@ does_full D files s i points text seen full =
 
 -- ---- documents are deleted
 
-deleted_none : (number : ℕ) (docs : List Document) → is_live number docs ≡ false → docs_without number docs ≡ docs
+pub deleted_none : (number : ℕ) (docs : List Document) → is_live number docs ≡ false → docs_without number docs ≡ docs
 deleted_none number [] none = refl
 deleted_none number (d ∷ ds) none = by (nat_eq d.number number) (deleted_none number ds) none
   where

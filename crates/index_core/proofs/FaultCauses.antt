@@ -52,10 +52,6 @@ fault_cause before now fault r same cause = subst (HasPageCause before now) (sym
 pub fault_to : {T U : Type 0} (before now : ℕ) (fault : PageFault) → HasPageCause {T = T} before now (Err fault) → HasPageCause {T = U} before now (Err fault)
 fault_to before now fault cause = fault_cause before now fault (Err fault) refl cause
 
--- a call after one that is done
-pub cause_then : {T : Type 0} (before middle now : ℕ) (r : Result T PageFault) → middle ≡ before → HasPageCause middle now r → HasPageCause before now r
-cause_then before middle now r same cause = subst (λ n. HasPageCause n now r) same cause
-
 -- ---- no damage
 
 pub whole_add : (r : Result ℕ AddFault) → OnAddDamage r (λ _. ⊥) → NotDamaged (add_answer r)

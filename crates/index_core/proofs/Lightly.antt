@@ -15,7 +15,7 @@ use Rattle.commit_list.specs.Commits.{CommitData}
 use Rattle.segment_file.specs.Heads.{Head}
 use Rattle.index_model.specs.declared.session.Applied.{Applied}
 use Rattle.index_model.specs.declared.session.Applied.TheVariants as applied
-use Rattle.segment_view.specs.LiveSegments.{LiveSegment, cleared_parts, heads_of}
+use Rattle.segment_view.specs.LiveSegments.{LiveSegment, heads_of}
 use Rattle.segment_set.specs.declared.faults.SnapFault.{SnapFault}
 use Rattle.segment_set.specs.Sets.{BegunMerge, NamedView, SetData, pins_of, set_but, sizes_of}
 use Rattle.segment_set.specs.Kept.{IsCommitOf}
@@ -23,6 +23,7 @@ use Rattle.index_core.specs.Sessions.{IsStill, SessionData}
 use Rattle.index_core.specs.Effects.{OnRefused}
 use Rattle.index_core.specs.Light.{CommitsFewOfLevels, HasFewOfLevels, LooksAt, StaysLight}
 use Rattle.index_core.proofs.Committing.{some_same}
+use Rattle.segment_view.proofs.Living.{heads_cleared}
 
 -- ---- the same segments
 
@@ -62,10 +63,6 @@ light_added told points old new s u t same files snapshots parts =
     })
 
 -- ---- a document goes
-
-heads_cleared : (number : ℕ) (parts : List LiveSegment) → heads_of (cleared_parts number parts) ≡ heads_of parts
-heads_cleared number [] = refl
-heads_cleared number (p ∷ ps) = ap (λ (hs : List Head). p.head ∷ hs) (heads_cleared number ps)
 
 fewer_but : (number : ℕ) (xs : List Item) → length (entries_but number xs) ≤ length xs
 fewer_but number xs = omega (arith, length-filter (λ (x : Item). not (nat_eq x.doc number)) xs, count_by-le-length (λ (x : Item). not (nat_eq x.doc number)) xs)

@@ -16,6 +16,7 @@ use Rattle.segment_set.specs.Faults.{OnAddDamage, OnBeginDamage}
 use Rattle.segment_set.specs.Sets.{SetData}
 use Rattle.index_core.specs.Replies.{add_answer, begin_answer}
 use Rattle.index_core.specs.Damages.{ShowsAnew, ShowsLeaf, ShowsMerge}
+use Rattle.segment_set.proofs.Doubted.{whole_shows}
 
 -- ---- a damage, if there is one
 
@@ -23,10 +24,6 @@ pub fault_each : (P Q : Damage → Type 0) → ((d : Damage) → P d → Q d) �
 fault_each P Q h page.Failed p = tt
 fault_each P Q h (page.Damaged d) p = h d p
 fault_each P Q h page.Memory p = tt
-
-pub damage_none : {T : Type 0} (P : Damage → Type 0) (r : Result T PageFault) → NotDamaged r → OnDamage r P
-damage_none P (Ok x) none = tt
-damage_none P (Err fault) none = fault_each (λ _. ⊥) P (λ d bad. absurd bad) fault none
 
 -- a fault that is handed on
 pub damage_to : {T : Type 0} (P : Damage → Type 0) (r : Result T PageFault) (fault : PageFault) → r ≡ Err fault → FaultShows P fault → OnDamage r P
@@ -50,7 +47,7 @@ begin_shows P (Err begin.Memory) p = tt
 
 pub leaf_none : {T : Type 0} (D : ℕ) (told : Type 0) (files : Files) (s : SetData) (parts : List LiveSegment) (r : Result T PageFault) → NotDamaged r
     → ShowsLeaf D told files s parts r
-leaf_none D told files s parts r none = record { shown = damage_none _ r none; damage = λ is_told agrees. damage_none _ r none }
+leaf_none D told files s parts r none = record { shown = whole_shows _ r none; damage = λ is_told agrees. whole_shows _ r none }
 
 pub leaf_to : {T U : Type 0} (D : ℕ) (told : Type 0) (files : Files) (s : SetData) (parts : List LiveSegment) (r : Result U PageFault) (fault : PageFault)
     → r ≡ Err fault
@@ -65,9 +62,9 @@ leaf_to D told files s parts r fault is shows = record {
 pub merge_none : {T : Type 0} {t : SetData} (D : ℕ) (told : Type 0) (old new : Files) (s : SetData) (r : Result T PageFault) → NotDamaged r
     → ShowsMerge D told old new s t r
 merge_none D told old new s r none = record {
-  shown = damage_none _ r none;
-  damage = λ is_told agrees. damage_none _ r none;
-  doubled = λ is_told agrees c read. damage_none _ r none;
+  shown = whole_shows _ r none;
+  damage = λ is_told agrees. whole_shows _ r none;
+  doubled = λ is_told agrees c read. whole_shows _ r none;
 }
 
 pub merge_to : {T U : Type 0} {t : SetData} (D : ℕ) (told : Type 0) (old new : Files) (s : SetData) (r : Result U PageFault) (fault : PageFault) → r ≡ Err fault
@@ -84,9 +81,9 @@ pub anew_none : {T : Type 0} {t : SetData} (D : ℕ) (told : Type 0) (old new : 
     → NotDamaged r
     → ShowsAnew D told old new s t commit r
 anew_none D told old new s commit r none = record {
-  shown = damage_none _ r none;
-  damage = λ is_told agrees. damage_none _ r none;
-  doubled = λ is_told agrees contents read. damage_none _ r none;
+  shown = whole_shows _ r none;
+  damage = λ is_told agrees. whole_shows _ r none;
+  doubled = λ is_told agrees contents read. whole_shows _ r none;
 }
 
 -- by the commit's fault

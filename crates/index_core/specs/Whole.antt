@@ -5,8 +5,6 @@ use Rattle.outer_io.specs.declared.file_name.FileName.TheVariants.{Commit, Segme
 use Rattle.outer_io.specs.Files.{Files, bytes_of}
 use Rattle.page_cache.specs.declared.faults.PageFault.{PageFault}
 use Rattle.page_cache.specs.declared.faults.PageFault.TheVariants as page
-use Rattle.page_cache.specs.Causes.{HasPageCause}
-use Rattle.page_cache.specs.Evidence.{NotDamaged, OnDamage}
 use Rattle.commit_list.specs.declared.listed.Listed.{Listed}
 use Rattle.commit_list.specs.Commits.{CommitData}
 use Rattle.commit_list.specs.CommitFiles.{IsCommitFile}
@@ -17,12 +15,11 @@ use Rattle.stored_index.specs.Kept.{ListsFile, SameKept}
 use Rattle.stored_index.specs.Stored.{HasHead, IsStored}
 use Rattle.segment_set.specs.Kept.{HasCanonical}
 use Rattle.segment_set.specs.Seen.{Sees}
-use Rattle.index_opening.specs.Evidence.{IsEvident}
-use Rattle.segment_set.specs.Faithful.{IsFaithful}
 use Rattle.segment_set.specs.declared.faults.AddFault.{AddFault}
 use Rattle.segment_set.specs.declared.faults.AddFault.TheVariants as add
-use Rattle.index_core.specs.Sessions.{AreTraced, Guards, SessionData, Trusts}
+use Rattle.index_core.specs.Sessions.{Guards, SessionData, StaysTrue}
 use Rattle.index_core.specs.Effects.{BringsCanonical}
+use Rattle.index_core.specs.Calls.{ShowsFault}
 
 -- the index with a document of one point more
 abbrev pub with_point : Index → List ℤ → Index
@@ -51,14 +48,10 @@ pub record Adds {T : Type 0} (D : ℕ) (told : Type 0) (points : List (List ℤ)
   pub seen : told → (i : Index) → Sees D old.files old.session.set i
       → OnOk result (Sees D new.files new.session.set (with_points i points))
   pub given : OnOk result (new.session.set.given ≡ old.session.set.given + length points)
-  pub guards : told → Guards D old.files old.session → Guards D new.files new.session
+  pub stays : StaysTrue D told old.files new.files old.session new.session
   pub kept : told → Guards D old.files old.session → SameKept old.files new.files
   pub canon : told → BringsCanonical D old.files new.files old.session.set.parts new.session.set.parts
-  pub cause : HasPageCause old.faults new.faults result
-  pub whole : told → (i : Index) → Sees D old.files old.session.set i → NotDamaged result
-  pub faithful : told → IsFaithful D old.files old.session.set → IsFaithful D new.files new.session.set
-  pub traced : told → Trusts D old.files old.session → AreTraced D new.files new.session.set.parts
-  pub evident : OnDamage result (IsEvident (told × Trusts D old.files old.session) new.files)
+  pub faults : ShowsFault D told old.files new.files old.session old.faults new.faults result
 
 -- what becomes of a document that is added where all points fit, so that `Full` is never answered
 abbrev pub add_result : Result ℕ AddFault → Result (Unit {0}) PageFault

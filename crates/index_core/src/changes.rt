@@ -17,10 +17,10 @@ use crate::replies::{add_answer, snap_answer, take_back};
 use crate::session::Session;
 use bkd_build::Gate;
 use cell_relate::BoxShape;
-use index_model::{Applied, MAX_POINTS};
+use index_model::Applied;
 use outer_io::Folder;
 use page_cache::PageFault;
-use point_codec::{Name, Point, Points, View};
+use point_codec::{MOST_POINTS, Name, Point, Points, View};
 use script_lang::{Refusal, put_deleted, put_doc, put_ok};
 use std::alloc::Global;
 use std::marker::Sync;
@@ -77,7 +77,7 @@ impl<const D: usize> Session<D> {
         ensures named { All (IsNamed self.now.set.names) self.now.set.parts }
     {
         let _leaf = self.set.leaf();
-        self.set.given() + points.as_slice().len() as u32 > MAX_POINTS
+        self.set.given() + points.as_slice().len() as u32 > MOST_POINTS
     }
 
     /// Deletes a document. The reply that it was live is written first, since it can't be brought back.

@@ -6,4 +6,4 @@ mod held;
 mod queries;
 mod session;
 
-pub use session::{Applied, ListSession, MAX_POINTS};
+pub use session::{Applied, ListSession};

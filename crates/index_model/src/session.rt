@@ -10,7 +10,7 @@ ghost use Rattle.index_model.specs.Step.{Done, step_on, add_outcome, snapshot_ou
 use crate::held::{HeldSnapshot, delete, delete_in, is_live, release, snapshot_of};
 use cell_relate::BoxShape;
 use documents::{HeldDocument, Memory, scan_hits};
-use point_codec::{Name, Point, Points};
+use point_codec::{MOST_POINTS, Name, Point, Points};
 use script_lang::{Command, Refusal, put_deleted, put_doc, put_ok};
 use std::alloc::Global;
 use std::marker::Model;
@@ -21,9 +21,6 @@ pub enum Applied {
     Done,
     Refused(Refusal),
 }
-
-/// The greatest number of points that are ever given, and so of documents.
-pub const MAX_POINTS: u32 = 1 << 24;
 
 /// An index of `D` dimensions, kept as a list of documents in memory. A query scans the list.
 #[derive(Drop)]
@@ -129,7 +126,7 @@ impl<const D: usize> ListSession<D> {
         ensures { Does (add_outcome points.now self.old) self.old self.new out.old.items out.new.items result }
     {
         let count = points.as_slice().len() as u32;
-        if self.given + count > MAX_POINTS {
+        if self.given + count > MOST_POINTS {
             return Ok(Applied::Refused(Refusal::Full));
         }
         put_doc(out, self.next)?;

@@ -9,6 +9,7 @@ ghost use Rattle.live_bits.specs.LiveBody.{head, live_set, IsLiveBody, AreCounte
 use crate::bits::{count_set, is_filled};
 use crate::fault::Memory;
 use byte_cursor::{Bytes, Cursor, put_slice, put_u32, put_u64};
+use point_codec::MOST_POINTS;
 use std::alloc::Global;
 
 /// What a body begins with.
@@ -16,9 +17,6 @@ const MAGIC: &[u8; 8] = b"BKDPLIV1";
 
 /// The bytes of a body before its bits.
 const HEAD_LEN: usize = 36;
-
-/// The greatest number of documents.
-pub(crate) const LIMIT: u32 = 1 << 24;
 
 /// The numbers of a body that say what its bits mean.
 #[derive(Clone, Copy)]
@@ -36,10 +34,10 @@ pub(crate) fn parse(segment: u64, generation: u64, body: &[u8]) -> Option<(Sizes
     ensures none { IfNone result (HasNoSet segment generation body.now) }
 {
     let (sizes, bits) = fields_of(segment, generation, body)?;
-    if sizes.span > LIMIT {
+    if sizes.span > MOST_POINTS {
         return None;
     }
-    if sizes.base > LIMIT - sizes.span {
+    if sizes.base > MOST_POINTS - sizes.span {
         return None;
     }
     if !is_filled(bits, sizes.span) {

@@ -4,7 +4,7 @@ ghost use Rattle.std.specs.Prelude.{◌≡◌, ◌≢◌, ◌≤◌, ◌++◌, �
 ghost use Rattle.live_bits.specs.LiveSet.{LiveSet};
 ghost use Rattle.live_bits.specs.LiveBody.{IsLiveBody, SaysLength};
 
-use crate::body::{LIMIT, fields_of};
+use crate::body::fields_of;
 
 /// How many bytes the body has that begins with these bytes, as its sizes say. None where no body begins so. The
 /// bytes are at least the 36 before the bits.
@@ -19,10 +19,10 @@ pub fn body_len(segment: u64, generation: u64, front: &[u8]) -> Option<u32>
         → front.now ++ x ≢ body ++ y) }
 {
     let (sizes, _) = fields_of(segment, generation, front)?;
-    if sizes.span > LIMIT {
+    if sizes.span > MOST_POINTS {
         return None;
     }
-    if sizes.base > LIMIT - sizes.span {
+    if sizes.base > MOST_POINTS - sizes.span {
         return None;
     }
     Some(36 + (sizes.span + 7) / 8)

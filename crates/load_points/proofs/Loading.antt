@@ -30,7 +30,7 @@ use Rattle.index_core.specs.Light.{KeepsLevels}
 use Rattle.index_core.specs.Steps.{FaultKeeps, KeepsUndone}
 use Rattle.index_core.specs.Whole.{Adds, DoesWhole, HasNewCanonical, IsNewSegment, SessionMoment, with_point, with_points}
 use Rattle.index_core.proofs.Answering.{no_cause}
-use Rattle.index_core.proofs.FaultCauses.{cause_then, fault_to, memory_cause}
+use Rattle.index_core.proofs.FaultCauses.{fault_to, memory_cause}
 use Rattle.load_points.specs.Loaded.{full_text, loaded_text, columns_answer, opened_state, refusal}
 use Rattle.load_points.specs.Loads.{IsLoading, Loads, LoadMoment, StartsFrom, StartsNone}
 use Rattle.load_points.proofs.Counted.{added_is, done_answer, full_is, matched_is, rest_done}
@@ -39,6 +39,7 @@ use Rattle.index_core.proofs.Brought.{commit_after, commit_itself}
 use Rattle.index_core.proofs.Listed.{attached_listed, new_canonical}
 use Rattle.index_core.proofs.Undone.{begins_none, fault_kept, levels_after, undone_after}
 use Rattle.index_core.proofs.Wholes.{CommitSays, does_fault}
+use Rattle.segment_set.proofs.Saving.{cause_after}
 
 abbrev pub Starting : Type 1
 Starting = State → Type 0
@@ -146,7 +147,7 @@ loads_after told trusted trusts From Starts answer old middle new x r same text 
   levels = λ t state h. subst (λ (f : Files). OnOk r (KeepsLevels f new.files)) (same t) (loads.levels t state (starts t state h));
   undone = λ t h. subst (λ (f : Files). KeepsUndone f new.files r) (same t) (loads.undone t (more t h));
   lasting = λ t h. subst (λ (f : Files). KeepsCommit f new.files) (same t) (loads.lasting t (more t h));
-  cause = cause_then old.faults middle.faults new.faults r cause.fine loads.cause;
+  cause = cause_after old.faults middle.faults new.faults r cause.fine loads.cause;
   evident = on_evident_less (told × trusts) (told × trusted) new.files r (λ h. (h.0, more h.0 h.1)) loads.evident;
 }
 
@@ -226,7 +227,7 @@ fitting D files s stored points l fits =
 adds_trusts : {T : Type 0} (D : ℕ) (told : Type 0) (points : List (List ℤ)) (a b : SessionMoment) (r : Result T PageFault) → Adds D told points a b r → told
     → Trusts D a.files a.session → Trusts D b.files b.session
 adds_trusts D told points a b r adds t trusts =
-    record { guards = adds.guards t trusts.guards; faithful = adds.faithful t trusts.faithful; traced = adds.traced t trusts }
+    record { guards = adds.stays.guards t trusts.guards; faithful = adds.stays.faithful t trusts.faithful; traced = adds.stays.traced t trusts }
 
 -- a fault while they are added: what was stored is
 pub adding_stopped : {T : Type 0} (D : ℕ) (told : Type 0) (answer : State → Answer) (points : List (List ℤ)) (a b : SessionMoment) (before after : List ℕ)
@@ -237,7 +238,7 @@ pub adding_stopped : {T : Type 0} (D : ℕ) (told : Type 0) (answer : State → 
 adding_stopped {T = T} D told answer points a b before after fault r is adds =
     loads_fault told (Trusts D a.files a.session) (IsLoading D a.files a.session) answer _ _ fault r is
     (λ t stored l. inl (stored_still a.files b.files stored (adds.kept t l.guards) l.keeps))
-    (λ t stored l. adds.whole t l.index l.seen) adds.cause adds.evident (λ t h. fault_kept a.files b.files (adds.kept t h.guards) fault)
+    (λ t stored l. adds.faults.whole t l.index l.seen) adds.faults.cause adds.faults.evident (λ t h. fault_kept a.files b.files (adds.kept t h.guards) fault)
     (λ t h. inl (adds.kept t h.guards))
 
 -- a fault of the commit after them: what was stored is, or all of it
@@ -252,12 +253,12 @@ commit_stopped {T = T} D told points a b c x before after fault r is fits adds c
     (λ same. inl (stored_still b.files c.files stored same (stored_still a.files b.files stored (adds.kept t l.guards) l.keeps)))
     (λ there. inr (subst (IsStored c.files) (sym (ap (λ (n : Answer). n.state) (fitting D a.files a.session stored points l fits)))
     (subst (λ (i : Index). IsStored c.files (Some i)) (rest_done l.index points (loading_rests D a.files a.session stored l)) there)))
-    (commits.durable.stored t (with_points l.index points) (adds.seen t l.index l.seen) (adds.guards t l.guards)))
+    (commits.durable.stored t (with_points l.index points) (adds.seen t l.index l.seen) (adds.stays.guards t l.guards)))
     (λ t stored l. commits.faults.whole t (with_points l.index points) (adds.seen t l.index l.seen))
-    (cause_then a.faults b.faults c.faults (Err fault) adds.cause.fine commits.faults.cause)
+    (cause_after a.faults b.faults c.faults (Err fault) adds.faults.cause.fine commits.faults.cause)
     (on_evident_less {X = T} (told × Trusts D b.files b.session) (told × Trusts D a.files a.session) c.files (Err fault)
     (λ h. (h.0, adds_trusts D told points a b (Ok x) adds h.0 h.1)) commits.faults.evident)
-    (λ t h. undone_after {T = T} a.files b.files c.files (Err fault) (adds.kept t h.guards) (commits.durable.undone t (adds.guards t h.guards)))
+    (λ t h. undone_after {T = T} a.files b.files c.files (Err fault) (adds.kept t h.guards) (commits.durable.undone t (adds.stays.guards t h.guards)))
     (λ t h. commit_after a.files b.files c.files (adds.kept t h.guards) (commits.durable.lasting t (adds_trusts D told points a b (Ok x) adds t h)))
 
 -- all came, and are stored
@@ -273,12 +274,12 @@ all_loaded D told points a b c x y next before after fits first grew adds commit
         grew ∙ ap (λ n. before ++ loaded_text (length points) (n + length points)) (first ∙ sym l.seen.next),
         refl,
         subst (λ (i : Index). IsStored c.files (Some i)) (rest_done l.index points (loading_rests D a.files a.session stored l))
-            (commits.durable.stored t (with_points l.index points) at (adds.guards t l.guards)).0,
+            (commits.durable.stored t (with_points l.index points) at (adds.stays.guards t l.guards)).0,
       );
   unchanged = λ t e. absurd cc;
   canon = λ t stored l.
       let at = adds.seen t l.index l.seen in
-      let guards = adds.guards t l.guards in
+      let guards = adds.stays.guards t l.guards in
       new_canonical D a.files c.files a.session.set c.session (with_points l.index points) l.listed
       (brings_then D a.files b.files c.files a.session.set.parts b.session.set.parts c.session.set.parts (adds.canon t) (commits.canon t))
       (commits.seen t (with_points l.index points) at) (commits.stays.guards t guards)
@@ -286,10 +287,14 @@ all_loaded D told points a b c x y next before after fits first grew adds commit
   levels = λ t stored l.
       let begun = begins_none D b.files b.session.set (with_points l.index points) (adds.seen t l.index l.seen)
       (points_begun l.index points ∙ ap (λ (i : Index). i.begun) (sym (loading_rests D a.files a.session stored l))) in
-      levels_after a.files b.files c.files (adds.kept t l.guards) (commits.done.few t (adds.guards t l.guards) begun);
+      levels_after a.files b.files c.files (adds.kept t l.guards) (commits.done.few t (adds.stays.guards t l.guards) begun);
   undone = λ t h. tt;
   lasting = λ t h. commit_after a.files b.files c.files (adds.kept t h.guards) (commits.durable.lasting t (adds_trusts D told points a b (Ok x) adds t h));
-  cause = let one = adds.cause.fine in let two = commits.faults.cause.fine in let late = adds.cause.later in let more = commits.faults.cause.later in
+  cause =
+      let one = adds.faults.cause.fine in
+      let two = commits.faults.cause.fine in
+      let late = adds.faults.cause.later in
+      let more = commits.faults.cause.later in
       record { later = omega arith; fine = two ∙ one; failed = λ e. absurd cc };
   evident = tt;
 }

@@ -26,11 +26,10 @@ use byte_cursor::Bytes;
 use commit_list::{Commit, read_commit};
 use csv_load::{CsvFault, read_points};
 use index_core::{Session, Work};
-use index_model::MAX_POINTS;
 use leaf_codec::greatest_leaf;
 use outer_io::Folder;
 use page_cache::PageFault;
-use point_codec::Point;
+use point_codec::{MOST_POINTS, Point};
 use std::alloc::AllocError;
 use std::marker::Sync;
 use std::thread::Threads;
@@ -251,7 +250,7 @@ fn fitting(given: u32, count: usize) -> Option<u32>
     requires { given ≤ 2 ^ 24 }
     ensures { MatchOption result (2 ^ 24 < given + count) (λ n. (n ≡ count) × (given + count ≤ 2 ^ 24)) }
 {
-    if count > (MAX_POINTS - given) as usize {
+    if count > (MOST_POINTS - given) as usize {
         return None;
     }
     Some(count as u32)

@@ -19,3 +19,4 @@ pub mod Parts
 pub mod LeftOut
 pub mod Waits
 pub mod Unread
+pub mod Narrower

@@ -3,7 +3,7 @@
 ghost use Rattle.std.specs.Prelude.{◌≡◌, ◌≤◌, ℕ, if◌then◌else◌};
 ghost use Rattle.point_codec.specs.Points.{Region};
 ghost use Rattle.inner_pack.specs.Places.{Spot};
-ghost use Rattle.inner_pack.specs.Trees.{IndexTree};
+ghost use Rattle.inner_pack.specs.Trees.{IndexTree, HasCells};
 ghost use Rattle.inner_pack.specs.Bodies.{HasTree};
 ghost use Rattle.inner_pack.specs.Nodes.{IsAt};
 ghost use Rattle.nearest_query.specs.Segments.{is_within, near_leaves};
@@ -13,7 +13,7 @@ use point_codec::Point;
 use segment_file::SegmentHead;
 
 /// How many leaves of the segment have a cell whose least squared distance from the point is at most the bound; all
-/// where there is none. Nothing is read, and no memory is taken.
+/// where there is none. Nothing is read, no memory is taken, and below a node that is farther nothing is looked at.
 pub fn survey_near<const D: usize>(head: &SegmentHead<D>, at: &Point<D>, bound: Option<u128>) -> u64
     ensures { (root : Region) (t : IndexTree) → HasTree D head.now.index root t
         → result ≡ near_leaves at.now.c bound t }
@@ -24,15 +24,16 @@ pub fn survey_near<const D: usize>(head: &SegmentHead<D>, at: &Point<D>, bound: 
 /// The same of the leaves at or below a node.
 fn near_below<const D: usize>(node: &NodeAt<'_, D>, at: &Point<D>, bound: Option<u128>) -> u64
     ensures value { (first : ℕ) (s : Spot) (path : Region) (t : IndexTree) → IsAt node.now first s path t
-        → result ≡ near_leaves at.now.c bound t }
+        → HasCells D path t → result ≡ near_leaves at.now.c bound t }
     ensures fits { result ≤ node.now.leaves }
 {
-    if node.leaf_count() == 1 {
-        return one_within(node.cell().least_dist2(at), bound);
+    let one = one_within(node.cell().least_dist2(at), bound);
+    if one == 0 {
+        return 0;
     }
     match node.children() {
         Some((left, right)) => near_below(&left, at, bound) + near_below(&right, at, bound),
-        None => 0,
+        None => one,
     }
 }
 

@@ -13,3 +13,6 @@ pub use coordinates::{Point, Points};
 pub use entries::{Entry, Near};
 pub use keys::{from_sortable, key_order, sortable};
 pub use names::{Name, View};
+
+/// The greatest number of points that are ever given, and so of documents and of entries.
+pub const MOST_POINTS: u32 = 1 << 24;

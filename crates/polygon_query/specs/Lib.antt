@@ -1,3 +1,4 @@
 pub mod GeoJson
 pub mod Refusals
 pub mod Shape
+pub mod PolygonLaws

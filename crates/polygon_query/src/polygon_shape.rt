@@ -5,6 +5,7 @@ ghost use Rattle.point_codec.specs.Seen.{region_of};
 ghost use Rattle.ring_parity.specs.Rings.{all_edges};
 ghost use Rattle.cell_relate.specs.Relations.{RelatesTo};
 ghost use Rattle.polygon_query.specs.Shape.{has, crosses};
+ghost use Rattle.polygon_query.specs.PolygonLaws.{polygon_keeps};
 
 use cell_relate::{Relation, Shape};
 use edge_tree::Locator;
@@ -65,6 +66,8 @@ impl<const D: usize> Shape<D> for PolygonShape {
     ghost has = { λ s p. has D s.edges p };
 
     ghost crosses = { λ s cell. crosses D s.edges cell };
+
+    ghost within_uncrossed = { λ s. polygon_keeps D s.edges };
 
     ghost tests = { λ s. s.tests };
 

@@ -6,3 +6,4 @@ pub mod Parity
 pub mod OneAnswer
 pub mod Steps
 pub mod Rays
+pub mod Narrower

@@ -22,13 +22,13 @@ InRegion cell p = InCell (x_of cell.lo) (y_of cell.lo) (x_of cell.hi) (y_of cell
 abbrev TellsAt : EdgeEnds → Region → Bool → Type 0
 TellsAt e cell bit = Tells (x_of e.0) (y_of e.0) (x_of e.1) (y_of e.1) (x_of cell.lo) (y_of cell.lo) (x_of cell.hi) (y_of cell.hi) bit
 
-x_least : (p q : List ℤ) → all_le p q ≡ true → x_of p ≤ℤ x_of q
+pub x_least : (p q : List ℤ) → all_le p q ≡ true → x_of p ≤ℤ x_of q
 x_least (x ∷ p) (y ∷ q) h = let t : int_le x y ≡ true = (and_parts (int_le x y) (all_le p q) h).0 in omega (arith, ints)
 x_least [] [] h = omega (arith, ints)
 x_least (x ∷ p) [] h = cc
 x_least [] (y ∷ q) h = cc
 
-y_least : (p q : List ℤ) → all_le p q ≡ true → y_of p ≤ℤ y_of q
+pub y_least : (p q : List ℤ) → all_le p q ≡ true → y_of p ≤ℤ y_of q
 y_least (x ∷ p) (y ∷ q) h = x_least p q (and_parts (int_le x y) (all_le p q) h).1
 y_least [] [] h = omega (arith, ints)
 y_least (x ∷ p) [] h = cc
@@ -59,7 +59,7 @@ beyond a b lo hi h =
     inr (omega (arith, ints), omega (arith, ints)))
     (or_cases (int_lt a lo && int_lt b lo) (int_lt hi a && int_lt hi b) h)
 
-side_is : (e : EdgeEnds) (p : List ℤ) → side e p ≡ turn (x_of e.0) (y_of e.0) (x_of e.1) (y_of e.1) (x_of p) (y_of p)
+pub side_is : (e : EdgeEnds) (p : List ℤ) → side e p ≡ turn (x_of e.0) (y_of e.0) (x_of e.1) (y_of e.1) (x_of p) (y_of p)
 unfolding side turn
 side_is e p = refl
 

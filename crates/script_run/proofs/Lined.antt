@@ -168,10 +168,6 @@ module _ {told : Type 0} (lang : Language) (from : ScriptPlace) (files : Files) 
 
 -- ---- causes
 
--- the folder wasn't asked since
-pub page_done : {S T : Type 0} (f0 f1 : ℕ) (x : S) (y : T) → HasPageCause f0 f1 (Ok x) → HasPageCause f0 f1 (Ok y)
-page_done f0 f1 x y h = record { later = h.later; fine = h.fine; failed = λ e. absurd cc }
-
 pub page_then : {S T : Type 0} (f0 f1 : ℕ) (x : S) (result : Result T PageFault) → HasPageCause f0 f1 (Ok x) → OnErr result (IsErrOf result page.Memory)
     → HasPageCause f0 f1 result
 page_then f0 f1 x (Ok y) h only = record { later = h.later; fine = h.fine; failed = λ e. absurd cc }

@@ -86,17 +86,19 @@ fn hits_and_costs(rt: HostRuntime) -> Result<(), Fail> {
             (tests, compares),
             &ends,
         );
-        check_survey(&rt, &head, &mut shape, ends, costs);
+        check_survey(&rt, &head, &mut shape, ends, compares, costs);
     }
     Ok(())
 }
 
-/// A survey tells so many tested entries and touched leaves of three, and tests no point.
+/// A survey tells so many tested entries and touched leaves of three, tests no point, and asks for as many cells as the
+/// walk did before it.
 fn check_survey(
     rt: &impl Abort,
     head: &SegmentHead<1>,
     shape: &mut BoxShape<1>,
     ends: (i32, i32),
+    walked: u64,
     costs: (u64, u64),
 ) {
     let before = shape.tests();
@@ -108,6 +110,7 @@ fn check_survey(
     };
     same_at(rt, tally, expected, &ends);
     same_at(rt, shape.tests(), before, &ends);
+    same_at(rt, shape.compares(), walked.saturating_mul(2), &ends);
 }
 
 /// The numbers that a walk with the box finds, over a cache that keeps no page.

@@ -31,3 +31,10 @@ appended {D} live old new items none is = is ∙ ap (λ (l : List (Entry D)). it
 pub only_live : (live : LiveSet) (items xs : List Item) → xs ≡ filter (λ x. is_live live x.doc) items → All (λ x. is_live live x.doc ≡ true) xs
 only_live live items xs is =
     subst (All (λ x. is_live live x.doc ≡ true)) (sym is) (filter_passes (λ (x : Item). is_live live x.doc) items)
+
+-- what is put behind a list that was taken out
+pub taken_then : {D : ℕ} (live : LiveSet) (old taken new : List (Entry D)) (items : List Item) → taken ≡ old
+    → items_of new ≡ items_of taken ++ filter (λ x. is_live live x.doc) items
+    → items_of new ≡ items_of old ++ filter (λ x. is_live live x.doc) items
+taken_then {D} live old taken new items same is =
+    is ∙ ap (λ (l : List (Entry D)). items_of l ++ filter (λ (x : Item). is_live live x.doc) items) same

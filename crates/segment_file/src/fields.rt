@@ -10,6 +10,7 @@ ghost use Rattle.segment_file.specs.FieldsSeen.{fields_said, AreNarrow, HasField
 use crate::payloads::is_blank;
 use byte_cursor::{Cursor, Memory, put_slice, put_u8, put_u16, put_u32};
 use leaf_codec::greatest_leaf;
+use point_codec::MOST_POINTS;
 use std::alloc::Global;
 
 /// What the first page begins with where the index has form 1 or 2.
@@ -20,9 +21,6 @@ const OWN_CELLS_MAGIC: &[u8; 8] = b"BKDPSEG2";
 
 /// The form of an index whose leaves have cells of their own.
 const OWN_CELLS: u8 = 3;
-
-/// The greatest number of entries.
-const MAX_ENTRIES: u32 = 1 << 24;
 
 /// The fields at fixed offsets.
 #[derive(Clone, Copy)]
@@ -72,7 +70,7 @@ impl HeadFields {
         if self.leaf < 2 || self.leaf > greatest_leaf(self.dims) {
             return false;
         }
-        if self.entries == 0 || self.entries > MAX_ENTRIES {
+        if self.entries == 0 || self.entries > MOST_POINTS {
             return false;
         }
         self.leaves == (self.entries + u32::from(self.leaf) - 1) / u32::from(self.leaf)

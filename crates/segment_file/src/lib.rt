@@ -24,5 +24,5 @@ pub use laws::{one_head, one_live_set, one_segment, segments_are_counted};
 pub use leaf::{bad_leaf, leaf_in, load_leaf};
 pub use live::{read_live, write_live};
 pub use open::open_segment;
-pub use read::{numbers_without_entry, read_entries};
+pub use read::{append_entries, numbers_without_entry, read_entries};
 pub use write::write_segment;

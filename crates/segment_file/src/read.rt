@@ -1,6 +1,6 @@
 //! All entries of a segment, read leaf by leaf.
 
-ghost use Rattle.std.specs.Prelude.{◌≡◌, ◌≤◌, ◌+◌, ℕ, List, [], filter, true, All, IsTrue, IfOk, OnOk};
+ghost use Rattle.std.specs.Prelude.{◌≡◌, ◌≤◌, ◌+◌, ◌++◌, ℕ, List, [], filter, true, All, IsTrue, IfOk, OnOk};
 ghost use Rattle.outer_io.specs.Files.{bytes_of};
 ghost use Rattle.outer_io.specs.declared.file_name.FileName.TheVariants.{Segment};
 ghost use Rattle.point_codec.specs.Points.{Item, Region};
@@ -28,6 +28,7 @@ use outer_io::Pages;
 use page_cache::{PageCache, PageFault};
 use point_codec::Entry;
 use std::alloc::Global;
+use std::mem;
 
 /// The entries of a segment whose numbers are live, in the order of the leaves. Each leaf page is read once at
 /// most. Ok only where each leaf of this head is spelled in its page, whether or not the file has this head. Before the
@@ -79,6 +80,58 @@ pub fn read_entries<const D: usize, F: Pages>(
     match sink {
         LeafSink::Entries(entries) => Ok(entries),
         LeafSink::Numbers(_numbers) => unreachable!(),
+    }
+}
+
+/// Puts the entries of a segment whose numbers are live behind those of the list, in the order of the leaves. Each leaf
+/// page is read once at most. Ok only where each leaf of this head is spelled in its page. Where there is room for the
+/// live entries and for a leaf more the list isn't moved. After an error it may have some of them.
+pub fn append_entries<const D: usize, F: Pages>(
+    alloc: Global,
+    folder: &mut F,
+    cache: &mut PageCache,
+    head: &SegmentHead<D>,
+    live: &LiveBits,
+    entries: &mut Vec<Entry<D>>,
+) -> Result<(), PageFault>
+    ensures reading { ReadsCached F.told (λ i. i ≡ head.now.id) (F.files folder.old) (F.files folder.new)
+        cache.old cache.new (F.faults folder.old) (F.faults folder.new) result }
+    ensures reads { (root : Region) (t : IndexTree) → HasTree D head.now.index root t
+        → F.reads folder.new ≤ F.reads folder.old + head.now.index.leaves }
+    // each leaf page once at most, whatever the cache held
+    ensures pages { (root : Region) (t : IndexTree) → HasTree D head.now.index root t
+        → F.reads folder.new ≤ F.reads folder.old + pages_of t }
+    ensures spelled { IsTrue F.told → Agrees (F.files folder.old) cache.old
+        → IsHeadOf D (bytes_of (F.files folder.old (Segment head.now.id))) head.now
+        → OnOk result
+        ((items : List Item) × IsSegment D (bytes_of (F.files folder.old (Segment head.now.id))) head.now items
+        × (items_of entries.new.items ≡ items_of entries.old.items ++ filter (λ x. is_live live.now x.doc) items)) }
+    ensures entries { IsTrue F.told → Agrees (F.files folder.old) cache.old → (items : List Item)
+        → IsSegment D (bytes_of (F.files folder.old (Segment head.now.id))) head.now items
+        → OnOk result
+        (items_of entries.new.items ≡ items_of entries.old.items ++ filter (λ x. is_live live.now x.doc) items) }
+    // whatever the folder gives
+    ensures live { OnOk result
+        ((more : List Item) × (items_of entries.new.items ≡ items_of entries.old.items ++ more)
+        × All (λ x. is_live live.now x.doc ≡ true) more) }
+    ensures shown { (root : Region) (t : IndexTree) → HasTree D head.now.index root t
+        → OnDamage result (IsLeafDamage D head.now 0 front t) }
+    ensures damage { IsTrue F.told → Agrees (F.files folder.old) cache.old
+        → OnDamage result (IsLeafDamageOf (F.files folder.old)) }
+    ensures whole { IsTrue F.told → Agrees (F.files folder.old) cache.old → (items : List Item)
+        → IsSegment D (bytes_of (F.files folder.old (Segment head.now.id))) head.now items
+        → NotDamaged result }
+{
+    let taken = mem::replace(entries, Vec::new(alloc));
+    let mut sink = LeafSink::Entries(taken);
+    let done = gather_all(alloc, folder, cache, head, live, &mut sink);
+    // put back whatever the answer is; no leaf makes numbers of a list
+    match sink {
+        LeafSink::Entries(list) => {
+            *entries = list;
+            done
+        }
+        LeafSink::Numbers(_numbers) => done,
     }
 }
 

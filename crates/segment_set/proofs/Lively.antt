@@ -14,7 +14,6 @@ use Rattle.documents.proofs.Lists.{cons_head, in_filter, nil_none}
 use Rattle.inner_pack.specs.Places.{front}
 use Rattle.inner_pack.specs.Trees.{IndexTree}
 use Rattle.inner_pack.proofs.OneTree.{one_index}
-use Rattle.page_cache.specs.declared.cache.PageCache.{PageCache}
 use Rattle.segment_file.specs.Heads.{Head}
 use Rattle.segment_file.specs.Segments.{IsSegment, HoldsTree}
 use Rattle.segment_file.proofs.Counted.{segment_counted}
@@ -100,11 +99,11 @@ settled_lives D files c inputs ids parts are whole reads =
     λ k p lt. whole_lives D files c _ (all k p lt) (read k p lt)
 
 -- one that builds a segment
-pub merged_lives : (D : ℕ) (told : Type 0) (leaf : ℕ) (before after : NameList) (files new_files : Files) (cache : PageCache) (inputs ids : List ℕ)
+pub merged_lives : (D : ℕ) (told : Type 0) (leaf : ℕ) (before after : NameList) (files new_files : Files) (inputs ids : List ℕ)
     (old new : List LiveSegment) (c : Contents) → told
     → ids ≡ filter (λ id. not (is_among inputs id)) (ids_of old) → ((id : ℕ) → is_among inputs id ≡ true → is_named before.names (Segment id) ≡ true)
-    → IsMerged D told leaf before after files new_files cache ids old new → AreRead D new_files c new → AllLive c (parts_but inputs new)
-merged_lives D told leaf before after files new_files cache inputs ids old new c is_told are named m reads = by m.built m.replaces m.gathered
+    → IsMerged D told leaf before after files new_files ids old new → AreRead D new_files c new → AllLive c (parts_but inputs new)
+merged_lives D told leaf before after files new_files inputs ids old new c is_told are named m reads = by m.built m.replaces m.gathered
   where
     none : parts_but inputs (parts_but ids old) ≡ []
     none = none_free inputs ids old are

@@ -94,7 +94,7 @@ module _ (D : ℕ) (told : Type 0) (files new_files : Files) (cache : PageCache)
       some g [] h = absurd (omega (arith, h))
       some g (p ∷ ps) h = omega arith
 
-  step_merged : IsMerged D told s.leaf s.names names files new_files cache ids s.parts parts → IsStep D told files new_files cache s names ids parts
+  step_merged : IsMerged D told s.leaf s.names names files new_files ids s.parts parts → IsStep D told files new_files cache s names ids parts
   step_merged m = record {
     gone = ids;
     some = λ id h. h;
@@ -105,7 +105,7 @@ module _ (D : ℕ) (told : Type 0) (files new_files : Files) (cache : PageCache)
       made = λ n is. (m.gathered n is).made;
       fewer = λ number. omega (arith, fewer_built m.built (parts_among ids s.parts) number (λ n is. (m.gathered n is).within number));
     };
-    makes = m.makes;
+    makes = λ t agrees. m.makes t;
     few = elim (length_built m.built (parts_among ids s.parts) m.gathered) [
       | inl none ↦ fewer none
       | inr some ↦ omega (arith, some, length_replaced D told s.names names new_files ids s.parts parts m.built m.replaces)
@@ -119,7 +119,7 @@ module _ (D : ℕ) (told : Type 0) (files new_files : Files) (cache : PageCache)
           let same : length parts ≡ length (parts_but ids s.parts) = ap length only in
           omega (arith, length_parted ids s.parts)
 
-  pub step : {T E : Type 0} (r : Result T E) → OnOk r (IsMerged D told s.leaf s.names names files new_files cache ids s.parts parts) → OnErr r (parts ≡ s.parts)
+  pub step : {T E : Type 0} (r : Result T E) → OnOk r (IsMerged D told s.leaf s.names names files new_files ids s.parts parts) → OnErr r (parts ≡ s.parts)
       → IsStep D told files new_files cache s names ids parts
   step r merged refused = elim (ok_or_err r merged refused) [ inl m ↦ step_merged m | inr same ↦ step_none same ]
 
@@ -187,7 +187,7 @@ pub merge_after : (D : ℕ) (told : Type 0) (files new_files : Files) {s : SetDa
     → ((id : ℕ) → is_among ids id ≡ true → is_among (inputs_of s.begun) id ≡ false)
     → (told → Agrees files s.cache → Agrees files cache)
     → ((id : ℕ) → KeepsFile cache id → KeepsFile s.cache id ⊎ Contains (ids_of (parts_among ids s.parts)) id)
-    → {T E : Type 0} (r : Result T E) → OnOk r (IsMerged D told s.leaf s.names names files new_files s.cache ids s.parts parts) → OnErr r (parts ≡ s.parts)
+    → {T E : Type 0} (r : Result T E) → OnOk r (IsMerged D told s.leaf s.names names files new_files ids s.parts parts) → OnErr r (parts ≡ s.parts)
     → IsAfter D told files new_files s (moved s names parts s.buffer s.begun cache)
 merge_after D told files new_files {s} well names ids parts cache kept apart agrees others r merged refused =
     let st = step D told files new_files s.cache s names ids parts kept r merged refused in

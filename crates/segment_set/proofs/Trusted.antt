@@ -7,7 +7,6 @@ use Rattle.std.specs.List.{All}
 use Rattle.outer_io.specs.Files.{Files}
 use Rattle.page_cache.specs.declared.cache.PageCache.{PageCache}
 use Rattle.page_cache.specs.declared.faults.PageFault.{PageFault}
-use Rattle.page_cache.specs.Cache.{Agrees}
 use Rattle.page_cache.specs.Evidence.{OnDamage}
 use Rattle.segment_view.specs.Calm.{IsCalm}
 use Rattle.segment_set.specs.Sets.{AreAlone, BegunMerge, IsNamed, IsSpread, IsWell, SetData, set_with}
@@ -52,14 +51,14 @@ faithful_with D files points s faithful = record { pages = faithful.pages; heads
 
 -- ---- what a damage shows
 
--- what is evident of the cache and the segments of now is so of the set
+-- what is evident of the segments of now is so of the set
 pub on_evident_set : {X : Type 0} (D : ℕ) (told : Bool) (f g : Files) (s t : SetData) (r : Result X PageFault) → s ≡ t → IsSpread s.next s.parts s.buffer
-    → OnDamage r (IsEvidentIn D s.parts (IsTrue told × Agrees f s.cache × All (HasFileHead D f) s.parts × AreAlone s.parts) g)
+    → OnDamage r (IsEvidentIn D s.parts (IsTrue told × All (HasFileHead D f) s.parts × AreAlone s.parts) g)
     → OnDamage r (IsEvidentIn D t.parts (IsTrusted told D f t) g)
 on_evident_set D told f g s t r same spread evident =
     subst (λ (u : SetData). OnDamage r (IsEvidentIn D u.parts (IsTrusted told D f u) g)) same
-    (on_less_with (IsCrowdedIn D g s.parts) (IsTrue told × Agrees f s.cache × All (HasFileHead D f) s.parts × AreAlone s.parts) (IsTrusted told D f s) g r
-    (λ trusted. (trusted.0, trusted.1.pages, trusted.1.heads, λ number. omega (arith, spread.alone number))) evident)
+    (on_less_with (IsCrowdedIn D g s.parts) (IsTrue told × All (HasFileHead D f) s.parts × AreAlone s.parts) (IsTrusted told D f s) g r
+    (λ trusted. (trusted.0, trusted.1.heads, λ number. omega (arith, spread.alone number))) evident)
 
 -- and of a set before, from which what is kept stays theirs
 pub on_evident_before : {X : Type 0} (D : ℕ) (told : Bool) (f g h : Files) (s t u : SetData) (r : Result X PageFault) → All (IsNamed t.names) t.parts

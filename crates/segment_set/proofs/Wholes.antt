@@ -12,7 +12,6 @@ use Rattle.outer_io.specs.Files.{Files}
 use Rattle.documents.specs.Entries.{is_among}
 use Rattle.documents.proofs.Kept.{among_from, among_to}
 use Rattle.documents.proofs.Lists.{cons_head, cons_tail, filter_alike, in_filter, of_filter}
-use Rattle.page_cache.specs.declared.cache.PageCache.{PageCache}
 use Rattle.segment_view.specs.LiveSegments.{LiveSegment, ids_of, parts_among, parts_but}
 use Rattle.segment_view.proofs.Living.{parts_more}
 use Rattle.segment_build.specs.NewSegments.{NewSegmentData}
@@ -95,11 +94,11 @@ built_form : (D : ℕ) (n : NewSegmentData) → ∥ HasUncrowded D n ∥₁ → 
 built_form D n has = ∥∥₁_elim has (hlevel props) (λ some. some.has.built.form)
 
 -- where all that are no inputs are merged what is built is the only one of them
-pub merged_one : (D : ℕ) (told : Type 0) (leaf : ℕ) (before after : NameList) (files new_files : Files) (cache : PageCache) (inputs ids : List ℕ)
+pub merged_one : (D : ℕ) (told : Type 0) (leaf : ℕ) (before after : NameList) (files new_files : Files) (inputs ids : List ℕ)
     (old new : List LiveSegment)
     → ids ≡ filter (λ id. not (is_among inputs id)) (ids_of old) → ((id : ℕ) → is_among inputs id ≡ true → is_named before.names (Segment id) ≡ true)
-    → IsMerged D told leaf before after files new_files cache ids old new → IsOne (parts_but inputs new)
-merged_one D told leaf before after files new_files cache inputs ids old new are named m = by m.built m.replaces (λ n is. (m.gathered n is).made.has)
+    → IsMerged D told leaf before after files new_files ids old new → IsOne (parts_but inputs new)
+merged_one D told leaf before after files new_files inputs ids old new are named m = by m.built m.replaces (λ n is. (m.gathered n is).made.has)
   where
     none : parts_but inputs (parts_but ids old) ≡ []
     none = none_free inputs ids old are

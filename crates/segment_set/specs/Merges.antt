@@ -5,8 +5,6 @@ use Rattle.outer_io.specs.Files.{Files, bytes_of}
 use Rattle.point_codec.specs.Points.{Item}
 use Rattle.live_bits.specs.LiveSet.{is_live}
 use Rattle.documents.specs.Entries.{SameTotals, has_entry}
-use Rattle.page_cache.specs.declared.cache.PageCache.{PageCache}
-use Rattle.page_cache.specs.Cache.{Agrees}
 use Rattle.segment_file.specs.Segments.{IsSegment}
 use Rattle.segment_file.specs.Written.{head_of}
 use Rattle.segment_view.specs.LiveSegments.{LiveSegment, Contents, AreRead, live_segment, parts_among, parts_but}
@@ -74,12 +72,12 @@ pub record IsGathered (D leaf : ℕ) (inputs : List LiveSegment) (n : NewSegment
 -- The live entries of the segments of these ids were read and a segment was built of them, which took their place;
 -- where there were none, the segments only went.
 pub record IsMerged (D : ℕ) (told : Type 0) (leaf : ℕ) (before after : NameList) (files new_files : Files)
-    (cache : PageCache) (ids : List ℕ) (old new : List LiveSegment) : Type 0 where
+    (ids : List ℕ) (old new : List LiveSegment) : Type 0 where
   pub built : Option NewSegmentData
   pub replaces : Replaces D told before after new_files ids built old new
   pub unnamed : built ≡ None → after ≡ before
   pub gathered : (n : NewSegmentData) → built ≡ Some n → IsGathered D leaf (parts_among ids old) n
-  pub makes : told → Agrees files cache → (c : Contents) → AreRead D files c old
+  pub makes : told → (c : Contents) → AreRead D files c old
       → MakesLive D (live_in_parts c (parts_among ids old)) built
 
 -- what was built, where any number of it is live

@@ -17,7 +17,7 @@ moment files set = record { files = files; set = set }
 
 -- the segments of these ids were merged into one at most
 pub record MergesParts (D : ℕ) (told : Type 0) (ids : List ℕ) (old new : SetMoment) : Type 0 where
-  pub merged : IsMerged D told old.set.leaf old.set.names new.set.names old.files new.files old.set.cache ids
+  pub merged : IsMerged D told old.set.leaf old.set.names new.set.names old.files new.files ids
       old.set.parts new.set.parts
   pub alone : StaysButParts old.set new.set
 

@@ -12,13 +12,10 @@ use crate::set::SegmentSet;
 use bkd_build::Gate;
 use outer_io::Folder;
 use page_cache::PageFault;
-use point_codec::Points;
+use point_codec::{MOST_POINTS, Points};
 use std::alloc::{AllocError, Global};
 use std::marker::Sync;
 use std::thread::Threads;
-
-/// The greatest number of points that are ever given.
-const MOST_POINTS: u32 = 1 << 24;
 
 /// The greatest number of entries in the buffer.
 const MOST_BUFFERED: usize = 16384;

@@ -58,6 +58,8 @@ impl<const D: usize> SegmentSet<D> {
             (IsTidy self.old
             ⊎ MergesParts D (IsTrue F.told) (free_ids self.old) (moment (F.files folder.old) self.old)
             (moment (F.files folder.new) self.new)) }
+        // its pages drive none out that queries keep
+        ensures cache { self.new.cache ≡ self.old.cache }
         // where this is so already nothing is done
         ensures still { IsTidy self.old → (self.new ≡ self.old) × (F.reads folder.new ≡ F.reads folder.old) }
         ensures unwritten { IsTrue F.told → IsTidy self.old → F.files folder.new ≡ F.files folder.old }
@@ -101,6 +103,7 @@ impl<const D: usize> SegmentSet<D> {
             → IsGathered D self.old.leaf (parts_among b.inputs self.old.parts) n) }
         // what stays
         ensures files { IsTrue F.told → F.files folder.new ≡ F.files folder.old }
+        ensures cache { self.new.cache ≡ self.old.cache }
         ensures alone { StaysButMerge self.old self.new }
         ensures stays { OnErr result (StaysButCache self.old self.new) }
         ensures faithful { IsTrue F.told → IsFaithful D (F.files folder.old) self.old
@@ -121,7 +124,6 @@ impl<const D: usize> SegmentSet<D> {
             alloc,
             &self.segments,
             inputs.as_slice(),
-            &mut self.cache,
             folder,
             &plan,
             gate,
@@ -209,10 +211,10 @@ impl<const D: usize> SegmentSet<D> {
         ensures faithful { IsTrue F.told → IsFaithful D (F.files folder.old) self.old
             → IsFaithful D (F.files folder.new) self.new }
         ensures buffer { self.new.buffer ≡ self.old.buffer }
+        ensures cache { self.new.cache ≡ self.old.cache }
         ensures merged { OnOk result
             (IsMerged D (IsTrue F.told) self.old.leaf self.old.names self.new.names (F.files folder.old)
-            (F.files folder.new) self.old.cache ids.now
-            self.old.parts self.new.parts) }
+            (F.files folder.new) ids.now self.old.parts self.new.parts) }
         ensures fewer { OnOk result
             (length self.new.parts + length (parts_among ids.now self.old.parts) ≤ length self.old.parts + 1) }
         ensures alone { StaysButParts self.old self.new }
@@ -228,7 +230,6 @@ impl<const D: usize> SegmentSet<D> {
             folder,
             &mut self.names,
             &mut self.segments,
-            &mut self.cache,
             ids,
             &plan,
             gate,

@@ -136,7 +136,7 @@ impl<const D: usize> SegmentSet<D> {
             (heads_of (viewed_parts (view_name view.now) self.now)) result.touched }
         ensures leaves { result.leaves ≡ leaves_in (heads_of (viewed_parts (view_name view.now) self.now)) }
         ensures tests { S.tests shape.new ≡ S.tests shape.old }
-        ensures compares { S.compares shape.new ≤ S.compares shape.old + leaves_in
+        ensures compares { S.compares shape.new ≤ S.compares shape.old + 2 * leaves_in
             (heads_of (viewed_parts (view_name view.now) self.now)) }
         ensures has { S.has shape.new ≡ S.has shape.old }
         ensures crosses { S.crosses shape.new ≡ S.crosses shape.old }

@@ -1,6 +1,6 @@
 //! Live entries of segments are gathered, a segment is built of them, and it takes their place.
 
-ghost use Rattle.std.specs.Prelude.{◌≡◌, ◌≤◌, ◌<◌, ◌^◌, ◌⊎◌, ℕ, List, Contains, true, false, [], None, Some, length};
+ghost use Rattle.std.specs.Prelude.{◌≡◌, ◌≤◌, ◌<◌, ◌^◌, ℕ, List, true, false, [], None, Some, length};
 ghost use Rattle.std.specs.Prelude.{All, IsTrue, IfOk, OnOk, OnErr, IsErrOf};
 ghost use Rattle.std.specs.List.Sorted.{IsPermutation};
 ghost use Rattle.std.specs.Option.{option_copied};
@@ -10,12 +10,10 @@ ghost use Rattle.point_codec.specs.Seen.{items_of};
 ghost use Rattle.leaf_codec.specs.LeafOrder.{NoneTwice};
 ghost use Rattle.live_bits.specs.LiveSet.{IsLiveSet, is_live};
 ghost use Rattle.documents.specs.Entries.{MakeDocs, has_entry, is_among};
-ghost use Rattle.page_cache.specs.Cache.{Agrees, KeepsFile};
 ghost use Rattle.page_cache.specs.Causes.{HasPageCause};
 ghost use Rattle.page_cache.specs.Evidence.{OnDamage, NotDamaged};
 ghost use Rattle.page_cache.specs.declared.faults.PageFault.TheVariants as fault;
-ghost use Rattle.segment_view.specs.LiveSegments.{Contents, AreRead, ids_of, live_in_parts, parts_among};
-ghost use Rattle.segment_view.specs.Calm.{IsCalm};
+ghost use Rattle.segment_view.specs.LiveSegments.{Contents, AreRead, live_in_parts, parts_among};
 ghost use Rattle.document_checks.specs.Crowded.{AreFew, AreUncrowded};
 ghost use Rattle.segment_build.specs.NewSegments.{NewSegmentData, HasEntries};
 ghost use Rattle.file_names.specs.Names.{NameList, is_named};
@@ -94,13 +92,13 @@ fn build_of<const D: usize, R: Threads + Sync, G: Gate>(
     Ok(build_segment(rt, alloc, entries, plan.leaf, plan.forks, gate)?)
 }
 
-/// Gathers what is live in the segments of these ids, and builds a segment of it; none, where nothing is live.
+/// Gathers what is live in the segments of these ids, and builds a segment of it; none, where nothing is live. Leaves
+/// are read by way of a cache of one page, since those of a page follow each other, and what queries keep stays kept.
 pub(crate) fn gathered<const D: usize, R: Threads + Sync, F: Pages, G: Gate>(
     rt: &R,
     alloc: Global,
     segments: &Segments<D>,
     ids: &[u64],
-    cache: &mut PageCache,
     folder: &mut F,
     plan: &BuildPlan<D>,
     gate: &G,
@@ -108,31 +106,26 @@ pub(crate) fn gathered<const D: usize, R: Threads + Sync, F: Pages, G: Gate>(
     requires { D ≤ 8 }
     ensures gathered { IfOk result
         (λ o. (n : NewSegmentData) → o ≡ Some n → IsGathered D plan.now.leaf (parts_among ids.now segments.now) n) }
-    ensures makes { IsTrue F.told → Agrees (F.files folder.old) cache.old → (c : Contents)
-        → AreRead D (F.files folder.old) c segments.now
+    ensures makes { IsTrue F.told → (c : Contents) → AreRead D (F.files folder.old) c segments.now
         → IfOk result (MakesLive D (live_in_parts c (parts_among ids.now segments.now))) }
-    ensures calm { IsCalm F.told (F.files folder.old) (F.files folder.new) cache.old cache.new
-        (ids_of (parts_among ids.now segments.now)) }
+    ensures files { IsTrue F.told → F.files folder.new ≡ F.files folder.old }
     ensures cause { HasPageCause (F.faults folder.old) (F.faults folder.new) result }
-    ensures whole { IsTrue F.told → Agrees (F.files folder.old) cache.old → (c : Contents)
-        → AreRead D (F.files folder.old) c segments.now
+    ensures whole { IsTrue F.told → (c : Contents) → AreRead D (F.files folder.old) c segments.now
         → (next : ℕ) → MakeDocs next (live_in_parts c (parts_among ids.now segments.now))
         → length (live_in_parts c (parts_among ids.now segments.now)) ≤ plan.now.given
         → NotDamaged result }
     ensures shown { (names now : NameList)
         → OnDamage result (IsMergeDamage D plan.now.given names now segments.now) }
-    ensures damage { IsTrue F.told → Agrees (F.files folder.old) cache.old
-        → OnDamage result (IsMergeDamageOf (F.files folder.new) plan.now.given) }
-    ensures doubled { IsTrue F.told → Agrees (F.files folder.old) cache.old → (c : Contents)
-        → AreRead D (F.files folder.old) c segments.now
+    ensures damage { IsTrue F.told → OnDamage result (IsMergeDamageOf (F.files folder.new) plan.now.given) }
+    ensures doubled { IsTrue F.told → (c : Contents) → AreRead D (F.files folder.old) c segments.now
         → OnDamage result (IsDoubt plan.now.given (live_in_parts c segments.now)) }
     ensures evident { OnDamage result
         (IsEvidentIn D segments.now
-        (IsTrue F.told × Agrees (F.files folder.old) cache.old
-        × All (HasFileHead D (F.files folder.old)) segments.now × AreAlone segments.now)
+        (IsTrue F.told × All (HasFileHead D (F.files folder.old)) segments.now × AreAlone segments.now)
         (F.files folder.new)) }
 {
-    let mut entries = gather(alloc, segments, ids, cache, folder)?;
+    let mut once = PageCache::new(alloc, 1)?;
+    let mut entries = gather(alloc, segments, ids, &mut once, folder)?;
     if entries.is_empty() {
         return Ok(None);
     }
@@ -206,7 +199,6 @@ pub(crate) fn merge<const D: usize, R: Threads + Sync, F: Folder, G: Gate>(
     folder: &mut F,
     names: &mut FileNames,
     segments: &mut Segments<D>,
-    cache: &mut PageCache,
     ids: &[u64],
     plan: &BuildPlan<D>,
     gate: &G,
@@ -216,31 +208,24 @@ pub(crate) fn merge<const D: usize, R: Threads + Sync, F: Folder, G: Gate>(
     requires among { (id : ℕ) → is_among ids.now id ≡ true → is_named names.old.names (Segment id) ≡ true }
     ensures merged { OnOk result
         (IsMerged D (IsTrue F.told) plan.now.leaf names.old names.new (F.files folder.old)
-        (F.files folder.new) cache.old ids.now segments.old segments.new) }
+        (F.files folder.new) ids.now segments.old segments.new) }
     ensures refused { OnErr result (segments.new ≡ segments.old) }
     ensures kept { KeepsNamed (IsTrue F.told) names.old names.new (F.files folder.old) (F.files folder.new) }
-    ensures agrees { IsTrue F.told → Agrees (F.files folder.old) cache.old → Agrees (F.files folder.old) cache.new }
-    ensures others { (id : ℕ) → KeepsFile cache.new id → KeepsFile cache.old id
-        ⊎ Contains (ids_of (parts_among ids.now segments.old)) id }
     ensures cause { HasPageCause (F.faults folder.old) (F.faults folder.new) result }
-    ensures whole { IsTrue F.told → Agrees (F.files folder.old) cache.old → (c : Contents)
-        → AreRead D (F.files folder.old) c segments.old
+    ensures whole { IsTrue F.told → (c : Contents) → AreRead D (F.files folder.old) c segments.old
         → (next : ℕ) → MakeDocs next (live_in_parts c (parts_among ids.now segments.old))
         → length (live_in_parts c (parts_among ids.now segments.old)) ≤ plan.now.given
         → NotDamaged result }
     ensures shown { OnDamage result (IsMergeDamage D plan.now.given names.old names.new segments.old) }
-    ensures damage { IsTrue F.told → Agrees (F.files folder.old) cache.old
-        → OnDamage result (IsMergeDamageOf (F.files folder.new) plan.now.given) }
-    ensures doubled { IsTrue F.told → Agrees (F.files folder.old) cache.old → (c : Contents)
-        → AreRead D (F.files folder.old) c segments.old
+    ensures damage { IsTrue F.told → OnDamage result (IsMergeDamageOf (F.files folder.new) plan.now.given) }
+    ensures doubled { IsTrue F.told → (c : Contents) → AreRead D (F.files folder.old) c segments.old
         → OnDamage result (IsDoubt plan.now.given (live_in_parts c segments.old)) }
     ensures evident { OnDamage result
         (IsEvidentIn D segments.old
-        (IsTrue F.told × Agrees (F.files folder.old) cache.old
-        × All (HasFileHead D (F.files folder.old)) segments.old × AreAlone segments.old)
+        (IsTrue F.told × All (HasFileHead D (F.files folder.old)) segments.old × AreAlone segments.old)
         (F.files folder.new)) }
 {
-    let built = gathered(rt, alloc, segments, ids, cache, folder, plan, gate)?;
+    let built = gathered(rt, alloc, segments, ids, folder, plan, gate)?;
     replace(alloc, folder, names, segments, built.as_ref(), ids)
 }
 

@@ -8,3 +8,4 @@ pub mod Counting
 pub mod Stepwise
 pub mod Hits
 pub mod Marked
+pub mod Numbered

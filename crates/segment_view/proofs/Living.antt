@@ -13,8 +13,6 @@ use Rattle.std.proofs.lemmas.Option.{get_or_from_slice_get, slice_get_within}
 use Rattle.outer_io.specs.Files.{Files, bytes_of}
 use Rattle.outer_io.specs.declared.file_name.FileName.TheVariants.{Segment}
 use Rattle.point_codec.specs.Points.{Item}
-use Rattle.point_codec.specs.Seen.{items_of}
-use Rattle.point_codec.specs.declared.entries.Entry.{Entry}
 use Rattle.live_bits.specs.LiveSet.{LiveSet, IsLiveSet, is_live, live_set_without}
 use Rattle.live_bits.proofs.LiveNumbers.{is_live-without, none_live}
 use Rattle.documents.specs.Entries.{SameTotals, entries_but, has_entry, is_among}
@@ -242,14 +240,6 @@ unfolding is_live
 live_below s number set live =
     let within = All-contains (λ n. (s.base ≤ n) × (n < s.base + s.span)) s.live number set.within (among_to s.live number live) in
     omega (arith, within.1, set.limit)
-
-pub numbers_below : {D : ℕ} (s : LiveSet) (entries : List (Entry D)) → IsLiveSet s → All (λ (x : Item). is_live s x.doc ≡ true) (items_of entries)
-    → All (λ (e : Entry D). e.doc < 2 ^ 24) entries
-numbers_below {D} s [] set all = All-nil (λ (e : Entry D). e.doc < 2 ^ 24)
-numbers_below {D} s (e ∷ es) set all =
-    All-cons (λ (x : Entry D). x.doc < 2 ^ 24) e es
-    (live_below s e.doc set (All-head (λ (x : Item). is_live s x.doc ≡ true) (record { doc = e.doc; at = e.point.c }) (items_of es) all))
-    (numbers_below s es set (All-tail (λ (x : Item). is_live s x.doc ≡ true) (record { doc = e.doc; at = e.point.c }) (items_of es) all))
 
 -- where nothing is live there is nothing
 none_kept : (xs : List Item) → filter (λ (x : Item). false) xs ≡ []

@@ -1,7 +1,7 @@
 -- What a loop over segments has come to, one segment at a time.
 use Rattle.std.proofs.Common.{◌≡◌, ℕ, ◌+◌, ◌<◌, ◌≤◌, suc, Bool, true, false, not, cond, List, [], ◌∷◌}
 use Rattle.std.proofs.Common.{◌++◌, length, take, drop, get_or, sym, ap, subst, ◌∙◌, arith, Some, ℤ}
-use Rattle.std.specs.List.{remove, slice_get}
+use Rattle.std.specs.List.{remove, slice_get, sum_by}
 use Rattle.std.proofs.lemmas.List.{map-append, take-append-drop, drop_more, append_assoc, take_at, drop_at, length-take-le}
 use Rattle.std.proofs.lemmas.List.{length_push, length-append, get_or_append_left, get_or-take, get_or-map}
 use Rattle.std.proofs.lemmas.List.Elements.{filter-append}
@@ -70,6 +70,14 @@ leaves_among_upto ids parts i p is =
     let front = ap (λ (ps : List LiveSegment). leaves_in (heads_of ps)) (filter-append (λ (q : LiveSegment). is_among ids q.head.id) (take i parts) (p ∷ []))
     ∙ leaves-append (parts_among ids (take i parts)) (parts_among ids (p ∷ [])) in
     omega (arith, whole, front)
+
+pub counts_among_more : (ids : List ℕ) (parts : List LiveSegment) (i : ℕ) (p : LiveSegment) → slice_get parts i ≡ Some p
+    → sum_by (λ (q : LiveSegment). length q.live.live) (parts_among ids (take (i + 1) parts))
+    ≡ sum_by (λ (q : LiveSegment). length q.live.live) (parts_among ids (take i parts))
+    + sum_by (λ (q : LiveSegment). length q.live.live) (parts_among ids (p ∷ []))
+counts_among_more ids parts i p is =
+    ap (λ (ps : List LiveSegment). sum_by (λ (q : LiveSegment). length q.live.live) ps) (among_more ids parts i p is)
+    ∙ sum_by-append (λ (q : LiveSegment). length q.live.live) (parts_among ids (take i parts)) (parts_among ids (p ∷ []))
 
 pub live_among_more : (c : Contents) (ids : List ℕ) (parts : List LiveSegment) (i : ℕ) (p : LiveSegment) → slice_get parts i ≡ Some p
     → live_in_parts c (parts_among ids (take (i + 1) parts)) ≡ live_in_parts c (parts_among ids (take i parts)) ++ live_in_parts c (parts_among ids (p ∷ []))

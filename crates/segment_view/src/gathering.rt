@@ -16,19 +16,21 @@ ghost use Rattle.segment_view.specs.Costs.{leaves_in};
 ghost use Rattle.segment_view.specs.Calm.{IsCalm};
 ghost use Rattle.segment_view.specs.Damages.{IsPartDamage, IsReadDamage};
 
+use crate::room::room_for;
 use crate::segments::Segments;
 use live_bits::LiveBits;
 use outer_io::Pages;
 use page_cache::{PageCache, PageFault};
 use point_codec::Entry;
-use segment_file::{SegmentHead, read_entries};
+use segment_file::{SegmentHead, append_entries};
 use std::alloc::Global;
 
 /// The live entries of the segments of these ids, one segment after another in ascending order of their ids. An id
 /// that no segment has counts for nothing.
 ///
 /// Each leaf of these segments is read once at most, by way of the cache; where no number of a segment is live
-/// nothing of it is read. The answer may be a damage of a leaf that had to be read, Failed and Memory.
+/// nothing of it is read. Memory for all is taken before the first leaf is read. The answer may be a damage of a leaf
+/// that had to be read, Failed and Memory.
 pub fn gather<const D: usize, F: Pages>(
     alloc: Global,
     segments: &Segments<D>,
@@ -58,7 +60,8 @@ pub fn gather<const D: usize, F: Pages>(
     ensures whole { IsTrue F.told → Agrees (F.files folder.old) cache.old → (c : Contents)
         → AreRead D (F.files folder.old) c segments.now → NotDamaged result }
 {
-    let mut entries = Vec::new(alloc);
+    // where each live number has one entry, the list is never moved
+    let mut entries = Vec::with_capacity(alloc, room_for(segments, ids))?;
     for i in 0..segments.len() {
         let (head, live) = segments.part(i);
         gather_one(alloc, head, live, ids, cache, folder, &mut entries)?;
@@ -144,7 +147,5 @@ fn append_live<const D: usize, F: Pages>(
         return Ok(());
     }
     head.index().is_spelled();
-    let mut more = read_entries(alloc, folder, cache, head, live)?;
-    entries.append(&mut more)?;
-    Ok(())
+    append_entries(alloc, folder, cache, head, live, entries)
 }

@@ -10,6 +10,7 @@ mod laws;
 mod nearby;
 mod ordering;
 mod pairs;
+mod room;
 mod segments;
 mod surveys;
 mod visiting;

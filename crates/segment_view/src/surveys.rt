@@ -11,14 +11,14 @@ use cell_relate::Shape;
 use point_codec::Point;
 use segment_file::SegmentHead;
 
-/// What a visit of the segments costs for this shape, together. It reads no page and takes no memory, and asks of each
-/// leaf's own cell alone.
+/// What a visit of the segments costs for this shape, together. It reads no page and takes no memory, and asks for the
+/// cells that the visit asks for.
 pub fn survey<const D: usize, S: Shape<D>>(segments: &Segments<D>, shape: &mut S) -> Tally
     ensures tested { AreTested D (S.crosses shape.old) (heads_of segments.now) result.tested }
     ensures touched { AreTouched D (S.has shape.old) (S.crosses shape.old) (heads_of segments.now) result.touched }
     ensures leaves { result.leaves ≡ leaves_in (heads_of segments.now) }
     ensures tests { S.tests shape.new ≡ S.tests shape.old }
-    ensures compares { S.compares shape.new ≤ S.compares shape.old + leaves_in (heads_of segments.now) }
+    ensures compares { S.compares shape.new ≤ S.compares shape.old + 2 * leaves_in (heads_of segments.now) }
     ensures has { S.has shape.new ≡ S.has shape.old }
     ensures crosses { S.crosses shape.new ≡ S.crosses shape.old }
 {
@@ -45,7 +45,7 @@ fn survey_one<const D: usize, S: Shape<D>>(head: &SegmentHead<D>, shape: &mut S)
     ensures touched { AreTouched D (S.has shape.old) (S.crosses shape.old) (head.now ∷ []) result.touched }
     ensures leaves { result.leaves ≡ head.now.index.leaves }
     ensures tests { S.tests shape.new ≡ S.tests shape.old }
-    ensures compares { S.compares shape.new ≤ S.compares shape.old + head.now.index.leaves }
+    ensures compares { S.compares shape.new ≤ S.compares shape.old + 2 * head.now.index.leaves }
     ensures has { S.has shape.new ≡ S.has shape.old }
     ensures crosses { S.crosses shape.new ≡ S.crosses shape.old }
     ensures few_tested { result.tested ≤ 4000 * 8388608 }

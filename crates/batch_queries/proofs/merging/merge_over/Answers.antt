@@ -4,7 +4,6 @@ use Rattle.std.proofs.lemmas.Result.{err_from_is_err_and}
 use Rattle.outer_io.specs.Files.{Files}
 use Rattle.index_model.specs.State.{State}
 use Rattle.stored_index.specs.Stored.{IsStored}
-use Rattle.index_core.proofs.FaultCauses.{cause_then}
 use Rattle.index_core.proofs.Sizes.{session_fits}
 use Rattle.index_core.proofs.Undone.{kept_equal}
 use Rattle.index_opening.specs.Evidence.{IsTwice}
@@ -14,6 +13,7 @@ use Rattle.batch_run.specs.Copies.{IsCommitIn}
 use Rattle.batch_queries.proofs.MergeCalls.{merges_after, stopped}
 use Rattle.batch_queries.proofs.Opened.{none_undefined, opened}
 use Rattle.batch_queries.proofs.merging.merge_over.Goals as goal
+use Rattle.segment_set.proofs.Saving.{cause_after}
 
 pub attach-requires : goal.attach-requires
 attach-requires g c = (session_fits g.row.D c.requires.few, c.requires.dims)
@@ -42,7 +42,7 @@ returns-in_err-session g c =
     (λ told says. kept_equal _ _ (e.files told ∙ first.files told))
     (λ told says state stored. e.damaged.whole told (subst (λ (f : Files). IsCommitIn f c.args.commit) (sym (first.files told)) says) state
     (subst (λ (f : Files). IsStored f state) (sym (first.files told)) stored))
-    (cause_then _ _ _ (Err c.in_err-session.field-0.0) first.cause.fine e.cause)
+    (cause_after _ _ _ (Err c.in_err-session.field-0.0) first.cause.fine e.cause)
     (on_evident_at {X = ℕ} IsTwice _ _ _ _ (Err c.in_err-session.field-0.0)
     (λ h. (h.0, subst (λ (f : Files). IsCommitIn f c.args.commit) (sym (first.files h.0)) h.1)) (λ h. e.files h.0) e.damaged.evident) refl
 
@@ -51,7 +51,7 @@ returns g c =
     let first = c.in_ok-resident.ensures in
     let then = c.in_ok-session.ensures in
     merges_after (IsTrue g.F.Pages.told) _ _ _ _ _ _ _ c.in_ok-session.session _ (λ told. then.files told ∙ first.files told) refl refl
-    (cause_then _ _ _ _ first.cause.fine then.cause)
+    (cause_after _ _ _ _ first.cause.fine then.cause)
     (λ told says. opened g.row.D _ _ _ c.args.commit _ _ (first.files told) (then.files told) says (first.copy told)
     (then.attaches.seen told) (then.attaches.guards told) (then.attaches.faithful told) (then.attaches.traced told) then.attaches.unchanged)
     c.merge_with.ensures

@@ -1,13 +1,13 @@
 -- The lines are told over what the folder stores: no index, or the one whose commit was read.
 use Rattle.std.proofs.Common.{◌≤◌, ◌+◌, [], subst, sum_by, sym}
-use Rattle.std.proofs.lemmas.Result.{err_from_is_err_and}
+use Rattle.std.proofs.lemmas.Result.{err_from_is_err_and, on_ok_weaker}
 use Rattle.script_lang.specs.Lines.{lines_of}
 use Rattle.index_model.specs.State.{State}
 use Rattle.run_status.specs.Told.{TellsAll}
 use Rattle.batch_queries.specs.Batched.{TellsBatch}
 use Rattle.outer_io.specs.Files.{Files}
 use Rattle.batch_run.specs.Copies.{copied_pages}
-use Rattle.batch_queries.proofs.Tells.{on_ok_weaker, reads_once}
+use Rattle.batch_queries.proofs.Tells.{reads_once}
 use Rattle.batch_queries.proofs.run.answer.Goals as goal
 use Rattle.stored_index.proofs.Whole.{not_damaged, no_index}
 
@@ -28,7 +28,7 @@ pub returns-in-Some-clause-reads : goal.returns-in-Some-clause-reads
 returns-in-Some-clause-reads g c = λ told.
     let files : Files = g.F.Pages.files c.args.folder.now in
     let says = rw c.in-Some.is at (c.in_ok-read_commit.ensures.found told) in
-    on_ok_weaker c.answer_stored.result _ _
+    on_ok_weaker c.answer_stored.result
     (λ h.
     reads_once files c.in-Some.commit (g.F.Pages.reads c.args.folder.now) (g.F.Pages.reads c.read_commit.new.folder)
     (g.F.Pages.reads c.answer_stored.new.folder) says (c.in_ok-read_commit.ensures.most told)

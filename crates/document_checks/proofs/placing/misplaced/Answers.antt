@@ -4,9 +4,9 @@ use Rattle.stored_index.specs.Segments.{places}
 use Rattle.document_checks.specs.Placed.{IsPlacedOnce}
 use Rattle.document_checks.proofs.placing.misplaced.Goals as goal
 
-pub returns-then-beyond-lt-LIMIT-clause-some : goal.returns-then-beyond-lt-LIMIT-clause-some
-returns-then-beyond-lt-LIMIT-clause-some c =
-    let found = c.least_beyond-beyond.ensures.found c.if-beyond-lt-LIMIT.true in
+pub returns-then-beyond-lt-MOST_POINTS-clause-some : goal.returns-then-beyond-lt-MOST_POINTS-clause-some
+returns-then-beyond-lt-MOST_POINTS-clause-some c =
+    let found = c.least_beyond-beyond.ensures.found c.if-beyond-lt-MOST_POINTS.true in
     let lives = c.args.lives.now in (
       found.0,
       found.1,

@@ -10,13 +10,14 @@ use Rattle.index_core.specs.Steps.{KeepsUndone}
 use Rattle.index_core.specs.Whole.{DoesWhole, HasNewCanonical}
 use Rattle.index_core.proofs.Brought.{commit_equal, commit_then}
 use Rattle.index_core.proofs.Undone.{fault_kept, kept_equal, undone_kept}
-use Rattle.index_core.proofs.FaultCauses.{cause_then, done_cause, fault_to, memory_cause}
+use Rattle.index_core.proofs.FaultCauses.{done_cause, fault_to, memory_cause}
 use Rattle.index_model.specs.State.{State}
 use Rattle.stored_index.specs.Stored.{IsStored}
 use Rattle.drawn_points.specs.Generated.{generate_answer}
 use Rattle.generate_index.proofs.Ended.{commit_there, ends_there, ends_unread, ends_untold, memory_evident, none_anew, none_there, unread_evident}
 use Rattle.generate_index.proofs.generator.generate.Goals as goal
 use Rattle.stored_index.proofs.Whole.{not_damaged}
+use Rattle.segment_set.proofs.Saving.{cause_after}
 
 pub returns-in-Ok-Some-clause-generates : goal.returns-in-Ok-Some-clause-generates
 returns-in-Ok-Some-clause-generates g c = λ told state h.
@@ -70,7 +71,7 @@ pub returns-in-Ok-Some-clause-cause : goal.returns-in-Ok-Some-clause-cause
 returns-in-Ok-Some-clause-cause g c = done_cause _ _ _ true c.in-Ok-Some.ensures.cause
 
 pub returns-in-Ok-None-clause-cause : goal.returns-in-Ok-None-clause-cause
-returns-in-Ok-None-clause-cause g c = cause_then _ _ _ _ c.in-Ok-None.ensures.cause.fine c.generate_first.ensures.cause
+returns-in-Ok-None-clause-cause g c = cause_after _ _ _ _ c.in-Ok-None.ensures.cause.fine c.generate_first.ensures.cause
 
 pub returns-clause-cause : goal.returns-clause-cause
 returns-clause-cause g c = fault_to _ _ c.in-Err.fault c.in-Err.ensures.cause

@@ -5,7 +5,7 @@ use Rattle.outer_io.specs.declared.file_name.FileName.TheVariants.{Commit}
 use Rattle.page_cache.specs.declared.faults.PageFault.{PageFault}
 use Rattle.index_core.specs.Sessions.{Trusts}
 use Rattle.index_core.proofs.Brought.{commit_after, commit_itself}
-use Rattle.index_core.proofs.FaultCauses.{cause_then, fault_to, memory_cause}
+use Rattle.index_core.proofs.FaultCauses.{fault_to, memory_cause}
 use Rattle.index_core.proofs.Undone.{begins_none, levels_after, undone_after, undone_kept}
 use Rattle.stored_index.proofs.KeptFiles.{kept_itself}
 use Rattle.drawn_points.specs.Generated.{generate_answer}
@@ -14,6 +14,7 @@ use Rattle.generate_index.proofs.Ended.{cause_done, created, ends_early, ends_ma
 use Rattle.generate_index.proofs.Ended.{ends_uncreated, ends_unsaid, fault_evident, made_canon, memory_evident}
 use Rattle.generate_index.proofs.Making.{created_trusts, makes_trusts}
 use Rattle.generate_index.proofs.generator.generate_first.Goals as goal
+use Rattle.segment_set.proofs.Saving.{cause_after}
 
 pub create-requires : goal.create-requires
 create-requires g c = (lit< tt, ((omega arith, omega arith), (omega (arith, c.greatest_leaf.ensures), omega (arith, c.greatest_leaf.ensures))))
@@ -159,7 +160,7 @@ pub returns-in_err-commit-clause-cause : goal.returns-in_err-commit-clause-cause
 returns-in_err-commit-clause-cause g c =
     let p = err_from_is_err_and c.from_residual-in_err-commit.result c.from_residual-in_err-commit.ensures.1 in
     rw (p.1 ∙ ap (λ (e : PageFault). Err e) p.2)
-    (cause_then _ _ _ _ c.in_ok-summary.ensures.makes.cause.fine (fault_to _ _ c.in_err-commit.field-0.0 c.in_err-commit.ensures.faults.cause))
+    (cause_after _ _ _ _ c.in_ok-summary.ensures.makes.cause.fine (fault_to _ _ c.in_err-commit.field-0.0 c.in_err-commit.ensures.faults.cause))
 
 pub returns-clause-cause : goal.returns-clause-cause
 returns-clause-cause g c = cause_done _ _ _ c.in_ok-summary.summary tt false c.in_ok-summary.ensures.makes.cause c.in_ok-commit.ensures.faults.cause

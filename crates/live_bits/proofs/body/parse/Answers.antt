@@ -4,8 +4,8 @@ use Rattle.live_bits.proofs.Heads.{spelt, bytes_behind, body_of}
 use Rattle.live_bits.proofs.Tally.{sum_ones}
 use Rattle.live_bits.proofs.body.parse.Goals as goal
 
-pub returns-then-sizes-gt-LIMIT-clause-none : goal.returns-then-sizes-gt-LIMIT-clause-none
-returns-then-sizes-gt-LIMIT-clause-none c = λ s h.
+pub returns-then-sizes-gt-MOST_POINTS-clause-none : goal.returns-then-sizes-gt-MOST_POINTS-clause-none
+returns-then-sizes-gt-MOST_POINTS-clause-none c = λ s h.
     let f = c.in_ok-sizes.sizes in
     let fits = c.in_ok-sizes.ensures.fits in
     let same = spelt c.args.segment c.args.generation s c.args.body.now f.base f.span f.count c.in_ok-sizes.bits.now fits.0 fits.1 fits.2 h

@@ -15,8 +15,8 @@ returns-in_err-sizes-clause-none c =
     rw c.from_residual.ensures
     (λ s body x y long h e. c.in_err-sizes.ensures.none _ _ _ _ (begins c.args.segment c.args.generation s c.args.front.now body x y long h e))
 
-pub returns-then-sizes-gt-LIMIT-clause-none : goal.returns-then-sizes-gt-LIMIT-clause-none
-returns-then-sizes-gt-LIMIT-clause-none c = λ s body x y long h e.
+pub returns-then-sizes-gt-MOST_POINTS-clause-none : goal.returns-then-sizes-gt-MOST_POINTS-clause-none
+returns-then-sizes-gt-MOST_POINTS-clause-none c = λ s body x y long h e.
     let f = c.in_ok-sizes.sizes in
     let fits = c.in_ok-sizes.ensures.fits in
     let front = front_of c.args.segment c.args.generation s c.args.front.now body x y f.base f.span f.count _ long h e fits.0 fits.1 fits.2

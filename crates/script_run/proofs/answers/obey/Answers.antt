@@ -3,11 +3,12 @@ use Rattle.std.proofs.Common.{IsTrue, Err, Ok, false, refl}
 use Rattle.script_lang.specs.Seen.{request_of}
 use Rattle.script_run.proofs.Calling.{kept_quiet}
 use Rattle.script_run.proofs.Answered.{done_replies, refused_replies, fault_replies}
-use Rattle.script_run.proofs.Lined.{page_done, page_then, page_same}
+use Rattle.script_run.proofs.Lined.{page_then, page_same}
 use Rattle.index_model.specs.declared.session.Applied.{Applied}
 use Rattle.script_run.proofs.Passing.{passes_applied, passes_to}
 use Rattle.script_run.proofs.Shown.{memory_shows}
 use Rattle.script_run.proofs.answers.obey.Goals as goal
+use Rattle.index_core.proofs.FaultCauses.{done_cause}
 
 pub returns-in-Ok-Done-clause-replies : goal.returns-in-Ok-Done-clause-replies
 returns-in-Ok-Done-clause-replies g c = λ told i stored h bytes reads.
@@ -17,7 +18,7 @@ returns-in-Ok-Done-clause-replies g c = λ told i stored h bytes reads.
     (c.in-Ok-Done.ensures.applies.keeps.stored told i h.seen h.guards)
 
 pub returns-in-Ok-Done-clause-cause : goal.returns-in-Ok-Done-clause-cause
-returns-in-Ok-Done-clause-cause g c = page_done _ _ c.in-Ok-Done.field-0 false c.in-Ok-Done.ensures.applies.faults.cause
+returns-in-Ok-Done-clause-cause g c = done_cause _ _ c.in-Ok-Done.field-0 false c.in-Ok-Done.ensures.applies.faults.cause
 
 pub returns-in-Ok-Refused-clause-replies : goal.returns-in-Ok-Refused-clause-replies
 returns-in-Ok-Refused-clause-replies g c = λ told i stored h bytes reads.

@@ -8,7 +8,6 @@ use Rattle.point_codec.specs.Points.{Item}
 use Rattle.point_codec.specs.Seen.{items_of}
 use Rattle.point_codec.specs.declared.entries.Entry.{Entry}
 use Rattle.documents.specs.Entries.{MakeDocs, is_among}
-use Rattle.page_cache.specs.Cache.{Agrees}
 use Rattle.segment_file.specs.Damages.{IsLeafDamageOf}
 use Rattle.nearest_query.proofs.Parts.{on_damage}
 use Rattle.segment_view.specs.LiveSegments.{LiveSegment, live_in_parts, parts_among, has_live}
@@ -30,22 +29,25 @@ use Rattle.point_codec.proofs.Sizes.{entry_fits}
 
 pub returns-in_err-entries-clause-whole : goal.returns-in_err-entries-clause-whole
 returns-in_err-entries-clause-whole g c =
-    let p = err_from_is_err_and c.from_residual.result c.from_residual.ensures.1 in
-    λ told agrees contents reads next make few. rw (p.1, p.2) (c.in_err-entries.ensures.whole told agrees contents reads)
+    let p = err_from_is_err_and c.from_residual-in_err-entries.result c.from_residual-in_err-entries.ensures.1 in
+    λ told contents reads next make few.
+    rw (p.1, p.2) (c.in_err-entries.ensures.whole told (c.in_ok-once.ensures.agrees (g.F.Pages.files c.args.folder.now)) contents reads)
 
 pub returns-in_err-build_of-clause-whole : goal.returns-in_err-build_of-clause-whole
 returns-in_err-build_of-clause-whole g c =
     let p = err_from_is_err_and c.from_residual-in_err-build_of.result c.from_residual-in_err-build_of.ensures.1 in
-    λ told agrees contents reads next make few.
+    λ told contents reads next make few.
     let same : items_of c.as_mut_slice.result.now ≡ live_in_parts contents (parts_among c.args.ids.now c.args.segments.now) =
-    ap items_of c.as_mut_slice.ensures.value ∙ c.in_ok-entries.ensures.entries told agrees contents reads in
+    ap items_of c.as_mut_slice.ensures.value
+    ∙ c.in_ok-entries.ensures.entries told (c.in_ok-once.ensures.agrees (g.F.Pages.files c.args.folder.now)) contents reads in
     rw (p.1, p.2)
     (c.in_err-build_of.ensures.whole next (subst (MakeDocs next) (sym same) make) (omega (arith, few, ap length same, items_length c.as_mut_slice.result.now)))
 
 pub returns-then-is_empty-clause-makes : goal.returns-then-is_empty-clause-makes
-returns-then-is_empty-clause-makes g c = λ told agrees contents reads.
+returns-then-is_empty-clause-makes g c = λ told contents reads.
     let none : length c.in_ok-entries.entries.items ≡ 0 = grind (arith, nat_tests, c.in_ok-entries.entries.ok.0, c.is_empty.ensures, c.if-is_empty.true) in
-    sym (c.in_ok-entries.ensures.entries told agrees contents reads) ∙ ap items_of (nil_from_length c.in_ok-entries.entries.items none)
+    sym (c.in_ok-entries.ensures.entries told (c.in_ok-once.ensures.agrees (g.F.Pages.files c.args.folder.now)) contents reads)
+    ∙ ap items_of (nil_from_length c.in_ok-entries.entries.items none)
 
 pub build_of-requires-after_bounds : goal.build_of-requires-after_bounds
 build_of-requires-after_bounds g c = λ lifetimes outlive.
@@ -81,18 +83,31 @@ returns-clause-gathered g c = λ n is.
     c.in_ok-build_of.ensures.uncrowded)
 
 pub returns-clause-makes : goal.returns-clause-makes
-returns-clause-makes g c = λ told agrees contents reads.
+returns-clause-makes g c = λ told contents reads.
     let has = c.in_ok-build_of.ensures.has in
     subst (λ (es : List Item). HoldsLive g.row.D es c.in_ok-build_of.field-0)
-    (ap items_of c.as_mut_slice.ensures.value ∙ c.in_ok-entries.ensures.entries told agrees contents reads)
+    (ap items_of c.as_mut_slice.ensures.value
+    ∙ c.in_ok-entries.ensures.entries told (c.in_ok-once.ensures.agrees (g.F.Pages.files c.args.folder.now)) contents reads)
     (holds_live g.row.D (items_of c.as_mut_slice.result.now) has.0 c.in_ok-build_of.field-0 has.1 has.2 c.in_ok-build_of.ensures.live.1)
 
 pub returns-clause-cause : goal.returns-clause-cause
 returns-clause-cause g c = record { later = c.in_ok-entries.ensures.cause.later; fine = c.in_ok-entries.ensures.cause.fine; failed = λ h. cc }
 
+pub returns-in_err-entries-clause-files : goal.returns-in_err-entries-clause-files
+returns-in_err-entries-clause-files g c = c.gather.ensures.calm.files
+
+pub returns-then-is_empty-clause-files : goal.returns-then-is_empty-clause-files
+returns-then-is_empty-clause-files g c = c.gather.ensures.calm.files
+
+pub returns-in_err-build_of-clause-files : goal.returns-in_err-build_of-clause-files
+returns-in_err-build_of-clause-files g c = c.gather.ensures.calm.files
+
+pub returns-clause-files : goal.returns-clause-files
+returns-clause-files g c = c.gather.ensures.calm.files
+
 pub returns-in_err-entries-clause-shown : goal.returns-in_err-entries-clause-shown
 returns-in_err-entries-clause-shown g c =
-    let p = err_from_is_err_and c.from_residual.result c.from_residual.ensures.1 in
+    let p = err_from_is_err_and c.from_residual-in_err-entries.result c.from_residual-in_err-entries.ensures.1 in
     λ names now. rw (p.1, p.2)
     (on_damage {T = Unit {0}} (IsPartDamage g.row.D (parts_among c.args.ids.now c.args.segments.now))
     (IsMergeDamage g.row.D c.args.plan.now.given names now c.args.segments.now) (Err c.in_err-entries.field-0.0)
@@ -100,18 +115,19 @@ returns-in_err-entries-clause-shown g c =
 
 pub returns-in_err-entries-clause-damage : goal.returns-in_err-entries-clause-damage
 returns-in_err-entries-clause-damage g c =
-    let p = err_from_is_err_and c.from_residual.result c.from_residual.ensures.1 in
-    λ told agrees. rw (p.1, p.2)
+    let p = err_from_is_err_and c.from_residual-in_err-entries.result c.from_residual-in_err-entries.ensures.1 in
+    λ told. rw (p.1, p.2)
     (on_damage {T = Unit {0}} (IsLeafDamageOf (g.F.Pages.files c.args.folder.now)) (IsMergeDamageOf (g.F.Pages.files c.gather.new.folder) c.args.plan.now.given)
     (Err c.in_err-entries.field-0.0)
-    (λ d h. inl (subst (λ f. IsLeafDamageOf f d) (sym (c.in_err-entries.ensures.calm.files told)) h)) (c.in_err-entries.ensures.damage told agrees))
+    (λ d h. inl (subst (λ f. IsLeafDamageOf f d) (sym (c.in_err-entries.ensures.calm.files told)) h))
+    (c.in_err-entries.ensures.damage told (c.in_ok-once.ensures.agrees (g.F.Pages.files c.args.folder.now))))
 
 pub returns-in_err-entries-clause-doubled : goal.returns-in_err-entries-clause-doubled
 returns-in_err-entries-clause-doubled g c =
-    let p = err_from_is_err_and c.from_residual.result c.from_residual.ensures.1 in
-    λ told agrees contents reads. rw (p.1, p.2)
+    let p = err_from_is_err_and c.from_residual-in_err-entries.result c.from_residual-in_err-entries.ensures.1 in
+    λ told contents reads. rw (p.1, p.2)
     (whole_shows {T = Unit {0}} (IsDoubt c.args.plan.now.given (live_in_parts contents c.args.segments.now)) (Err c.in_err-entries.field-0.0)
-    (c.in_err-entries.ensures.whole told agrees contents reads))
+    (c.in_err-entries.ensures.whole told (c.in_ok-once.ensures.agrees (g.F.Pages.files c.args.folder.now)) contents reads))
 
 pub returns-in_err-build_of-clause-shown : goal.returns-in_err-build_of-clause-shown
 returns-in_err-build_of-clause-shown g c =
@@ -124,7 +140,7 @@ returns-in_err-build_of-clause-shown g c =
 pub returns-in_err-build_of-clause-damage : goal.returns-in_err-build_of-clause-damage
 returns-in_err-build_of-clause-damage g c =
     let p = err_from_is_err_and c.from_residual-in_err-build_of.result c.from_residual-in_err-build_of.ensures.1 in
-    λ told agrees. rw (p.1, p.2)
+    λ told. rw (p.1, p.2)
     (on_damage {T = Unit {0}} (IsDoubt c.args.plan.now.given (items_of c.as_mut_slice.result.now))
     (IsMergeDamageOf (g.F.Pages.files c.gather.new.folder) c.args.plan.now.given) (Err c.in_err-build_of.field-0.0)
     (λ d h. inr (items_of c.as_mut_slice.result.now, h)) c.in_err-build_of.ensures.shown)
@@ -132,9 +148,10 @@ returns-in_err-build_of-clause-damage g c =
 pub returns-in_err-build_of-clause-doubled : goal.returns-in_err-build_of-clause-doubled
 returns-in_err-build_of-clause-doubled g c =
     let p = err_from_is_err_and c.from_residual-in_err-build_of.result c.from_residual-in_err-build_of.ensures.1 in
-    λ told agrees contents reads.
+    λ told contents reads.
     let same : items_of c.as_mut_slice.result.now ≡ live_in_parts contents (parts_among c.args.ids.now c.args.segments.now) =
-    ap items_of c.as_mut_slice.ensures.value ∙ c.in_ok-entries.ensures.entries told agrees contents reads in
+    ap items_of c.as_mut_slice.ensures.value
+    ∙ c.in_ok-entries.ensures.entries told (c.in_ok-once.ensures.agrees (g.F.Pages.files c.args.folder.now)) contents reads in
     rw (p.1, p.2)
     (on_damage {T = Unit {0}} (IsDoubt c.args.plan.now.given (items_of c.as_mut_slice.result.now))
     (IsDoubt c.args.plan.now.given (live_in_parts contents c.args.segments.now)) (Err c.in_err-build_of.field-0.0)
@@ -143,16 +160,16 @@ returns-in_err-build_of-clause-doubled g c =
 
 pub returns-in_err-entries-clause-evident : goal.returns-in_err-entries-clause-evident
 returns-in_err-entries-clause-evident g c =
-    let p = err_from_is_err_and c.from_residual.result c.from_residual.ensures.1 in
+    let p = err_from_is_err_and c.from_residual-in_err-entries.result c.from_residual-in_err-entries.ensures.1 in
     let files = g.F.Pages.files c.args.folder.now in
     let parts = c.args.segments.now in
-    let told = IsTrue g.F.Pages.told × Agrees files c.args.cache.now × All (HasFileHead g.row.D files) parts × AreAlone parts in
+    let told = IsTrue g.F.Pages.told × All (HasFileHead g.row.D files) parts × AreAlone parts in
     rw (p.1, p.2)
     (on_evident_at {X = Unit {0}} (λ f. IsCrowdedIn g.row.D f parts) told told files (g.F.Pages.files c.gather.new.folder) (Err c.in_err-entries.field-0.0)
     (λ t. t) (λ t. c.in_err-entries.ensures.calm.files t.0)
     (on_part_evident {X = Unit {0}} (IsCrowdedIn g.row.D files parts) told g.row.D files (parts_among c.args.ids.now parts) (Err c.in_err-entries.field-0.0)
-    (λ t. All-filter (λ (q : LiveSegment). is_among c.args.ids.now q.head.id) (HasFileHead g.row.D files) parts t.2)
-    (λ t. c.in_err-entries.ensures.damage t.0 t.1)
+    (λ t. All-filter (λ (q : LiveSegment). is_among c.args.ids.now q.head.id) (HasFileHead g.row.D files) parts t.1)
+    (λ t. c.in_err-entries.ensures.damage t.0 (c.in_ok-once.ensures.agrees files))
     c.in_err-entries.ensures.shown))
 
 pub returns-in_err-build_of-clause-evident : goal.returns-in_err-build_of-clause-evident
@@ -162,12 +179,13 @@ returns-in_err-build_of-clause-evident g c =
     let after = g.F.Pages.files c.gather.new.folder in
     let parts = c.args.segments.now in
     let some = parts_among c.args.ids.now parts in
-    let told = IsTrue g.F.Pages.told × Agrees files c.args.cache.now × All (HasFileHead g.row.D files) parts × AreAlone parts in
+    let told = IsTrue g.F.Pages.told × All (HasFileHead g.row.D files) parts × AreAlone parts in
     rw (p.1, p.2)
     (on_damage {T = Unit {0}} (IsDoubt c.args.plan.now.given (items_of c.as_mut_slice.result.now)) (IsEvidentIn g.row.D parts told after)
     (Err c.in_err-build_of.field-0.0)
-    (λ d h. doubt_evident told g.row.D after c.args.plan.now.given c.args.ids.now parts (items_of c.as_mut_slice.result.now) d (λ t. t.3)
+    (λ d h. doubt_evident told g.row.D after c.args.plan.now.given c.args.ids.now parts (items_of c.as_mut_slice.result.now) d (λ t. t.2)
     (λ t. subst (λ (f : Files). ∥ AreHeld g.row.D f some (items_of c.as_mut_slice.result.now) ∥₁) (sym (c.gather.ensures.calm.files t.0))
     (subst (λ (es : List (Entry g.row.D)). ∥ AreHeld g.row.D files some (items_of es) ∥₁) (sym c.as_mut_slice.ensures.value)
-    (gathered_of_files g.row.D files c.args.ids.now parts (items_of c.in_ok-entries.entries.items) t.2 (c.in_ok-entries.ensures.held t.0 t.1))))
+    (gathered_of_files g.row.D files c.args.ids.now parts (items_of c.in_ok-entries.entries.items) t.1
+    (c.in_ok-entries.ensures.held t.0 (c.in_ok-once.ensures.agrees files)))))
     h) c.in_err-build_of.ensures.shown)

@@ -2,7 +2,6 @@ use Rattle.std.proofs.Common.{◌≡◌, All, IsTrue, None, Option, subst, ap, �
 use Rattle.std.specs.Option.{option_copied}
 use Rattle.segment_set.proofs.Rearranged.{both_ok}
 use Rattle.std.proofs.lemmas.Result.{err_from_is_err_and, on_ok_weaker}
-use Rattle.page_cache.specs.Cache.{Agrees}
 use Rattle.segment_build.specs.NewSegments.{NewSegmentData}
 use Rattle.segment_set.specs.Merges.{Replaces, living}
 use Rattle.segment_set.specs.Damages.{IsDoubt, IsMergeDamage, IsMergeDamageOf}
@@ -18,7 +17,7 @@ use Rattle.segment_set.proofs.rewriting.merge.Goals as goal
 pub returns-in_err-built-clause-whole : goal.returns-in_err-built-clause-whole
 returns-in_err-built-clause-whole g c =
     let p = err_from_is_err_and c.from_residual.result c.from_residual.ensures.1 in
-    λ told agrees contents reads next make few. rw (p.1, p.2) (c.in_err-built.ensures.whole told agrees contents reads next make few)
+    λ told contents reads next make few. rw (p.1, p.2) (c.in_err-built.ensures.whole told contents reads next make few)
 
 pub returns-clause-merged : goal.returns-clause-merged
 returns-clause-merged g c =
@@ -47,23 +46,23 @@ returns-in_err-built-clause-shown g c =
 pub returns-in_err-built-clause-damage : goal.returns-in_err-built-clause-damage
 returns-in_err-built-clause-damage g c =
     let p = err_from_is_err_and c.from_residual.result c.from_residual.ensures.1 in
-    λ told agrees. rw (p.1, p.2) (c.in_err-built.ensures.damage told agrees)
+    λ told. rw (p.1, p.2) (c.in_err-built.ensures.damage told)
 
 pub returns-in_err-built-clause-doubled : goal.returns-in_err-built-clause-doubled
 returns-in_err-built-clause-doubled g c =
     let p = err_from_is_err_and c.from_residual.result c.from_residual.ensures.1 in
-    λ told agrees contents reads. rw (p.1, p.2) (c.in_err-built.ensures.doubled told agrees contents reads)
+    λ told contents reads. rw (p.1, p.2) (c.in_err-built.ensures.doubled told contents reads)
 
 pub returns-clause-shown : goal.returns-clause-shown
 returns-clause-shown g c =
     whole_shows (IsMergeDamage g.row.D c.args.plan.now.given c.args.names.now c.replace.new.names c.args.segments.now) c.replace.result c.replace.ensures.whole
 
 pub returns-clause-damage : goal.returns-clause-damage
-returns-clause-damage g c = λ told agrees.
+returns-clause-damage g c = λ told.
     whole_shows (IsMergeDamageOf (g.F.Pages.files c.replace.new.folder) c.args.plan.now.given) c.replace.result c.replace.ensures.whole
 
 pub returns-clause-doubled : goal.returns-clause-doubled
-returns-clause-doubled g c = λ told agrees contents reads.
+returns-clause-doubled g c = λ told contents reads.
     whole_shows (IsDoubt c.args.plan.now.given (live_in_parts contents c.args.segments.now)) c.replace.result c.replace.ensures.whole
 
 pub returns-in_err-built-clause-evident : goal.returns-in_err-built-clause-evident
@@ -75,5 +74,5 @@ pub returns-clause-evident : goal.returns-clause-evident
 returns-clause-evident g c =
     let files = g.F.Pages.files c.args.folder.now in
     none_with (IsCrowdedIn g.row.D (g.F.Pages.files c.replace.new.folder) c.args.segments.now)
-    (IsTrue g.F.Pages.told × Agrees files c.args.cache.now × All (HasFileHead g.row.D files) c.args.segments.now × AreAlone c.args.segments.now)
+    (IsTrue g.F.Pages.told × All (HasFileHead g.row.D files) c.args.segments.now × AreAlone c.args.segments.now)
     (g.F.Pages.files c.replace.new.folder) c.replace.result c.replace.ensures.whole

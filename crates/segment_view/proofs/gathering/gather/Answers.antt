@@ -74,7 +74,7 @@ returns-in_err-gather_one-clause-calm g c =
 
 pub returns-in_err-gather_one-clause-shown : goal.returns-in_err-gather_one-clause-shown
 returns-in_err-gather_one-clause-shown g c =
-    let e = err_from_is_err_and c.from_residual.result c.from_residual.ensures.1 in
+    let e = err_from_is_err_and c.from_residual-in_err-gather_one.result c.from_residual-in_err-gather_one.ensures.1 in
     let p = live_segment c.part.result.0.now c.part.result.1.now in
     rw (e.1, e.2)
     (part_among {T = Unit {0}} g.row.D c.args.ids.now c.args.segments.now p (part_in c.args.segments.now c.loop-i.i p c.part.ensures)
@@ -86,7 +86,7 @@ returns-in_err-gather_one-clause-whole g c = λ told agrees es read.
     let p = live_segment c.part.result.0.now c.part.result.1.now in
     let calm = c.loop-i.invariant.calm in
     let files = g.F.Pages.files c.args.folder.now in
-    let e = err_from_is_err_and c.from_residual.result c.from_residual.ensures.1 in
+    let e = err_from_is_err_and c.from_residual-in_err-gather_one.result c.from_residual-in_err-gather_one.ensures.1 in
     rw (e.1, e.2)
     (c.in_err-gather_one.ensures.whole told
     (agrees_after g.F.Pages.told files (g.F.Pages.files c.loop-i.folder) c.args.cache.now c.loop-i.cache (ids_of (parts_among c.args.ids.now parts)) calm told

@@ -12,7 +12,7 @@ invariant-loop-i g l = record {
   few_touched : l.all.touched ≤ l.i * 8388608;
   few_leaves : l.all.leaves ≤ l.i * 8388608;
   tests : g.S.Shape.tests l.shape ≡ g.S.Shape.tests l.initial.shape;
-  compares : g.S.Shape.compares l.shape ≤ g.S.Shape.compares l.initial.shape + leaves_in (heads_of (take l.i l.segments));
+  compares : g.S.Shape.compares l.shape ≤ g.S.Shape.compares l.initial.shape + 2 * leaves_in (heads_of (take l.i l.segments));
   has : g.S.Shape.has l.shape ≡ g.S.Shape.has l.initial.shape;
   crosses : g.S.Shape.crosses l.shape ≡ g.S.Shape.crosses l.initial.shape;
 }

@@ -3,6 +3,7 @@ use Rattle.inner_pack.specs.Trees.{IndexTree}
 use Rattle.segment_file.specs.Heads.{Head, count_of}
 use Rattle.bkd_reader.specs.Counts.{tested_entries, touched_leaves}
 use Rattle.bkd_reader.proofs.Trees.{tree_count}
+use Rattle.bkd_reader.proofs.Uncrossed.{asked_most}
 use Rattle.segment_view.proofs.Counting.{counted_one, le_by_tree, same_by_tree, tested-le, touched-le, count-le}
 use Rattle.segment_view.proofs.surveys.survey_one.Goals as goal
 
@@ -28,7 +29,8 @@ returns-clause-compares g c =
     (λ root t has.
     let e = tree_count g.row.D c.args.head.now.index root t has in
     let m = c.survey.ensures.compares root t has in
-    omega (arith, e, m))
+    let most = asked_most (g.S.Shape.crosses c.args.shape.now) root t in
+    omega (arith, e, m, most))
 
 pub returns-clause-few_tested : goal.returns-clause-few_tested
 returns-clause-few_tested g c =

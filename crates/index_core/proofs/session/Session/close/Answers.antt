@@ -1,6 +1,6 @@
 -- All is committed, and what the session held is swept away.
 use Rattle.std.proofs.Common.{◌≡◌, IsTrue, List, Err, Some, is_some, sym, ap, subst, ◌∙◌, ⊎_elim}
-use Rattle.std.proofs.lemmas.Result.{err_from_is_err_and}
+use Rattle.std.proofs.lemmas.Result.{err_from_is_err_and, on_ok_weaker}
 use Rattle.std.specs.List.{Contains}
 use Rattle.page_cache.specs.declared.faults.PageFault.{PageFault}
 use Rattle.stored_index.specs.Kept.{SameKept}
@@ -14,7 +14,7 @@ use Rattle.segment_set.proofs.Sizes.{set_fits}
 use Rattle.index_core.specs.Closed.{IsTracked, NamesOnlyListed}
 use Rattle.index_core.specs.Sessions.{Guards, SessionData}
 use Rattle.index_core.specs.Steps.{SaysCommit}
-use Rattle.index_core.proofs.FaultCauses.{cause_then, fault_cause}
+use Rattle.index_core.proofs.FaultCauses.{fault_cause}
 use Rattle.index_core.proofs.Bringing.{brings_still, brings_then}
 use Rattle.index_core.proofs.Brought.{commit_swept}
 use Rattle.index_core.proofs.Owned.{own_swept}
@@ -25,8 +25,8 @@ use Rattle.index_core.proofs.Sizes.{session_fits}
 use Rattle.index_core.proofs.Undone.{undone_written}
 use Rattle.index_core.proofs.session.Session.close.Given as given
 use Rattle.index_core.proofs.session.Session.close.Goals as goal
-use Rattle.index_core.proofs.Adding.{on_ok_map}
 use Rattle.segment_set.proofs.Snapped.{set_rested}
+use Rattle.segment_set.proofs.Saving.{cause_after}
 
 -- the set after its snapshots and its begun merge went
 eased : (g : given.Over) (c : goal.After-sweep g) → c.rest.new.self ≡ set_rested c.commit.new.self.set
@@ -68,7 +68,7 @@ sweep-requires g c = (
 )
 
 pub returns-clause-closed : goal.returns-clause-closed
-returns-clause-closed g c = on_ok_map c.sweep.result (λ needed. record {
+returns-clause-closed g c = on_ok_weaker c.sweep.result (λ needed. record {
   seen = λ told i seen. c.sweep.ensures.seen told (at_rest i)
       (c.rest.ensures.seen _ i (subst (λ (u : SessionData). Sees g.row.D (g.F.Pages.files c.commit.new.folder) u.set i) (sym c.self.view_is)
       (c.commit.ensures.seen told i seen)));
@@ -138,7 +138,7 @@ returns-clause-canon g c told =
 
 pub returns-clause-faults : goal.returns-clause-faults
 returns-clause-faults g c = record {
-  cause = cause_then _ _ _ c.sweep.result c.in_ok-commit.ensures.faults.cause.fine c.sweep.ensures.faults.cause;
+  cause = cause_after _ _ _ c.sweep.result c.in_ok-commit.ensures.faults.cause.fine c.sweep.ensures.faults.cause;
   whole = λ told i seen. c.sweep.ensures.faults.whole;
   evident = none_evident _ _ _ c.sweep.ensures.faults.whole;
 }

@@ -28,7 +28,7 @@ use Rattle.index_model.specs.State.{at_rest}
 use Rattle.index_core.specs.Damages.{ShowsMerge}
 use Rattle.index_core.proofs.Showing.{damage_to, merge_none, merge_to}
 use Rattle.index_core.proofs.Answering.{no_cause}
-use Rattle.index_core.proofs.FaultCauses.{cause_then, fault_cause}
+use Rattle.index_core.proofs.FaultCauses.{fault_cause}
 use Rattle.index_core.proofs.Lightly.{commits_few}
 use Rattle.index_core.proofs.Tracing.{traced_by, traced_shows}
 use Rattle.index_core.proofs.Undone.{few_listed, undone_flight, undone_kept, undone_written}
@@ -37,6 +37,7 @@ use Rattle.index_opening.specs.Evidence.{IsEvident}
 use Rattle.segment_set.specs.Faithful.{IsFaithful}
 use Rattle.index_opening.proofs.Evident.{none_evident}
 use Rattle.index_core.proofs.session.Session.commit.Goals as goal
+use Rattle.segment_set.proofs.Saving.{cause_after}
 
 pub save-requires-after_bounds : goal.save-requires-after_bounds
 save-requires-after_bounds g c κs = λ _. set_fits g.row.D c.self.invariant.few
@@ -194,7 +195,7 @@ returns-in_err-write g c =
           (subst (λ (u : SetData). Follows c.self.inside.set.names c.self.inside.set.parts u.parts) (sym c.write.ensures.set) c.save.ensures.rewrites.follows);
       faults = record {
         cause =
-            fault_cause _ _ fault _ error (cause_then {T = Unit {0}} _ _ _ (Err fault) c.in_ok-commit.ensures.cause.fine c.in_err-write.ensures.faults.cause);
+            fault_cause _ _ fault _ error (cause_after {T = Unit {0}} _ _ _ (Err fault) c.in_ok-commit.ensures.cause.fine c.in_err-write.ensures.faults.cause);
         whole = λ told i seen. damage_to _ _ fault error c.in_err-write.ensures.faults.whole;
         evident = none_evident _ _ _ (damage_to _ _ fault error c.in_err-write.ensures.faults.whole);
       };
@@ -290,7 +291,7 @@ returns g c =
           (subst (Follows c.self.inside.set.names c.self.inside.set.parts)
           (sym (ap (λ (u : SetData). u.parts) c.sweep.ensures.alone.is ∙ ap (λ (u : SetData). u.parts) c.write.ensures.set)) c.save.ensures.rewrites.follows);
       faults = record {
-        cause = cause_then _ _ _ c.sweep.result (c.in_ok-write.ensures.faults.cause.fine ∙ c.in_ok-commit.ensures.cause.fine) c.sweep.ensures.faults.cause;
+        cause = cause_after _ _ _ c.sweep.result (c.in_ok-write.ensures.faults.cause.fine ∙ c.in_ok-commit.ensures.cause.fine) c.sweep.ensures.faults.cause;
         whole = λ told i seen. c.sweep.ensures.faults.whole;
         evident = none_evident _ _ _ c.sweep.ensures.faults.whole;
       };

@@ -17,9 +17,10 @@ use Rattle.index_core.proofs.Bringing.{brings_written}
 use Rattle.index_core.proofs.Guarding.{grows_same}
 use Rattle.page_cache.specs.Evidence.{NotDamaged}
 use Rattle.page_cache.specs.declared.faults.PageFault.TheVariants as page
-use Rattle.index_core.proofs.Showing.{damage_none, damage_to}
+use Rattle.index_core.proofs.Showing.{damage_to}
 use Rattle.index_core.proofs.Keeping.{answer_keeps, end_keeps, fault_keeps, still_same}
 use Rattle.index_core.proofs.session.Session.merge_end.Goals as goal
+use Rattle.segment_set.proofs.Doubted.{whole_shows}
 
 pub returns-then-not-is_merging-clause-applies : goal.returns-then-not-is_merging-clause-applies
 returns-then-not-is_merging-clause-applies g c = applies_refused _ _ _ _ _ _ _ why.NotBegun
@@ -54,7 +55,7 @@ returns-clause-applies g c =
     (begins_with _ _ _ c.in_ok-put_ok.ensures.ok)
     (cause_end _ _ c.merge_end.result (λ e. both_ways (is_some c.self.inside.set.begun) (c.merge_end.ensures.not_begun.0 e) some) c.merge_end.ensures.cause)
     (λ told i seen. whole_end c.merge_end.result c.merge_end.ensures.whole)
-    (damage_none _ _ (whole_end c.merge_end.result c.merge_end.ensures.whole))))
+    (whole_shows _ _ (whole_end c.merge_end.result c.merge_end.ensures.whole))))
 
 pub is_merging-requires : goal.is_merging-requires
 is_merging-requires g c = set_fits g.row.D c.self.invariant.few

@@ -13,11 +13,12 @@ use Rattle.segment_set.proofs.Sizes.{set_fits}
 use Rattle.std.proofs.Common.{sym, subst}
 use Rattle.page_cache.specs.Evidence.{NotDamaged}
 use Rattle.page_cache.specs.declared.faults.PageFault.TheVariants as page
-use Rattle.index_core.proofs.Showing.{damage_none, damage_to}
+use Rattle.index_core.proofs.Showing.{damage_to}
 use Rattle.std.proofs.Common.{refl}
 use Rattle.index_core.proofs.Keeping.{answer_keeps, err_each, fault_keeps, snap_keeps, still_seen, still_set}
 use Rattle.index_core.proofs.Lightly.{light_same, light_snapped}
 use Rattle.index_core.proofs.session.Session.snapshot.Goals as goal
+use Rattle.segment_set.proofs.Doubted.{whole_shows}
 
 pub returns-in_err-put_ok-clause-applies : goal.returns-in_err-put_ok-clause-applies
 returns-in_err-put_ok-clause-applies g c files faults =
@@ -37,7 +38,7 @@ returns-clause-applies g c files faults =
     (λ told i seen. does_snapshot _ _ _ _ i _ c.snapshot.result _ _ seen (c.snapshot.ensures.seen files i seen) c.snapshot.ensures.refused
     c.snapshot.ensures.taken c.snapshot.ensures.too_many grew)
     (begins_after (snap_answer c.snapshot.result) _ ok_text _ grew) (cause_snap faults c.snapshot.result) (λ told i seen. whole_snap c.snapshot.result)
-    (damage_none _ _ (whole_snap c.snapshot.result))))
+    (whole_shows _ _ (whole_snap c.snapshot.result))))
 
 pub snapshot-requires : goal.snapshot-requires
 snapshot-requires g c = set_fits g.row.D c.self.invariant.few

@@ -1,8 +1,7 @@
-use Rattle.std.proofs.Common.{◌≡◌, ◌≤◌, length, lit<, IsTrue, refl, sym, ap, subst, ◌∙◌}
+use Rattle.std.proofs.Common.{◌≡◌, ◌≤◌, length, lit<, IsTrue, refl, sym, ap, subst, ◌∙◌, inl}
 use Rattle.std.specs.Result.{OnOk}
 use Rattle.std.proofs.lemmas.Result.{on_err_weaker, on_ok_weaker}
 use Rattle.documents.proofs.Kept.{among_to}
-use Rattle.page_cache.specs.Cache.{Agrees}
 use Rattle.page_cache.specs.Evidence.{OnDamage}
 use Rattle.segment_view.specs.LiveSegments.{AreRead, ids_of, live_in_parts, parts_among}
 use Rattle.segment_set.specs.Sets.{SetData, inputs_of}
@@ -41,7 +40,7 @@ was g c = record {
 
 -- and as it is
 abbrev is : (g : given.Over) (c : goal.After-merge g) → SetData
-is g c = moved (was g c) c.merge.new.names c.merge.new.segments c.self.inside.buffer.items c.self.inside.begun c.merge.new.cache
+is g c = moved (was g c) c.merge.new.names c.merge.new.segments c.self.inside.buffer.items c.self.inside.begun c.self.inside.cache
 
 apart : (g : given.Over) (c : goal.After-merge g) → IsApart c.args.ids.now (inputs_of c.self.inside.begun) c.self.inside.segments
 apart g c = subst (λ (s : SetData). IsApart c.args.ids.now (inputs_of s.begun) s.parts) (sym c.self.view_is) c.requires
@@ -49,21 +48,19 @@ apart g c = subst (λ (s : SetData). IsApart c.args.ids.now (inputs_of s.begun) 
 merged : (g : given.Over) (c : goal.After-merge g)
     → OnOk c.merge.result
     (IsMerged g.row.D (IsTrue g.F.Pages.told) c.self.inside.leaf c.self.inside.names c.merge.new.names (g.F.Pages.files c.args.folder.now)
-    (g.F.Pages.files c.merge.new.folder) c.self.inside.cache c.args.ids.now
-    c.self.inside.segments c.merge.new.segments)
+    (g.F.Pages.files c.merge.new.folder) c.args.ids.now c.self.inside.segments c.merge.new.segments)
 merged g c =
     subst (λ n. OnOk c.merge.result
     (IsMerged g.row.D (IsTrue g.F.Pages.told) n c.self.inside.names c.merge.new.names (g.F.Pages.files c.args.folder.now) (g.F.Pages.files c.merge.new.folder)
-    c.self.inside.cache c.args.ids.now
-    c.self.inside.segments c.merge.new.segments))
+    c.args.ids.now c.self.inside.segments c.merge.new.segments))
     (c.plan-plan.ensures.leaf ∙ sym (ap (λ (s : SetData). s.leaf) c.self.view_is)) c.merge.ensures.merged
 
 after : (g : given.Over) (c : goal.After-merge g)
     → IsAfter g.row.D (IsTrue g.F.Pages.told) (g.F.Pages.files c.args.folder.now) (g.F.Pages.files c.merge.new.folder) (was g c) (is g c)
 after g c =
     merge_after g.row.D (IsTrue g.F.Pages.told) (g.F.Pages.files c.args.folder.now) (g.F.Pages.files c.merge.new.folder) {s = was g c} c.self.invariant
-    c.merge.new.names c.args.ids.now c.merge.new.segments c.merge.new.cache
-    c.merge.ensures.kept (apart g c).apart c.merge.ensures.agrees c.merge.ensures.others c.merge.result (merged g c) c.merge.ensures.refused
+    c.merge.new.names c.args.ids.now c.merge.new.segments c.self.inside.cache
+    c.merge.ensures.kept (apart g c).apart (λ told agrees. agrees) (λ id keeps. inl keeps) c.merge.result (merged g c) c.merge.ensures.refused
 
 pub plan-plan-requires : goal.plan-plan-requires
 plan-plan-requires g c = (set_fits g.row.D c.self.invariant.few_dims, lit< tt)
@@ -93,15 +90,15 @@ moves : (g : given.Over) (c : goal.After-merge g)
     → Rearranges g.row.D (IsTrue g.F.Pages.told) (g.F.Pages.files c.args.folder.now) (g.F.Pages.files c.merge.new.folder) (was g c) (is g c)
 moves g c =
     rearranges_after g.row.D (IsTrue g.F.Pages.told) (g.F.Pages.files c.args.folder.now) (g.F.Pages.files c.merge.new.folder) {s = was g c} c.merge.new.names
-    c.merge.new.segments c.self.inside.buffer.items c.merge.new.cache
+    c.merge.new.segments c.self.inside.buffer.items c.self.inside.cache
     c.merge.ensures.kept (after g c)
 
 entries : (g : given.Over) (c : goal.After-merge g)
     → KeepsEntries g.row.D (IsTrue g.F.Pages.told) (g.F.Pages.files c.args.folder.now) (g.F.Pages.files c.merge.new.folder) (was g c) (is g c)
 entries g c =
     entries_merged g.row.D (IsTrue g.F.Pages.told) (g.F.Pages.files c.args.folder.now) (g.F.Pages.files c.merge.new.folder) {s = was g c} c.self.invariant
-    c.merge.new.names c.args.ids.now c.merge.new.segments c.merge.new.cache
-    c.merge.ensures.kept c.merge.ensures.agrees c.merge.ensures.others c.merge.result (merged g c) c.merge.ensures.refused
+    c.merge.new.names c.args.ids.now c.merge.new.segments c.self.inside.cache
+    c.merge.ensures.kept (λ told agrees. agrees) (λ id keeps. inl keeps) c.merge.result (merged g c) c.merge.ensures.refused
 
 pub returns-clause-moves : goal.returns-clause-moves
 returns-clause-moves g c =
@@ -122,10 +119,13 @@ returns-clause-faithful g c = λ told faithful.
 pub returns-clause-buffer : goal.returns-clause-buffer
 returns-clause-buffer g c = ap (λ (s : SetData). s.buffer) c.self.view_is
 
+pub returns-clause-cache : goal.returns-clause-cache
+returns-clause-cache g c = ap (λ (s : SetData). s.cache) c.self.view_is
+
 pub returns-clause-merged : goal.returns-clause-merged
 returns-clause-merged g c =
     subst (λ (s : SetData). OnOk c.merge.result
-    (IsMerged g.row.D (IsTrue g.F.Pages.told) s.leaf s.names c.merge.new.names (g.F.Pages.files c.args.folder.now) (g.F.Pages.files c.merge.new.folder) s.cache
+    (IsMerged g.row.D (IsTrue g.F.Pages.told) s.leaf s.names c.merge.new.names (g.F.Pages.files c.args.folder.now) (g.F.Pages.files c.merge.new.folder)
     c.args.ids.now s.parts c.merge.new.segments))
     c.self.view_is (merged g c)
 
@@ -145,7 +145,7 @@ returns-clause-damaged g c = record {
   whole = λ told i seen.
       let s = was g c in
       let h = subst (λ (u : SetData). Sees g.row.D (g.F.Pages.files c.args.folder.now) u i) (sym c.self.view_is) seen in
-      c.merge.ensures.whole told h.stands.agrees h.contents h.stands.now s.next (merge_docs g.row.D (g.F.Pages.files c.args.folder.now) s i h c.args.ids.now)
+      c.merge.ensures.whole told h.contents h.stands.now s.next (merge_docs g.row.D (g.F.Pages.files c.args.folder.now) s i h c.args.ids.now)
       (subst (λ n. length (live_in_parts h.contents (parts_among c.args.ids.now s.parts)) ≤ n)
       (ap (λ (u : SetData). u.given) c.self.view_is ∙ sym c.plan-plan.ensures.given)
       (merge_few g.row.D (g.F.Pages.files c.args.folder.now) s i h c.args.ids.now));
@@ -153,20 +153,20 @@ returns-clause-damaged g c = record {
       (subst (λ n. OnDamage c.merge.result (IsMergeDamage g.row.D n c.self.inside.names c.merge.new.names c.self.inside.segments)) (given_is g c)
       c.merge.ensures.shown);
   damage = λ told agrees. subst (λ n. OnDamage c.merge.result (IsMergeDamageOf (g.F.Pages.files c.merge.new.folder) n)) c.plan-plan.ensures.given
-      (c.merge.ensures.damage told (subst (λ (s : SetData). Agrees (g.F.Pages.files c.args.folder.now) s.cache) (sym c.self.view_is) agrees));
+      (c.merge.ensures.damage told);
   doubled = λ told agrees contents reads.
       subst (λ (s : SetData). OnDamage c.merge.result (IsDoubt s.given (live_in_parts contents s.parts))) c.self.view_is
       (subst (λ n. OnDamage c.merge.result (IsDoubt n (live_in_parts contents c.self.inside.segments))) (given_is g c)
-      (c.merge.ensures.doubled told (subst (λ (s : SetData). Agrees (g.F.Pages.files c.args.folder.now) s.cache) (sym c.self.view_is) agrees) contents
+      (c.merge.ensures.doubled told contents
       (subst (λ (s : SetData). AreRead g.row.D (g.F.Pages.files c.args.folder.now) contents s.parts) (sym c.self.view_is) reads)));
   evident = on_evident_set g.row.D g.F.Pages.told (g.F.Pages.files c.args.folder.now) (g.F.Pages.files c.merge.new.folder) (was g c) c.args.self.now
       c.merge.result c.self.view_is c.self.invariant.spread c.merge.ensures.evident;
 }
 
 pub returns-clause-alone : goal.returns-clause-alone
-returns-clause-alone g c = but_parts c.args.self.now (was g c) c.self.view_is c.merge.new.names c.merge.new.segments c.merge.new.cache
+returns-clause-alone g c = but_parts c.args.self.now (was g c) c.self.view_is c.merge.new.names c.merge.new.segments c.self.inside.cache
 
 pub returns-clause-refused : goal.returns-clause-refused
 returns-clause-refused g c = on_err_weaker c.merge.result
     (λ same. before_moved c.args.self.now (was g c) c.self.view_is c.merge.new.names c.merge.new.segments c.self.inside.buffer.items
-    c.merge.new.cache same refl) c.merge.ensures.refused
+    c.self.inside.cache same refl) c.merge.ensures.refused

@@ -26,6 +26,15 @@ returns-clause-moves g c = c.merge.ensures.moves
 pub returns-in_err-ids-clause-buffer : goal.returns-in_err-ids-clause-buffer
 returns-in_err-ids-clause-buffer g c = refl
 
+pub returns-in_err-ids-clause-cache : goal.returns-in_err-ids-clause-cache
+returns-in_err-ids-clause-cache g c = refl
+
+pub returns-then-is_settled-clause-cache : goal.returns-then-is_settled-clause-cache
+returns-then-is_settled-clause-cache g c = refl
+
+pub returns-clause-cache : goal.returns-clause-cache
+returns-clause-cache g c = c.merge.ensures.cache
+
 pub returns-in_err-ids-clause-moves : goal.returns-in_err-ids-clause-moves
 returns-in_err-ids-clause-moves g c =
     rearranges_none g.row.D (IsTrue g.F.Pages.told) (g.F.Pages.files c.args.folder.now) c.args.self.now c.unpinned.ensures.well.named
@@ -137,7 +146,7 @@ returns-clause-one g c = on_ok_weaker c.merge.result
     let s = c.args.self.now in
     let t = c.merge.new.self in
     subst (λ (b : Option BegunMerge). IsOne (parts_but (inputs_of b) t.parts)) (sym c.merge.ensures.moves.begun)
-    (merged_one g.row.D (IsTrue g.F.Pages.told) s.leaf s.names t.names (g.F.Pages.files c.args.folder.now) (g.F.Pages.files c.merge.new.folder) s.cache
+    (merged_one g.row.D (IsTrue g.F.Pages.told) s.leaf s.names t.names (g.F.Pages.files c.args.folder.now) (g.F.Pages.files c.merge.new.folder)
     (inputs_of s.begun) c.as_slice-2.result.now s.parts t.parts (c.as_slice-2.ensures.value ∙ c.in_ok-ids.ensures.all) (named g.row.D s c.unpinned.ensures.well)
     m)) c.merge.ensures.merged
 
@@ -147,7 +156,7 @@ returns-clause-all_live g c = λ told i sees. on_ok_weaker c.merge.result
     let s = c.args.self.now in
     let t = c.merge.new.self in
     subst (λ (b : Option BegunMerge). AllLive contents (parts_but (inputs_of b) t.parts)) (sym c.merge.ensures.moves.begun)
-    (merged_lives g.row.D (IsTrue g.F.Pages.told) s.leaf s.names t.names (g.F.Pages.files c.args.folder.now) (g.F.Pages.files c.merge.new.folder) s.cache
+    (merged_lives g.row.D (IsTrue g.F.Pages.told) s.leaf s.names t.names (g.F.Pages.files c.args.folder.now) (g.F.Pages.files c.merge.new.folder)
     (inputs_of s.begun) c.as_slice-2.result.now s.parts t.parts contents told (c.as_slice-2.ensures.value ∙ c.in_ok-ids.ensures.all)
     (named g.row.D s c.unpinned.ensures.well) m stands.now))
     c.merge.ensures.merged
@@ -160,7 +169,7 @@ returns-clause-merged g c = on_ok_weaker c.merge.result
     inr (record {
       merged = subst
           (λ (ns : List ℕ). IsMerged g.row.D (IsTrue g.F.Pages.told) s.leaf s.names t.names (g.F.Pages.files c.args.folder.now)
-          (g.F.Pages.files c.merge.new.folder) s.cache ns s.parts t.parts) (c.as_slice-2.ensures.value ∙ c.in_ok-ids.ensures.all) m;
+          (g.F.Pages.files c.merge.new.folder) ns s.parts t.parts) (c.as_slice-2.ensures.value ∙ c.in_ok-ids.ensures.all) m;
       alone = c.merge.ensures.alone;
     })) c.merge.ensures.merged
 

@@ -1,15 +1,15 @@
-use Rattle.std.proofs.Common.{◌≡◌, ◌≤◌, ◌<◌, ℕ, true, List, length, take, ltb, Some, Err, refl, sym, ap, subst, ◌∙◌, lit<}
+use Rattle.std.proofs.Common.{◌≡◌, ◌≤◌, ◌<◌, ℕ, true, List, length, take, ltb, Some, Err, refl, sym, ap, subst, ◌∙◌, inl, lit<}
 use Rattle.std.specs.Prelude.{IsTrue}
 use Rattle.std.specs.List.{All, filter}
 use Rattle.std.proofs.lemmas.Result.{err_from_is_err_and}
 use Rattle.outer_io.specs.Files.{Files}
 use Rattle.documents.specs.Entries.{is_among}
-use Rattle.page_cache.specs.Cache.{Agrees}
 use Rattle.page_cache.specs.Evidence.{OnDamage}
 use Rattle.segment_view.specs.LiveSegments.{AreRead, ids_of, live_in_parts, parts_among}
 use Rattle.segment_set.specs.declared.set.SegmentSet.TheInside.{Inside}
 use Rattle.segment_set.specs.Sets.{BegunMerge, SetData}
 use Rattle.segment_set.specs.Seen.{Sees}
+use Rattle.segment_set.specs.Faithful.{IsFaithful}
 use Rattle.segment_set.specs.Damages.{IsDoubt, IsMergeDamage, IsMergeDamageOf}
 use Rattle.segment_set.specs.Merged.{chosen_ids, each_once}
 use Rattle.segment_set.specs.Merges.{IsGathered, MakesLive}
@@ -19,10 +19,7 @@ use Rattle.segment_set.proofs.Moved.{moved}
 use Rattle.segment_set.proofs.Sizes.{set_fits}
 use Rattle.segment_set.proofs.Sources.{begun_seen, begun_well, chosen_few, chosen_is, chosen_there, gathered_merges, merge_docs, merge_few, places_within}
 use Rattle.segment_set.proofs.Spilled.{some_is}
-use Rattle.segment_set.proofs.Steps.{cached_more}
 use Rattle.segment_build.specs.NewSegments.{NewSegmentData}
-use Rattle.segment_set.proofs.Viewed.{looked_sees}
-use Rattle.segment_set.proofs.Well.{well_cache}
 use Rattle.segment_set.proofs.Trusted.{IsTrusted, faithful_looked, on_evident_set}
 use Rattle.segment_set.proofs.Shows.{shows_none}
 use Rattle.segment_set.proofs.set.SegmentSet.merge_begin.Given as given
@@ -68,19 +65,11 @@ returns-in_err-inputs-clause-damaged g c =
     shows_none g.row.D (IsTrue g.F.Pages.told) (g.F.Pages.files c.args.folder.now) (g.F.Pages.files c.args.folder.now) c.args.self.now _ _
     (λ P. rw (p.1, p.2) tt)
 
-pub invariant_of-self : goal.invariant_of-self
-invariant_of-self g c =
-    let well = c.self.invariant in
-    well_cache g.row.D (set_of c.self.inside) c.gathered.new.cache well
-    (cached_more c.self.inside.names c.self.inside.segments c.self.inside.cache c.gathered.new.cache c.as_slice-2.result.now well.named well.cached
-    c.gathered.ensures.calm.others)
-
 pub returns-in_err-built-clause-refused : goal.returns-in_err-built-clause-refused
 returns-in_err-built-clause-refused g c = λ told i seen.
     let p = err_from_is_err_and c.from_residual-in_err-built.result c.from_residual-in_err-built.ensures.1 in
     rw p.1
-    (looked_sees g.row.D g.F.Pages.told (g.F.Pages.files c.args.folder.now) (g.F.Pages.files c.gathered.new.folder) (set_of c.self.inside) c.args.self.now
-    (ids_of (parts_among c.as_slice-2.result.now c.self.inside.segments)) c.gathered.new.cache c.self.view_is c.gathered.ensures.calm told i seen)
+    (subst (λ (f : Files). Sees g.row.D f c.args.self.now i) (sym (c.gathered.ensures.files told)) seen)
 
 pub returns-in_err-built-clause-cause : goal.returns-in_err-built-clause-cause
 returns-in_err-built-clause-cause g c =
@@ -106,40 +95,37 @@ gathered_here g c n is =
     (subst (λ (ns : List ℕ). IsGathered g.row.D c.plan-plan.result.leaf (parts_among ns c.self.inside.segments) n) c.as_slice-2.ensures.value
     (c.in_ok-built.ensures.gathered n is))
 
-pub invariant_of-self-2 : goal.invariant_of-self-2
-invariant_of-self-2 g c =
+pub invariant_of-self : goal.invariant_of-self
+invariant_of-self g c =
     let well = c.self.invariant in
     let ids = ids_of c.self.inside.segments in
-    begun_well g.row.D {s = set_of c.self.inside} well (merge_of g c) c.gathered.new.cache
+    begun_well g.row.D {s = set_of c.self.inside} well (merge_of g c) c.self.inside.cache
     (subst (All (λ id. is_among ids id ≡ true)) (sym (chosen g c)) (chosen_there c.args.which.now ids))
     (subst (λ (ns : List ℕ). length ns ≤ 64) (sym (chosen g c)) (chosen_few c.args.which.now ids))
     (gathered_here g c)
-    (cached_more c.self.inside.names c.self.inside.segments c.self.inside.cache c.gathered.new.cache c.as_slice-2.result.now well.named well.cached
-    c.gathered.ensures.calm.others)
+    well.cached
 
 pub returns-clause-seen : goal.returns-clause-seen
 returns-clause-seen g c = λ told i seen.
     let h = subst (λ (u : SetData). Sees g.row.D (g.F.Pages.files c.args.folder.now) u i) (sym c.self.view_is) seen in
-    let calm = c.gathered.ensures.calm in
     subst (λ (f : Files). Sees g.row.D f
-    (moved (set_of c.self.inside) c.self.inside.names c.self.inside.segments c.self.inside.buffer.items (Some (merge_of g c)) c.gathered.new.cache)
+    (moved (set_of c.self.inside) c.self.inside.names c.self.inside.segments c.self.inside.buffer.items (Some (merge_of g c)) c.self.inside.cache)
     (record i { begun = true }))
-    (sym (calm.files told))
-    (begun_seen g.row.D (g.F.Pages.files c.args.folder.now) (set_of c.self.inside) i h (merge_of g c) c.gathered.new.cache
+    (sym (c.gathered.ensures.files told))
+    (begun_seen g.row.D (g.F.Pages.files c.args.folder.now) (set_of c.self.inside) i h (merge_of g c) c.self.inside.cache
     (gathered_merges g.row.D h.contents (parts_among c.in_ok-inputs.inputs.items c.self.inside.segments) c.in_ok-built.built
     (subst (λ (ns : List ℕ). MakesLive g.row.D (live_in_parts h.contents (parts_among ns c.self.inside.segments)) c.in_ok-built.built)
     c.as_slice-2.ensures.value
-    (c.in_ok-built.ensures.makes told h.stands.agrees h.contents h.stands.now)))
-    (calm.agrees told h.stands.agrees))
+    (c.in_ok-built.ensures.makes told h.contents h.stands.now)))
+    h.stands.agrees)
 
 pub returns-clause-inputs : goal.returns-clause-inputs
 returns-clause-inputs g c =
     (merge_of g c, refl, subst (λ (s : SetData). c.in_ok-inputs.inputs.items ≡ chosen_ids c.args.which.now (ids_of s.parts)) c.self.view_is (chosen g c))
 
 pub returns-in_err-built-clause-faithful : goal.returns-in_err-built-clause-faithful
-returns-in_err-built-clause-faithful g c =
-    faithful_looked g.row.D g.F.Pages.told (g.F.Pages.files c.args.folder.now) (g.F.Pages.files c.gathered.new.folder) (set_of c.self.inside) c.args.self.now
-    (ids_of (parts_among c.as_slice-2.result.now c.self.inside.segments)) c.self.inside.begun c.gathered.new.cache c.self.view_is c.gathered.ensures.calm
+returns-in_err-built-clause-faithful g c = λ told faithful.
+    subst (λ (f : Files). IsFaithful g.row.D f c.args.self.now) (sym (c.gathered.ensures.files told)) faithful
 
 pub returns-in_err-built-clause-damaged : goal.returns-in_err-built-clause-damaged
 returns-in_err-built-clause-damaged g c = record {
@@ -149,7 +135,7 @@ returns-in_err-built-clause-damaged g c = record {
       let h = subst (λ (u : SetData). Sees g.row.D (g.F.Pages.files c.args.folder.now) u i) (sym c.self.view_is) seen in
       rw (p.1, p.2)
       (begun_damage (Unit {0}) (Unit {0}) (λ _. ⊥) c.in_err-built.field-0.0
-      (c.in_err-built.ensures.whole told h.stands.agrees h.contents h.stands.now s.next
+      (c.in_err-built.ensures.whole told h.contents h.stands.now s.next
       (merge_docs g.row.D (g.F.Pages.files c.args.folder.now) s i h c.as_slice-2.result.now)
       (subst (λ n. length (live_in_parts h.contents (parts_among c.as_slice-2.result.now s.parts)) ≤ n)
       (ap (λ (u : SetData). u.given) c.self.view_is ∙ sym c.plan-plan.ensures.given)
@@ -157,20 +143,20 @@ returns-in_err-built-clause-damaged g c = record {
   shown =
       let p = err_from_is_err_and c.from_residual-in_err-built.result c.from_residual-in_err-built.ensures.1 in
       rw (p.1, p.2)
-      (begun_damage (Unit {0}) (Unit {0}) (IsMergeDamage g.row.D c.args.self.now.given c.args.self.now.names c.self.inside.names c.args.self.now.parts)
+      (begun_damage (Unit {0}) (Unit {0}) (IsMergeDamage g.row.D c.args.self.now.given c.args.self.now.names c.args.self.now.names c.args.self.now.parts)
       c.in_err-built.field-0.0
       (subst (λ n.
-      OnDamage {T = Unit {0}} (Err c.in_err-built.field-0.0) (IsMergeDamage g.row.D n c.args.self.now.names c.self.inside.names c.args.self.now.parts))
+      OnDamage {T = Unit {0}} (Err c.in_err-built.field-0.0) (IsMergeDamage g.row.D n c.args.self.now.names c.args.self.now.names c.args.self.now.parts))
       c.plan-plan.ensures.given
       (subst (λ (s : SetData).
-      OnDamage {T = Unit {0}} (Err c.in_err-built.field-0.0) (IsMergeDamage g.row.D c.plan-plan.result.given s.names c.self.inside.names s.parts))
+      OnDamage {T = Unit {0}} (Err c.in_err-built.field-0.0) (IsMergeDamage g.row.D c.plan-plan.result.given s.names s.names s.parts))
       c.self.view_is (c.in_err-built.ensures.shown c.self.inside.names c.self.inside.names))));
   damage = λ told agrees.
       let p = err_from_is_err_and c.from_residual-in_err-built.result c.from_residual-in_err-built.ensures.1 in
       rw (p.1, p.2)
       (begun_damage (Unit {0}) (Unit {0}) (IsMergeDamageOf (g.F.Pages.files c.gathered.new.folder) c.args.self.now.given) c.in_err-built.field-0.0
       (subst (λ n. OnDamage {T = Unit {0}} (Err c.in_err-built.field-0.0) (IsMergeDamageOf (g.F.Pages.files c.gathered.new.folder) n)) c.plan-plan.ensures.given
-      (c.in_err-built.ensures.damage told (subst (λ (s : SetData). Agrees (g.F.Pages.files c.args.folder.now) s.cache) (sym c.self.view_is) agrees))));
+      (c.in_err-built.ensures.damage told)));
   doubled = λ told agrees contents reads.
       let p = err_from_is_err_and c.from_residual-in_err-built.result c.from_residual-in_err-built.ensures.1 in
       rw (p.1, p.2)
@@ -178,7 +164,7 @@ returns-in_err-built-clause-damaged g c = record {
       (subst (λ n. OnDamage {T = Unit {0}} (Err c.in_err-built.field-0.0) (IsDoubt n (live_in_parts contents c.args.self.now.parts))) c.plan-plan.ensures.given
       (subst (λ (s : SetData). OnDamage {T = Unit {0}} (Err c.in_err-built.field-0.0) (IsDoubt c.plan-plan.result.given (live_in_parts contents s.parts)))
       c.self.view_is
-      (c.in_err-built.ensures.doubled told (subst (λ (s : SetData). Agrees (g.F.Pages.files c.args.folder.now) s.cache) (sym c.self.view_is) agrees) contents
+      (c.in_err-built.ensures.doubled told contents
       (subst (λ (s : SetData). AreRead g.row.D (g.F.Pages.files c.args.folder.now) contents s.parts) (sym c.self.view_is) reads)))));
   evident =
       let p = err_from_is_err_and c.from_residual-in_err-built.result c.from_residual-in_err-built.ensures.1 in
@@ -193,7 +179,24 @@ returns-in_err-built-clause-damaged g c = record {
 pub returns-clause-faithful : goal.returns-clause-faithful
 returns-clause-faithful g c =
     faithful_looked g.row.D g.F.Pages.told (g.F.Pages.files c.args.folder.now) (g.F.Pages.files c.gathered.new.folder) (set_of c.self.inside) c.args.self.now
-    (ids_of (parts_among c.as_slice-2.result.now c.self.inside.segments)) (Some (merge_of g c)) c.gathered.new.cache c.self.view_is c.gathered.ensures.calm
+    (ids_of (parts_among c.as_slice-2.result.now c.self.inside.segments)) (Some (merge_of g c)) c.self.inside.cache c.self.view_is
+    (record { files = c.gathered.ensures.files; agrees = λ told agrees. agrees; others = λ id keeps. inl keeps })
+
+pub returns-in_err-built-clause-files : goal.returns-in_err-built-clause-files
+returns-in_err-built-clause-files g c = c.gathered.ensures.files
+
+pub returns-clause-files : goal.returns-clause-files
+returns-clause-files g c = c.gathered.ensures.files
+
+-- the pages that queries keep are let alone
+pub returns-in_err-inputs-clause-cache : goal.returns-in_err-inputs-clause-cache
+returns-in_err-inputs-clause-cache g c = refl
+
+pub returns-in_err-built-clause-cache : goal.returns-in_err-built-clause-cache
+returns-in_err-built-clause-cache g c = refl
+
+pub returns-clause-cache : goal.returns-clause-cache
+returns-clause-cache g c = ap (λ (s : SetData). s.cache) c.self.view_is
 
 pub returns-clause-built : goal.returns-clause-built
 returns-clause-built g c = λ b n is has.

@@ -1,5 +1,5 @@
 -- What is surveyed are the segments of the view.
-use Rattle.std.proofs.Common.{◌≡◌, ◌+◌, ◌≤◌, List, ap, subst, ◌∙◌}
+use Rattle.std.proofs.Common.{◌≡◌, ◌+◌, ◌*◌, ◌≤◌, List, ap, subst, ◌∙◌}
 use Rattle.script_lang.specs.Seen.{view_name}
 use Rattle.segment_view.specs.LiveSegments.{LiveSegment, heads_of}
 use Rattle.segment_view.specs.Costs.{AreTested, AreTouched, leaves_in}
@@ -29,5 +29,5 @@ returns-clause-leaves g c = c.survey.ensures.leaves ∙ ap (λ (ps : List LiveSe
 
 pub returns-clause-compares : goal.returns-clause-compares
 returns-clause-compares g c =
-    subst (λ (ps : List LiveSegment). g.S.Shape.compares c.survey.new.shape ≤ g.S.Shape.compares c.args.shape.now + leaves_in (heads_of ps)) (parts_are g c)
+    subst (λ (ps : List LiveSegment). g.S.Shape.compares c.survey.new.shape ≤ g.S.Shape.compares c.args.shape.now + 2 * leaves_in (heads_of ps)) (parts_are g c)
     c.survey.ensures.compares
