@@ -1,4 +1,4 @@
-use Rattle.std.proofs.Common.{◌≡◌, ◌≤◌, ◌<◌, ◌^◌, List, length, All, true, Err, IsTrue, ap, sym, subst, ◌∙◌, inl, inr, lit<, arith}
+use Rattle.std.proofs.Common.{◌≡◌, ◌≤◌, ◌<◌, ◌^◌, List, length, All, true, Err, IsTrue, refl, ap, sym, subst, ◌∙◌, inl, inr, lit<, arith}
 use Rattle.std.proofs.lemmas.List.{nil_from_length}
 use Rattle.std.proofs.lemmas.Bool.Decides.{nat_tests}
 use Rattle.std.proofs.lemmas.List.Elements.{All-filter}
@@ -22,10 +22,43 @@ use Rattle.segment_set.proofs.Doubted.{doubt_among, part_shown, whole_shows}
 use Rattle.index_opening.proofs.Evident.{on_evident_at, on_part_evident}
 use Rattle.segment_set.proofs.Evident.{doubt_evident, gathered_of_files}
 use Rattle.segment_set.proofs.Fresh.{gathered_of, holds_live, items_length}
+use Rattle.segment_set.proofs.Refused.{memory_caused, memory_damage, never_value}
 use Rattle.segment_set.proofs.Sizes.{built_fits}
 use Rattle.segment_set.proofs.Spilled.{some_is}
 use Rattle.segment_set.proofs.rewriting.gathered.Goals as goal
 use Rattle.point_codec.proofs.Sizes.{entry_fits}
+
+-- want of memory for the one page
+
+pub returns-in_err-once-clause-gathered : goal.returns-in_err-once-clause-gathered
+returns-in_err-once-clause-gathered g c = never_value _ c.from_residual.result c.from_residual.ensures.1 _
+
+pub returns-in_err-once-clause-makes : goal.returns-in_err-once-clause-makes
+returns-in_err-once-clause-makes g c = λ told contents reads. never_value _ c.from_residual.result c.from_residual.ensures.1 _
+
+pub returns-in_err-once-clause-files : goal.returns-in_err-once-clause-files
+returns-in_err-once-clause-files g c = λ told. refl
+
+pub returns-in_err-once-clause-cause : goal.returns-in_err-once-clause-cause
+returns-in_err-once-clause-cause g c =
+    memory_caused (g.F.Pages.faults c.args.folder.now) (g.F.Pages.faults c.args.folder.now) c.from_residual.result c.from_residual.ensures.1 refl
+
+pub returns-in_err-once-clause-whole : goal.returns-in_err-once-clause-whole
+returns-in_err-once-clause-whole g c = λ told contents reads next make few. memory_damage _ c.from_residual.result c.from_residual.ensures.1
+
+pub returns-in_err-once-clause-shown : goal.returns-in_err-once-clause-shown
+returns-in_err-once-clause-shown g c = λ names now. memory_damage _ c.from_residual.result c.from_residual.ensures.1
+
+pub returns-in_err-once-clause-damage : goal.returns-in_err-once-clause-damage
+returns-in_err-once-clause-damage g c = λ told. memory_damage _ c.from_residual.result c.from_residual.ensures.1
+
+pub returns-in_err-once-clause-doubled : goal.returns-in_err-once-clause-doubled
+returns-in_err-once-clause-doubled g c = λ told contents reads. memory_damage _ c.from_residual.result c.from_residual.ensures.1
+
+pub returns-in_err-once-clause-evident : goal.returns-in_err-once-clause-evident
+returns-in_err-once-clause-evident g c = memory_damage _ c.from_residual.result c.from_residual.ensures.1
+
+-- what the call below answers
 
 pub returns-in_err-entries-clause-whole : goal.returns-in_err-entries-clause-whole
 returns-in_err-entries-clause-whole g c =
