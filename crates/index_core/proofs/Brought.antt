@@ -8,13 +8,12 @@ use Rattle.commit_list.specs.declared.listed.Listed.{Listed}
 use Rattle.commit_list.specs.Commits.{CommitData}
 use Rattle.commit_list.specs.CommitFiles.{IsCommitFile}
 use Rattle.commit_list.proofs.CommitPages.{one_file}
-use Rattle.segment_file.specs.Heads.{Head}
 use Rattle.segment_file.specs.LiveFiles.{IsLiveFile}
 use Rattle.stored_index.specs.Kept.{SameKept}
 use Rattle.stored_index.proofs.KeptFiles.{kept_after, kept_itself, still_says}
 use Rattle.segment_view.specs.LiveSegments.{LiveSegment}
 use Rattle.segment_set.specs.Sets.{SetData}
-use Rattle.segment_set.specs.Kept.{HasCanonical, IsCommitOf}
+use Rattle.segment_set.specs.Kept.{IsCommitOf}
 use Rattle.segment_set.proofs.Carried.{canon_file}
 use Rattle.segment_set.proofs.Covered.{IsListedAs}
 use Rattle.index_core.specs.Brought.{BringsCommit, IsBuilt, IsWhole, KeepsCommit, WasListed}

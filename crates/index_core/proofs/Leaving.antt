@@ -1,5 +1,5 @@
 -- What a begun or an ended merge leaves, by what the call on the set answered.
-use Rattle.std.proofs.Common.{◌≡◌, ◌∙◌, ℕ, Bool, true, false, List, None, Some, Option, Result, Ok, Err, OnOk, ap, refl, sym, subst, not}
+use Rattle.std.proofs.Common.{◌≡◌, ℕ, true, false, List, None, Some, Option, Result, Ok, Err, OnOk, subst, not}
 use Rattle.std.specs.List.{All, Contains}
 use Rattle.std.proofs.lemmas.Bool.{both_ways, false_from_ne_true, not-true}
 use Rattle.std.proofs.lemmas.List.Elements.{All-contains}
@@ -16,10 +16,9 @@ use Rattle.segment_set.specs.declared.faults.BeginFault.{BeginFault}
 use Rattle.segment_set.specs.declared.faults.BeginFault.TheVariants as begin
 use Rattle.segment_set.specs.declared.faults.EndFault.{EndFault}
 use Rattle.segment_set.specs.declared.faults.EndFault.TheVariants as end
-use Rattle.segment_set.specs.Sets.{BegunMerge, IsNamed, IsWell, SetData, inputs_of}
+use Rattle.segment_set.specs.Sets.{BegunMerge, IsWell, SetData, inputs_of}
 use Rattle.segment_set.specs.Merges.{Swaps, Replaces, living}
 use Rattle.segment_set.proofs.Carried.{placed_cases}
-use Rattle.segment_set.proofs.Grown.{named_apart}
 use Rattle.segment_set.proofs.Standing.{ids_named}
 use Rattle.segment_set.specs.Kept.{AreCanonical, StaysButMerge}
 use Rattle.segment_set.specs.Merged.{IsEnded, chosen_ids}

@@ -1,5 +1,5 @@
 -- A command that is done as a whole, by what its calls answered.
-use Rattle.std.proofs.Common.{◌≡◌, ℕ, Bool, List, None, Result, Err, OnOk, ◌⊎◌}
+use Rattle.std.proofs.Common.{ℕ, Bool, List, Result, Err, OnOk, ◌⊎◌}
 use Rattle.outer_io.specs.Files.{Files}
 use Rattle.page_cache.specs.declared.faults.PageFault.{PageFault}
 use Rattle.page_cache.specs.declared.faults.PageFault.TheVariants as page
