@@ -119,7 +119,7 @@ fn parts(alloc: Global, words: &[String]) -> Option<String> {
     let [kind, count, rounds] = words else {
         return None;
     };
-    let count = count_of(count).min(16_777_215);
+    let count = count_of(count).clamp(1, 16_777_216);
     let sum = partition::parted(alloc, kind.as_str() == "tree", count, count_of(rounds)).ok()?;
     format!(in alloc; "order {sum}").ok()
 }

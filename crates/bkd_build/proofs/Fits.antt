@@ -1,20 +1,20 @@
 -- The cells of a canonical tree: each is one of D dimensions, and within its path cell.
-use Rattle.std.proofs.Common.{◌≡◌, ℕ, zero, suc, ◌≤◌, true, false, List, [], ◌∷◌, ◌++◌, length, map, get_or, replicate}
-use Rattle.std.proofs.Common.{ℤ, pos, negsuc, ◌≤ℤ◌, int_le, w32, FitsSigned, is_gt, refl, sym, ◌∙◌, subst, arith}
-use Rattle.std.specs.List.{All, Contains}
+use Rattle.std.proofs.Common.{◌≡◌, ℕ, zero, suc, ◌≤◌, true, List, [], ◌∷◌, ◌++◌, length, map, get_or, replicate}
+use Rattle.std.proofs.Common.{ℤ, pos, negsuc, ◌≤ℤ◌, int_le, w32, FitsSigned, refl, sym, ◌∙◌, subst, arith}
+use Rattle.std.specs.List.{All}
 use Rattle.std.proofs.lemmas.Int.{ints}
 use Rattle.std.proofs.lemmas.List.{length-set, take_at, drop_at}
-use Rattle.std.proofs.lemmas.List.Elements.{All-nil, All-cons, All-head, All-tail, All-map, All-contains, All-weaker, All-take, All-drop}
+use Rattle.std.proofs.lemmas.List.Elements.{All-nil, All-cons, All-head, All-tail, All-map, All-weaker, All-take, All-drop}
 use Rattle.point_codec.specs.Points.{Item, Region, all_le, in_box}
 use Rattle.point_codec.specs.Cells.{IsLeastCell, within, left_of, right_of}
 use Rattle.point_codec.proofs.Corners.{both_true, in_box-corners, left_keeps, right_keeps}
-use Rattle.leaf_codec.specs.LeafOrder.{leaf_cmp}
 use Rattle.leaf_codec.specs.Leaves.{IsPoint}
 use Rattle.inner_pack.specs.Trees.{IsCell, IsInCell, HasCells}
 use Rattle.bkd_build.specs.Extents.{coordinate}
 use Rattle.bkd_build.specs.Canon.{KdTree, Leaf, Split, entries_of, index_tree_of, IsCanonSplit, IsCanon}
-use Rattle.bkd_build.proofs.ExtentLemmas.{all_le-length, coordinate_le, least_inside}
+use Rattle.bkd_build.proofs.ExtentLemmas.{all_le-length, least_inside}
 use Rattle.bkd_build.proofs.Shapes.{all_points}
+use Rattle.bkd_build.proofs.Sides.{lefts_below}
 
 -- ---- the least cell round points has their dimensions, and coordinates of 32 bits
 
@@ -102,17 +102,8 @@ cell_round_points D (x ∷ xs) r some points h =
 
 -- ---- a split value lies in the cell of its node, and each half in its part of it
 
--- a fact on the coordinates holds of one that is reached
-reached : (P : ℤ → Type 0) (d : ℕ) (x : ℤ) (items : List Item) → All (λ (y : Item). P (coordinate d y)) items → Contains (map (coordinate d) items) x → P x
-reached P d x items all there = All-contains P (map (coordinate d) items) x (All-map P (coordinate d) items all) there
-
 left_below : (D leaf d : ℕ) (x : ℤ) (ls rs : List Item) → IsCanonSplit D leaf d x ls rs → All (λ (y : Item). coordinate d y ≤ℤ x) ls
-left_below D leaf d x ls rs h =
-    All-weaker (λ (y : Item). All (λ (z : Item). is_gt (leaf_cmp d y z) ≡ false) rs) (λ (y : Item). coordinate d y ≤ℤ x)
-    (λ y each. reached (λ (v : ℤ). coordinate d y ≤ℤ v) d x rs
-    (All-weaker (λ (z : Item). is_gt (leaf_cmp d y z) ≡ false) (λ (z : Item). coordinate d y ≤ℤ coordinate d z) (λ z k. coordinate_le d y z k) rs each)
-    h.value.reached)
-    ls h.apart.each
+left_below D leaf d x ls rs h = lefts_below d x ls rs h.apart h.value
 
 -- all items are in the cell
 abbrev AreIn : Region → List Item → Type 0

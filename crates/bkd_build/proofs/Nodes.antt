@@ -48,10 +48,10 @@ entries-IsPermutation {D} es fs p h = record {
   once = NoneTwice-IsPermutation (items_of es) (items_of fs) (items-IsPermutation es fs p) h.once;
 }
 
-items-take : {D : ℕ} (k : ℕ) (es : List (Entry D)) → take k (items_of es) ≡ items_of (take k es)
+pub items-take : {D : ℕ} (k : ℕ) (es : List (Entry D)) → take k (items_of es) ≡ items_of (take k es)
 items-take {D} k es = take-map (λ (e : Entry D). record { doc = e.doc; at = e.point.c }) k es
 
-items-drop : {D : ℕ} (k : ℕ) (es : List (Entry D)) → drop k (items_of es) ≡ items_of (drop k es)
+pub items-drop : {D : ℕ} (k : ℕ) (es : List (Entry D)) → drop k (items_of es) ≡ items_of (drop k es)
 items-drop {D} k es = drop-map (λ (e : Entry D). record { doc = e.doc; at = e.point.c }) k es
 
 pub entries-take : {D : ℕ} (k : ℕ) (es : List (Entry D)) → 1 ≤ k → AreEntries es → AreEntries (take k es)

@@ -1,201 +1,225 @@
--- The sides of the least cell round items are their extents.
-use Rattle.std.proofs.Common.{◌≡◌, ◌⊎◌, ℕ, suc, ◌+◌, ◌<◌, ◌≤◌, true, false, List, [], ◌∷◌, map, length, get_or, set}
-use Rattle.std.proofs.Common.{refl, sym, ◌∙◌, subst, arith, inl, inr, ℤ, pos, ◌+ℤ◌, ◌-ℤ◌, ◌≤ℤ◌, int_le, unsigned_abs}
-use Rattle.std.specs.List.{All, Contains}
-use Rattle.std.proofs.lemmas.Bool.{cases_order, and_from, cases_Bool}
+-- The sides of a cell that items lie in, and the cell cut down to them.
+use Rattle.std.proofs.Common.{◌≡◌, ◌≢◌, ◌⊎◌, ℕ, ◌+◌, ◌<◌, ◌≤◌, true, false, Bool, List, [], ◌∷◌, ◌++◌, map, length, get_or, set, take, drop, not, cond}
+use Rattle.std.proofs.Common.{refl, sym, ap, ◌∙◌, subst, arith, inl, inr, ℤ, pos, ◌+ℤ◌, ◌-ℤ◌, ◌≤ℤ◌, int_le, is_gt, unsigned_abs}
+use Rattle.std.proofs.Common.{get_or-set_same, get_or-set_other}
+use Rattle.std.specs.List.{All, Contains, count_by}
+use Rattle.std.specs.List.Sorted.{IsPermutation}
+use Rattle.std.specs.Int.{int_max, int_min}
+use Rattle.std.proofs.lemmas.Bool.{cases_order, and_from}
 use Rattle.std.proofs.lemmas.Int.{ints}
-use Rattle.std.proofs.lemmas.List.{get_or-set_same, length-set, length-map, get_or-map}
-use Rattle.std.proofs.lemmas.List.Elements.{All-nil, All-cons, All-map, All-weaker}
+use Rattle.std.proofs.lemmas.List.{length-map, get_or-map, length-set}
+use Rattle.std.proofs.lemmas.List.Elements.{All-push, All-map, All-contains, All-weaker, All-take, All-drop}
+use Rattle.std.proofs.lemmas.List.Sorted.{All-permutation}
+use Rattle.std.proofs.lemmas.List.Sums.{sum_by-set}
 use Rattle.point_codec.specs.Points.{Item, Region, all_le, in_box}
 use Rattle.point_codec.specs.Cells.{IsLeastCell, left_of, right_of}
-use Rattle.point_codec.proofs.Corners.{both_true, all_le_at, left_keeps, right_keeps}
-use Rattle.bkd_build.specs.Extents.{coordinate, IsLeast, IsGreatest, HasExtent, IsWidest, IsWidestSide, width}
-use Rattle.bkd_build.proofs.ExtentLemmas.{coordinate_inside, all_le-length, least_inside, greatest_inside, one_extent}
-
-le_itself : (x : ℤ) → x ≤ℤ x
-le_itself x = grind (arith, ints)
-
-le_trans : (x y z : ℤ) → x ≤ℤ y → y ≤ℤ z → x ≤ℤ z
-le_trans x y z h k = grind (arith, ints)
-
-antisymmetric : (x y : ℤ) → x ≤ℤ y → y ≤ℤ x → x ≡ y
-antisymmetric x y h k = grind (arith, ints)
+use Rattle.point_codec.specs.Seen.{items_of}
+use Rattle.point_codec.specs.declared.entries.Entry.{Entry}
+use Rattle.point_codec.proofs.Corners.{both_true, left_keeps, right_keeps}
+use Rattle.leaf_codec.specs.LeafOrder.{leaf_cmp}
+use Rattle.bkd_build.specs.Cuts.{AllComeBefore}
+use Rattle.bkd_build.specs.Extents.{coordinate, IsLeast, IsGreatest, HasExtent, IsWidest, IsWidestSide, LieIn, width}
+use Rattle.bkd_build.proofs.ExtentLemmas.{all_le-length, coordinate_le, least_inside, greatest_inside, greatest_above}
+use Rattle.bkd_build.proofs.Nodes.{items-IsPermutation, items-take, items-drop}
 
 le_test : (x y : ℤ) → x ≤ℤ y → int_le x y ≡ true
 le_test x y h = grind (arith, ints)
 
-le_told : (x y : ℤ) → int_le x y ≡ true → x ≤ℤ y
-le_told x y h = omega (arith, ints)
+-- ---- the least and the greatest coordinate
 
-le_back : (x y : ℤ) → int_le x y ≡ false → y ≤ℤ x
-le_back x y h = omega (arith, ints)
+-- l and g are coordinates of items, and none of the items passed lies beyond them
+pub record Reaches (d : ℕ) (l g : ℤ) (passed items : List Item) : Type 0 where
+  pub low : All (λ x. l ≤ℤ coordinate d x) passed
+  pub high : All (λ x. coordinate d x ≤ℤ g) passed
+  pub has_low : Contains (map (coordinate d) items) l
+  pub has_high : Contains (map (coordinate d) items) g
 
-either_le : (x y : ℤ) → (x ≤ℤ y) ⊎ (y ≤ℤ x)
-either_le x y = elim (cases_Bool (int_le x y)) [ inl less ↦ inl (le_told x y less) | inr other ↦ inr (le_back x y other) ]
+low_of : (x y : ℤ) → (int_min x y ≤ℤ x) × (int_min x y ≤ℤ y)
+low_of x y = (grind (arith, ints), grind (arith, ints))
 
--- ---- items have a least and a greatest coordinate
+high_of : (x y : ℤ) → (x ≤ℤ int_max x y) × (y ≤ℤ int_max x y)
+high_of x y = (grind (arith, ints), grind (arith, ints))
 
-one_more : {X : Type 0} (x y : X) (xs : List X) → Contains xs x → Contains (y ∷ xs) x
-one_more x y xs (k, lt, is) = (suc k, omega arith, is)
+one_low : (x y : ℤ) → (int_min x y ≡ x) ⊎ (int_min x y ≡ y)
+one_low x y = grind (arith, ints)
 
-pub some_least : (d : ℕ) (x : Item) (items : List Item) → (m : ℤ) × IsLeast d m (x ∷ items)
-some_least d x [] = (
-  coordinate d x,
-  record { bound = All-cons (λ (y : Item). coordinate d x ≤ℤ coordinate d y) x [] (le_itself (coordinate d x)) (All-nil _); reached = (0, omega arith, refl) },
-)
-some_least d x (y ∷ items) = at (some_least d y items).0 (some_least d y items).1
-  where
-    at : (m : ℤ) → IsLeast d m (y ∷ items) → (n : ℤ) × IsLeast d n (x ∷ y ∷ items)
-    at m h = elim (either_le (coordinate d x) m) [
-      | inl less ↦ (
-        coordinate d x,
-        record {
-          bound = All-cons (λ (z : Item). coordinate d x ≤ℤ coordinate d z) x (y ∷ items) (le_itself (coordinate d x))
-              (All-weaker (λ (z : Item). m ≤ℤ coordinate d z) (λ (z : Item). coordinate d x ≤ℤ coordinate d z)
-              (λ z k. le_trans (coordinate d x) m (coordinate d z) less k) (y ∷ items) h.bound);
-          reached = (0, omega arith, refl);
-        },
-      )
-      | inr more ↦ (
-        m,
-        record {
-          bound = All-cons (λ (z : Item). m ≤ℤ coordinate d z) x (y ∷ items) more h.bound;
-          reached = one_more m (coordinate d x) (map (coordinate d) (y ∷ items)) h.reached;
-        },
-      )
-    ]
+one_high : (x y : ℤ) → (int_max x y ≡ x) ⊎ (int_max x y ≡ y)
+one_high x y = grind (arith, ints)
 
-pub some_greatest : (d : ℕ) (x : Item) (items : List Item) → (m : ℤ) × IsGreatest d m (x ∷ items)
-some_greatest d x [] = (
-  coordinate d x,
-  record { bound = All-cons (λ (y : Item). coordinate d y ≤ℤ coordinate d x) x [] (le_itself (coordinate d x)) (All-nil _); reached = (0, omega arith, refl) },
-)
-some_greatest d x (y ∷ items) = at (some_greatest d y items).0 (some_greatest d y items).1
-  where
-    at : (m : ℤ) → IsGreatest d m (y ∷ items) → (n : ℤ) × IsGreatest d n (x ∷ y ∷ items)
-    at m h = elim (either_le m (coordinate d x)) [
-      | inl less ↦ (
-        coordinate d x,
-        record {
-          bound = All-cons (λ (z : Item). coordinate d z ≤ℤ coordinate d x) x (y ∷ items) (le_itself (coordinate d x))
-              (All-weaker (λ (z : Item). coordinate d z ≤ℤ m) (λ (z : Item). coordinate d z ≤ℤ coordinate d x)
-              (λ z k. le_trans (coordinate d z) m (coordinate d x) k less) (y ∷ items) h.bound);
-          reached = (0, omega arith, refl);
-        },
-      )
-      | inr more ↦ (
-        m,
-        record {
-          bound = All-cons (λ (z : Item). coordinate d z ≤ℤ m) x (y ∷ items) more h.bound;
-          reached = one_more m (coordinate d x) (map (coordinate d) (y ∷ items)) h.reached;
-        },
-      )
-    ]
+le_trans : (x y z : ℤ) → x ≤ℤ y → y ≤ℤ z → x ≤ℤ z
+le_trans x y z h k = grind (arith, ints)
 
--- ---- the least cell reaches just so far
+one_of : (P : ℤ → Type 0) (x y z : ℤ) → (z ≡ x) ⊎ (z ≡ y) → P x → P y → P z
+one_of P x y z (inl is) px py = subst P (sym is) px
+one_of P x y z (inr is) px py = subst P (sym is) py
 
-module _ (d : ℕ) (r : Region) (x : Item) (rest : List Item) (told : IsLeastCell (map (λ y. y.at) (x ∷ rest)) r) (lt : d < length r.lo) where
-  abbrev items : List Item
-  items = x ∷ rest
-
-  -- each item lies in the cell
-  inside : All (λ (y : Item). in_box r y.at ≡ true) items
-  inside i e below =
-      let long : i < length (map (λ (y : Item). y.at) items) = omega (arith, length-map items (λ (y : Item). y.at)) in
-      rw (get_or-map (λ (y : Item). y.at) items i e (get_or items i e).at below) at (told.holds i (get_or items i e).at long)
-
-  -- and so do their points
-  points_inside : (P : List ℤ → Type 0) → All (λ (y : Item). P y.at) items → All P (map (λ y. y.at) items)
-  points_inside P h = All-map P (λ (y : Item). y.at) items h
-
-  same_lengths : length r.lo ≡ length r.hi
-  same_lengths =
-      let at = both_true (all_le r.lo x.at) (all_le x.at r.hi) (inside 0 x (omega arith)) in
-      all_le-length r.lo x.at at.0 ∙ all_le-length x.at r.hi at.1
-
-  long_as : (y : Item) → in_box r y.at ≡ true → length y.at ≡ length r.hi
-  long_as y h = all_le-length y.at r.hi (both_true (all_le r.lo y.at) (all_le y.at r.hi) h).1
-
-  pub least_side : IsLeast d (get_or r.lo d (pos 0)) items
-  least_side = at (some_least d x rest).0 (some_least d x rest).1
-    where
-      at : (m : ℤ) → IsLeast d m items → IsLeast d (get_or r.lo d (pos 0)) items
-      at m h = subst (λ (z : ℤ). IsLeast d z items) (antisymmetric m (get_or r.lo d (pos 0)) low (least_inside d m r items lt inside h).0) h
-        where
-          bounds : (get_or r.lo d (pos 0) ≤ℤ m) × (m ≤ℤ get_or r.hi d (pos 0))
-          bounds = least_inside d m r items lt inside h
-
-          raised : All (λ (y : Item). in_box (right_of r d m) y.at ≡ true) items
-          raised i e below =
-              let y = get_or items i e in
-              let here = inside i e below in
-              right_keeps r d m same_lengths (omega (arith, same_lengths)) bounds.0 bounds.1 y.at (long_as y here)
-              ∙ and_from (in_box r y.at) (int_le m (coordinate d y)) here (le_test m (coordinate d y) (h.bound i e below))
-
-          low : m ≤ℤ get_or r.lo d (pos 0)
-          low =
-              let corners = both_true (all_le (set r.lo d m) r.lo) (all_le r.hi r.hi)
-              (told.least (right_of r d m) (points_inside (λ (p : List ℤ). in_box (right_of r d m) p ≡ true) raised)) in
-              let lt' : d < length (set r.lo d m) = omega (arith, length-set r.lo d m) in
-              subst (λ (z : ℤ). z ≤ℤ get_or r.lo d (pos 0)) (get_or-set_same r.lo d m (pos 0) lt) (all_le_at (set r.lo d m) r.lo d corners.0 lt')
-
-  pub greatest_side : IsGreatest d (get_or r.hi d (pos 0)) items
-  greatest_side = at (some_greatest d x rest).0 (some_greatest d x rest).1
-    where
-      at : (m : ℤ) → IsGreatest d m items → IsGreatest d (get_or r.hi d (pos 0)) items
-      at m h = subst (λ (z : ℤ). IsGreatest d z items) (antisymmetric m (get_or r.hi d (pos 0)) (greatest_inside d m r items lt inside h).1 high) h
-        where
-          bounds : (get_or r.lo d (pos 0) ≤ℤ m) × (m ≤ℤ get_or r.hi d (pos 0))
-          bounds = greatest_inside d m r items lt inside h
-
-          lt' : d < length r.hi
-          lt' = omega (arith, same_lengths)
-
-          lowered : All (λ (y : Item). in_box (left_of r d m) y.at ≡ true) items
-          lowered i e below =
-              let y = get_or items i e in
-              let here = inside i e below in
-              left_keeps r d m same_lengths lt' bounds.0 bounds.1 y.at (long_as y here)
-              ∙ and_from (in_box r y.at) (int_le (coordinate d y) m) here (le_test (coordinate d y) m (h.bound i e below))
-
-          high : get_or r.hi d (pos 0) ≤ℤ m
-          high =
-              let corners = both_true (all_le r.lo r.lo) (all_le r.hi (set r.hi d m))
-              (told.least (left_of r d m) (points_inside (λ (p : List ℤ). in_box (left_of r d m) p ≡ true) lowered)) in
-              subst (λ (z : ℤ). get_or r.hi d (pos 0) ≤ℤ z) (get_or-set_same r.hi d m (pos 0) lt') (all_le_at r.hi (set r.hi d m) d corners.1 lt')
-
-  pub side_extent : HasExtent d (width r d) items
-  side_extent = record {
-    least = get_or r.lo d (pos 0);
-    greatest = get_or r.hi d (pos 0);
-    is_least = least_side;
-    is_greatest = greatest_side;
-    is = apart (get_or r.lo d (pos 0)) (get_or r.hi d (pos 0))
-        (le_trans (get_or r.lo d (pos 0)) (coordinate d x) (get_or r.hi d (pos 0)) (coordinate_inside d r x lt (inside 0 x (omega arith))).0
-        (coordinate_inside d r x lt (inside 0 x (omega arith))).1);
-  }
-    where
-      apart : (l h : ℤ) → l ≤ℤ h → h ≡ l +ℤ pos (unsigned_abs (h -ℤ l))
-      apart l h le = grind (arith, ints)
-
--- the widest side is the greatest extent
-pub widest_of_sides : (D d : ℕ) (r : Region) (x : Item) (rest : List Item) → length r.lo ≡ D → IsLeastCell (map (λ y. y.at) (x ∷ rest)) r → IsWidestSide D d r
-    → IsWidest D d (x ∷ rest)
-widest_of_sides D d r x rest long told h = record {
-  dimension = h.dimension;
-  extent = width r d;
-  has = extent d h.dimension;
-  greatest = λ e w lt k. subst (λ (n : ℕ). n ≤ width r d) (one_extent e (width r e) w (x ∷ rest) (extent e lt) k) (h.greatest e lt);
-  first = λ e w lt k. subst (λ (n : ℕ). n < width r d) (one_extent e (width r e) w (x ∷ rest) (extent e (omega (arith, h.dimension))) k) (h.first e lt);
+pub reaches_more : (d : ℕ) (l g : ℤ) (passed items : List Item) (x : Item) → Contains items x → Reaches d l g passed items
+    → Reaches d (int_min l (coordinate d x)) (int_max g (coordinate d x)) (passed ++ x ∷ []) items
+reaches_more d l g passed items x has h = record {
+  low = All-push (λ (y : Item). int_min l (coordinate d x) ≤ℤ coordinate d y) passed x
+      (All-weaker (λ (y : Item). l ≤ℤ coordinate d y) (λ (y : Item). int_min l (coordinate d x) ≤ℤ coordinate d y)
+      (λ y k. le_trans (int_min l (coordinate d x)) l (coordinate d y) (low_of l (coordinate d x)).0 k) passed h.low) (low_of l (coordinate d x)).1;
+  high = All-push (λ (y : Item). coordinate d y ≤ℤ int_max g (coordinate d x)) passed x
+      (All-weaker (λ (y : Item). coordinate d y ≤ℤ g) (λ (y : Item). coordinate d y ≤ℤ int_max g (coordinate d x))
+      (λ y k. le_trans (coordinate d y) g (int_max g (coordinate d x)) k (high_of g (coordinate d x)).0) passed h.high) (high_of g (coordinate d x)).1;
+  has_low = one_of (Contains (map (coordinate d) items)) l (coordinate d x) (int_min l (coordinate d x)) (one_low l (coordinate d x)) h.has_low here;
+  has_high = one_of (Contains (map (coordinate d) items)) g (coordinate d x) (int_max g (coordinate d x)) (one_high g (coordinate d x)) h.has_high here;
 }
   where
-    extent : (e : ℕ) → e < D → HasExtent e (width r e) (x ∷ rest)
-    extent e lt = side_extent e r x rest told (omega (arith, long))
+    here : Contains (map (coordinate d) items) (coordinate d x)
+    here = (
+      has.0,
+      omega (arith, has.1, length-map items (coordinate d)),
+      get_or-map (coordinate d) items has.0 x (coordinate d x) has.1 ∙ ap (coordinate d) has.2,
+    )
 
-pub widest_of_cell : (D d : ℕ) (r : Region) (items : List Item) → 0 < length items → length r.lo ≡ D → IsLeastCell (map (λ x. x.at) items) r
-    → IsWidestSide D d r → IsWidest D d items
-widest_of_cell D d r [] some long told h = absurd (omega arith)
-widest_of_cell D d r (x ∷ rest) some long told h = widest_of_sides D d r x rest long told h
+-- ---- items that lie in a cell
+
+-- those of the least cell
+pub cell_holds : (D : ℕ) (r : Region) (items : List Item) → length r.lo ≡ D → length r.hi ≡ D → IsLeastCell (map (λ x. x.at) items) r → LieIn D r items
+cell_holds D r items lo hi told = record { lo_dims = lo; hi_dims = hi; each = each }
+  where
+    each : All (λ (x : Item). in_box r x.at ≡ true) items
+    each i e below =
+        let long : i < length (map (λ (y : Item). y.at) items) = omega (arith, length-map items (λ (y : Item). y.at)) in
+        rw (get_or-map (λ (y : Item). y.at) items i e (get_or items i e).at below) at (told.holds i (get_or items i e).at long)
+
+reaches : (l m g h : ℤ) (w : ℕ) → l ≤ℤ m → g ≤ℤ h → g ≡ m +ℤ pos w → w ≤ unsigned_abs (h -ℤ l)
+reaches l m g h w low high e = grind (arith, ints)
+
+-- they reach no farther than its side
+extent_inside : (D d w : ℕ) (r : Region) (items : List Item) → d < D → LieIn D r items → HasExtent d w items → w ≤ width r d
+extent_inside D d w r items lt lie h =
+    let under : d < length r.lo = omega (arith, lie.lo_dims) in
+    reaches (get_or r.lo d (pos 0)) h.least h.greatest (get_or r.hi d (pos 0)) w (least_inside d h.least r items under lie.each h.is_least).0
+    (greatest_inside d h.greatest r items under lie.each h.is_greatest).1 h.is
+
+-- so where they reach as far as its widest side that dimension is the widest one
+pub widest_exact : (D d : ℕ) (r : Region) (items : List Item) → LieIn D r items → IsWidestSide D d r → HasExtent d (width r d) items → IsWidest D d items
+widest_exact D d r items lie side exact = record {
+  dimension = side.dimension;
+  extent = width r d;
+  has = exact;
+  greatest = λ e w lt h. omega (arith, extent_inside D e w r items lt lie h, side.greatest e lt);
+  first = λ e w lt h. omega (arith, extent_inside D e w r items (omega (arith, side.dimension)) lie h, side.first e lt);
+}
+
+-- ---- the cell cut at a value
+
+long_as : (r : Region) (y : Item) → in_box r y.at ≡ true → length y.at ≡ length r.hi
+long_as r y h = all_le-length y.at r.hi (both_true (all_le r.lo y.at) (all_le y.at r.hi) h).1
+
+module _ (D d : ℕ) (m : ℤ) (r : Region) (items : List Item) (lt : d < D) (from : get_or r.lo d (pos 0) ≤ℤ m) (to : m ≤ℤ get_or r.hi d (pos 0))
+    (lie : LieIn D r items) where
+  same : length r.lo ≡ length r.hi
+  same = lie.lo_dims ∙ sym lie.hi_dims
+
+  under : d < length r.hi
+  under = omega (arith, lie.hi_dims, lt)
+
+  pub lie_left : All (λ (x : Item). coordinate d x ≤ℤ m) items → LieIn D (left_of r d m) items
+  lie_left below = record {
+    lo_dims = lie.lo_dims;
+    hi_dims = length-set r.hi d m ∙ lie.hi_dims;
+    each = λ i e has.
+        let y : Item = get_or items i e in
+        left_keeps r d m same under from to y.at (long_as r y (lie.each i e has))
+        ∙ and_from (in_box r y.at) (int_le (coordinate d y) m) (lie.each i e has) (le_test (coordinate d y) m (below i e has));
+  }
+
+  pub lie_right : All (λ (x : Item). m ≤ℤ coordinate d x) items → LieIn D (right_of r d m) items
+  lie_right above = record {
+    lo_dims = length-set r.lo d m ∙ lie.lo_dims;
+    hi_dims = lie.hi_dims;
+    each = λ i e has.
+        let y : Item = get_or items i e in
+        right_keeps r d m same under from to y.at (long_as r y (lie.each i e has))
+        ∙ and_from (in_box r y.at) (int_le m (coordinate d y)) (lie.each i e has) (le_test m (coordinate d y) (above i e has));
+  }
+
+-- cut at the greatest and at the least coordinate it still holds the items
+pub cut_above : (D d : ℕ) (g : ℤ) (r : Region) (items : List Item) → d < D → LieIn D r items → IsGreatest d g items → LieIn D (left_of r d g) items
+cut_above D d g r items lt lie h =
+    let at = greatest_inside d g r items (omega (arith, lie.lo_dims, lt)) lie.each h in lie_left D d g r items lt at.0 at.1 lie h.bound
+
+pub cut_below : (D d : ℕ) (m : ℤ) (r : Region) (items : List Item) → d < D → LieIn D r items → IsLeast d m items → LieIn D (right_of r d m) items
+cut_below D d m r items lt lie h =
+    let at = least_inside d m r items (omega (arith, lie.lo_dims, lt)) lie.each h in lie_right D d m r items lt at.0 at.1 lie h.bound
+
+between : (l h : ℤ) → l ≤ℤ h → h ≡ l +ℤ pos (unsigned_abs (h -ℤ l))
+between l h le = grind (arith, ints)
+
+-- cut at both ends of the items it is as wide as these
+pub exact_between : (D d : ℕ) (m g : ℤ) (r : Region) (items : List Item) → d < D → LieIn D r items → IsLeast d m items → IsGreatest d g items
+    → HasExtent d (width (right_of (left_of r d g) d m) d) items
+exact_between D d m g r items lt lie least greatest =
+    let low : d < length r.lo = omega (arith, lie.lo_dims, lt) in
+    let high : d < length r.hi = omega (arith, lie.hi_dims, lt) in
+    rw (get_or-set_same r.lo d m (pos 0) low, get_or-set_same r.hi d g (pos 0) high) (record {
+      least = m;
+      greatest = g;
+      is_least = least;
+      is_greatest = greatest;
+      is = between m g (greatest_above d g m items greatest least.reached);
+    })
+
+-- and its other sides stay
+pub other_side : (d e : ℕ) (m g : ℤ) (r : Region) → e ≢ d → width (right_of (left_of r d g) d m) e ≡ width r e
+other_side d e m g r apart = rw (get_or-set_other r.lo d e m (pos 0) apart, get_or-set_other r.hi d e g (pos 0) apart) refl
+
+-- ---- the sides that aren't known to be the items' own
+
+abbrev pub open_sides : List Bool → ℕ
+open_sides exact = count_by not exact
+
+pub one_fewer : (exact : List Bool) (d : ℕ) → d < length exact → get_or exact d false ≡ false → open_sides (set exact d true) < open_sides exact
+one_fewer exact d lt is =
+    omega (arith, sum_by-set (λ (b : Bool). cond {A = ℕ} (not b) 1 0) exact d true false lt, ap (λ (b : Bool). cond {A = ℕ} (not b) 1 0) is)
+
+-- ---- both halves of a node
+
+-- the left items reach at most to the least coordinate of the right ones
+pub lefts_below : (d : ℕ) (x : ℤ) (ls rs : List Item) → AllComeBefore (leaf_cmp d) ls rs → IsLeast d x rs → All (λ (y : Item). coordinate d y ≤ℤ x) ls
+lefts_below d x ls rs apart value =
+    All-weaker (λ (y : Item). All (λ (z : Item). is_gt (leaf_cmp d y z) ≡ false) rs) (λ (y : Item). coordinate d y ≤ℤ x)
+    (λ y each. All-contains (λ (v : ℤ). coordinate d y ≤ℤ v) (map (coordinate d) rs) x
+    (All-map (λ (v : ℤ). coordinate d y ≤ℤ v) (coordinate d) rs
+    (All-weaker (λ (z : Item). is_gt (leaf_cmp d y z) ≡ false) (λ (z : Item). coordinate d y ≤ℤ coordinate d z) (λ z k. coordinate_le d y z k) rs each))
+    value.reached)
+    ls apart.each
+
+module _ (D d rank : ℕ) (x : ℤ) (r : Region) (es fs : List (Entry D)) (p : IsPermutation es fs) (lt : d < D) (lie : LieIn D r (items_of es))
+    (value : IsLeast d x (drop rank (items_of fs))) where
+  moved : All (λ (y : Item). in_box r y.at ≡ true) (items_of fs)
+  moved = All-permutation (λ (y : Item). in_box r y.at ≡ true) (items_of es) (items_of fs) (items-IsPermutation es fs p) lie.each
+
+  lefts : LieIn D r (take rank (items_of fs))
+  lefts = record {
+    lo_dims = lie.lo_dims;
+    hi_dims = lie.hi_dims;
+    each = All-take (λ (y : Item). in_box r y.at ≡ true) rank (items_of fs) moved;
+  }
+
+  rights : LieIn D r (drop rank (items_of fs))
+  rights = record {
+    lo_dims = lie.lo_dims;
+    hi_dims = lie.hi_dims;
+    each = All-drop (λ (y : Item). in_box r y.at ≡ true) rank (items_of fs) moved;
+  }
+
+  pub value_inside : (get_or r.lo d (pos 0) ≤ℤ x) × (x ≤ℤ get_or r.hi d (pos 0))
+  value_inside = least_inside d x r (drop rank (items_of fs)) (omega (arith, lie.lo_dims, lt)) rights.each value
+
+  pub low_lies : AllComeBefore (leaf_cmp d) (take rank (items_of fs)) (drop rank (items_of fs)) → LieIn D (left_of r d x) (items_of (take rank fs))
+  low_lies apart =
+      subst (λ (ls : List Item). LieIn D (left_of r d x) ls) (items-take rank fs)
+      (lie_left D d x r (take rank (items_of fs)) lt value_inside.0 value_inside.1 lefts
+      (lefts_below d x (take rank (items_of fs)) (drop rank (items_of fs)) apart value))
+
+  pub high_lies : LieIn D (right_of r d x) (items_of (drop rank fs))
+  high_lies =
+      subst (λ (rs : List Item). LieIn D (right_of r d x) rs) (items-drop rank fs)
+      (lie_right D d x r (drop rank (items_of fs)) lt value_inside.0 value_inside.1 rights value.bound)
 
 -- ---- one dimension more
 

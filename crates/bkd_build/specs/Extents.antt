@@ -1,7 +1,7 @@
 -- How far items reach in a dimension.
-use Rattle.std.specs.Prelude.{ℕ, ◌≡◌, ◌≤◌, ◌<◌, List, All, map, ℤ, pos, ◌+ℤ◌, ◌-ℤ◌, ◌≤ℤ◌, unsigned_abs, slice_index_or}
+use Rattle.std.specs.Prelude.{ℕ, ◌≡◌, ◌≤◌, ◌<◌, true, List, length, All, map, ℤ, pos, ◌+ℤ◌, ◌-ℤ◌, ◌≤ℤ◌, unsigned_abs, slice_index_or}
 use Rattle.std.specs.List.{Contains}
-use Rattle.point_codec.specs.Points.{Item, Region}
+use Rattle.point_codec.specs.Points.{Item, Region, in_box}
 
 -- an item's coordinate d
 abbrev pub coordinate : ℕ → Item → ℤ
@@ -32,6 +32,12 @@ pub record IsWidest (D d : ℕ) (items : List Item) : Type 0 where
   pub has : HasExtent d extent items
   pub greatest : (e w : ℕ) → e < D → HasExtent e w items → w ≤ extent
   pub first : (e w : ℕ) → e < d → HasExtent e w items → w < extent
+
+-- all items lie in a cell of D dimensions
+pub record LieIn (D : ℕ) (r : Region) (items : List Item) : Type 0 where
+  pub lo_dims : length r.lo ≡ D
+  pub hi_dims : length r.hi ≡ D
+  pub each : All (λ x. in_box r x.at ≡ true) items
 
 -- how wide a cell is in dimension d
 abbrev pub width : Region → ℕ → ℕ

@@ -87,7 +87,7 @@ pub fn build<const D: usize, R: Threads + Sync, G: Gate>(
     ensures built { IfOk result (λ b. IsBuilt D leaf (items_of entries.old) b) }
 {
     let root = cell_round(entries);
-    let part = build_part(rt, alloc, entries, leaf as usize, forks, gate)?;
+    let part = build_part(rt, alloc, entries, &root, leaf as usize, forks, gate)?;
     let BuiltSubtree {
         nodes,
         lengths,

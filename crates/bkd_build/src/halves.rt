@@ -2,29 +2,33 @@
 
 ghost use Rattle.std.specs.Prelude.{◌≡◌, ◌≤◌, ◌<◌, length, take, drop};
 ghost use Rattle.std.specs.List.Sorted.{IsPermutation};
-ghost use Rattle.point_codec.specs.Seen.{items_of};
+ghost use Rattle.point_codec.specs.Seen.{items_of, region_of};
 ghost use Rattle.bkd_build.specs.Canon.{left_count, IsCanonSplit};
+ghost use Rattle.bkd_build.specs.Extents.{LieIn};
 ghost use Rattle.bkd_build.specs.Pieces.{AreEntries};
 
 use crate::cuts::cut;
 use crate::extents::widest;
-use point_codec::Entry;
+use point_codec::{Cell, Entry};
 
-/// The split of an inner node, and how many of its entries go left.
-#[derive(Clone, Copy)]
-pub(crate) struct Halving {
-    pub(crate) dimension: u8,
-    pub(crate) at: i32,
-    pub(crate) rank: usize,
+/// The split of an inner node, how many of its entries go left, and a cell round those of each half.
+#[derive(Clone, Copy, Debug)]
+pub struct Halving<const D: usize> {
+    pub dimension: u8,
+    pub at: i32,
+    pub rank: usize,
+    pub low: Cell<D>,
+    pub high: Cell<D>,
 }
 
-/// Puts the entries of the left half of an inner node in front, and those of the right half behind them. Takes no
-/// memory.
-pub(crate) fn halve<const D: usize>(entries: &mut [Entry<D>], leaf: usize) -> Halving
+/// Puts the entries of the left half of an inner node in front, and those of the right half behind them. All of them
+/// lie in the cell. Takes no memory.
+pub fn halve<const D: usize>(entries: &mut [Entry<D>], cell: &Cell<D>, leaf: usize) -> Halving<D>
     requires dims { (1 ≤ D) × (D ≤ 8) }
     requires leaf { 1 ≤ leaf }
     requires many { leaf < length entries.old }
     requires entries { AreEntries entries.old }
+    requires inside { LieIn D (region_of cell.now) (items_of entries.old) }
     ensures same { IsPermutation entries.old entries.new }
     ensures lefts { AreEntries (take result.rank entries.new) }
     ensures rights { AreEntries (drop result.rank entries.new) }
@@ -32,14 +36,20 @@ pub(crate) fn halve<const D: usize>(entries: &mut [Entry<D>], leaf: usize) -> Ha
         (items_of (drop result.rank entries.new)) }
     ensures left { 1 ≤ result.rank }
     ensures right { result.rank < length entries.old }
+    ensures low { LieIn D (region_of result.low) (items_of (take result.rank entries.new)) }
+    ensures high { LieIn D (region_of result.high) (items_of (drop result.rank entries.new)) }
 {
-    let dimension = widest(entries);
+    let mut round = *cell;
+    let dimension = widest(entries, &mut round);
     let rank = left_count(entries.len(), leaf);
     let at = cut(entries, dimension, rank);
+    let (low, high) = round.split(dimension, at);
     Halving {
         dimension: dimension as u8,
         at,
         rank,
+        low,
+        high,
     }
 }
 

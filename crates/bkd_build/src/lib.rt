@@ -18,4 +18,5 @@ pub use builder::{Built, build};
 pub use cuts::cut;
 pub use extents::widest;
 pub use gate::{Gate, OpenGate};
+pub use halves::{Halving, halve};
 pub use laws::{built_leaves, one_build, one_canonical_tree};

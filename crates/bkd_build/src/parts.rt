@@ -47,10 +47,10 @@ impl<const D: usize> BuiltSubtree<D> {
     }
 
     /// Adds an inner node.
-    pub(crate) fn push_node(&mut self, node: Halving) -> Result<(), Memory>
+    pub(crate) fn push_node(&mut self, node: &Halving<D>) -> Result<(), Memory>
         requires { (1 ≤ D) × (D ≤ 8) }
         ensures { OnOk result
-            (held_pieces self.new ≡ joined_pieces (held_pieces self.old) (one_node node.dimension node.at)) }
+            (held_pieces self.new ≡ joined_pieces (held_pieces self.old) (one_node node.now.dimension node.now.at)) }
     {
         self.nodes.push((node.dimension, node.at))?;
         Ok(())

@@ -3,9 +3,10 @@
 ghost use Rattle.std.specs.Prelude.{◌≡◌, ◌≤◌, ◌<◌, length, OnOk, IfOk};
 ghost use Rattle.std.specs.List.Sorted.{IsPermutation};
 ghost use Rattle.std.specs.Thread.{IsSync};
-ghost use Rattle.point_codec.specs.Seen.{items_of};
+ghost use Rattle.point_codec.specs.Seen.{items_of, region_of};
 ghost use Rattle.leaf_codec.specs.Leaves.{leaf_limit};
 ghost use Rattle.bkd_build.specs.Canon.{IsCanonSplit};
+ghost use Rattle.bkd_build.specs.Extents.{LieIn};
 ghost use Rattle.bkd_build.specs.Pieces.{AreEntries, AddsPieces, AddsBoth, held_pieces, joined_pieces, no_pieces};
 ghost use Rattle.bkd_build.specs.Pieces.{one_node};
 
@@ -13,22 +14,24 @@ use crate::gate::Gate;
 use crate::halves::{Halving, halve};
 use crate::parts::BuiltSubtree;
 use byte_cursor::Memory;
-use point_codec::Entry;
+use point_codec::{Cell, Entry};
 use std::alloc::Global;
 use std::marker::Sync;
 use std::thread::{Threads, join_mut};
 
-/// Adds the tree of the entries to the part.
+/// Adds the tree of the entries, which lie in the cell, to the part.
 #[cycle(sequence)]
 fn grow<const D: usize>(
     alloc: Global,
     entries: &mut [Entry<D>],
+    cell: &Cell<D>,
     leaf: usize,
     part: &mut BuiltSubtree<D>,
 ) -> Result<(), Memory>
     requires dims { (1 ≤ D) × (D ≤ 8) }
     requires leaf { (1 ≤ leaf) × (leaf ≤ leaf_limit D) }
     requires entries { AreEntries entries.old }
+    requires inside { LieIn D (region_of cell.now) (items_of entries.old) }
     ensures same { IsPermutation entries.old entries.new }
     ensures added { OnOk result
         (AddsPieces D leaf (items_of entries.old) (held_pieces part.old) (held_pieces part.new)) }
@@ -36,10 +39,10 @@ fn grow<const D: usize>(
     if entries.len() <= leaf {
         return part.push_leaf(alloc, entries, leaf);
     }
-    let node = halve(entries, leaf);
-    part.push_node(node)?;
+    let node = halve(entries, cell, leaf);
+    part.push_node(&node)?;
     let (left, right) = entries.split_at_mut(node.rank);
-    grow_halves(alloc, left, right, leaf, part)?;
+    grow_halves(alloc, left, right, &node, leaf, part)?;
     Ok(())
 }
 
@@ -49,6 +52,7 @@ fn grow_halves<const D: usize>(
     alloc: Global,
     left: &mut [Entry<D>],
     right: &mut [Entry<D>],
+    node: &Halving<D>,
     leaf: usize,
     part: &mut BuiltSubtree<D>,
 ) -> Result<(), Memory>
@@ -56,44 +60,48 @@ fn grow_halves<const D: usize>(
     requires leaf { (1 ≤ leaf) × (leaf ≤ leaf_limit D) }
     requires left { AreEntries left.old }
     requires right { AreEntries right.old }
+    requires low { LieIn D (region_of node.now.low) (items_of left.old) }
+    requires high { LieIn D (region_of node.now.high) (items_of right.old) }
     ensures left_same { IsPermutation left.old left.new }
     ensures right_same { IsPermutation right.old right.new }
     ensures added { OnOk result
         (AddsBoth D leaf (items_of left.old) (items_of right.old) (held_pieces part.old) (held_pieces part.new)) }
 {
-    grow(alloc, left, leaf, part)?;
-    grow(alloc, right, leaf, part)?;
+    grow(alloc, left, &node.low, leaf, part)?;
+    grow(alloc, right, &node.high, leaf, part)?;
     Ok(())
 }
 
-/// The tree of the entries, built in the caller's thread.
+/// The tree of the entries, which lie in the cell, built in the caller's thread.
 fn grown<const D: usize>(
     alloc: Global,
     entries: &mut [Entry<D>],
+    cell: &Cell<D>,
     leaf: usize,
 ) -> Result<BuiltSubtree<D>, Memory>
     requires dims { (1 ≤ D) × (D ≤ 8) }
     requires leaf { (1 ≤ leaf) × (leaf ≤ leaf_limit D) }
     requires entries { AreEntries entries.old }
+    requires inside { LieIn D (region_of cell.now) (items_of entries.old) }
     ensures same { IsPermutation entries.old entries.new }
     ensures built { IfOk result (λ part. AddsPieces D leaf (items_of entries.old) no_pieces (held_pieces part)) }
 {
     let mut part = BuiltSubtree::with_room(alloc, entries.len().div_ceil(leaf))?;
-    grow(alloc, entries, leaf, &mut part)?;
+    grow(alloc, entries, cell, leaf, &mut part)?;
     Ok(part)
 }
 
 /// The tree of an inner node, from those of its halves.
 fn over<const D: usize>(
     alloc: Global,
-    node: Halving,
+    node: &Halving<D>,
     left: BuiltSubtree<D>,
     right: BuiltSubtree<D>,
 ) -> Result<BuiltSubtree<D>, Memory>
     requires { (1 ≤ D) × (D ≤ 8) }
     ensures { IfOk result
         (λ part. held_pieces part ≡ joined_pieces
-        (joined_pieces (one_node node.dimension node.at) (held_pieces left.entry)) (held_pieces right.entry)) }
+        (joined_pieces (one_node node.now.dimension node.now.at) (held_pieces left.entry)) (held_pieces right.entry)) }
 {
     let mut part = BuiltSubtree::with_room(alloc, left.leaves.len() + right.leaves.len())?;
     part.push_node(node)?;
@@ -102,12 +110,14 @@ fn over<const D: usize>(
     Ok(part)
 }
 
-/// The tree of the entries. The halves of the nodes of its upper `forks` levels are built beside each other.
+/// The tree of the entries, which lie in the cell. The halves of the nodes of its upper `forks` levels are built
+/// beside each other.
 #[cycle(parts)]
 pub(crate) fn build_part<const D: usize, R: Threads + Sync, G: Gate>(
     rt: &R,
     alloc: Global,
     entries: &mut [Entry<D>],
+    cell: &Cell<D>,
     leaf: usize,
     forks: u8,
     gate: &G,
@@ -115,18 +125,19 @@ pub(crate) fn build_part<const D: usize, R: Threads + Sync, G: Gate>(
     requires dims { (1 ≤ D) × (D ≤ 8) }
     requires leaf { (1 ≤ leaf) × (leaf ≤ leaf_limit D) }
     requires entries { AreEntries entries.old }
+    requires inside { LieIn D (region_of cell.now) (items_of entries.old) }
     ensures same { IsPermutation entries.old entries.new }
     ensures built { IfOk result (λ part. AddsPieces D leaf (items_of entries.old) no_pieces (held_pieces part)) }
 {
     if forks == 0 || entries.len() <= leaf {
-        return grown(alloc, entries, leaf);
+        return grown(alloc, entries, cell, leaf);
     }
-    let node = halve(entries, leaf);
+    let node = halve(entries, cell, leaf);
     let (left, right) = entries.split_at_mut(node.rank);
-    let (first, second) = both(rt, alloc, left, right, leaf, forks, gate);
+    let (first, second) = both(rt, alloc, left, right, &node, leaf, forks, gate);
     let first = first?;
     let second = second?;
-    let part = over(alloc, node, first, second)?;
+    let part = over(alloc, &node, first, second)?;
     Ok(part)
 }
 
@@ -137,6 +148,7 @@ fn both<const D: usize, R: Threads + Sync, G: Gate>(
     alloc: Global,
     left: &mut [Entry<D>],
     right: &mut [Entry<D>],
+    node: &Halving<D>,
     leaf: usize,
     forks: u8,
     gate: &G,
@@ -149,6 +161,8 @@ fn both<const D: usize, R: Threads + Sync, G: Gate>(
     requires forks { 0 < forks }
     requires left { AreEntries left.old }
     requires right { AreEntries right.old }
+    requires low { LieIn D (region_of node.now.low) (items_of left.old) }
+    requires high { LieIn D (region_of node.now.high) (items_of right.old) }
     ensures left_same { IsPermutation left.old left.new }
     ensures right_same { IsPermutation right.old right.new }
     ensures left_built { IfOk result.0 (λ part. AddsPieces D leaf (items_of left.old) no_pieces (held_pieces part)) }
@@ -156,22 +170,22 @@ fn both<const D: usize, R: Threads + Sync, G: Gate>(
 {
     let mut first = || -> Result<BuiltSubtree<D>, Memory>
         requires { IsSync R.row × IsSync G.row × (0 < forks) × (1 ≤ D) × (D ≤ 8) × (1 ≤ leaf) × (leaf ≤ leaf_limit D)
-            × AreEntries left.now }
+            × AreEntries left.now × LieIn D (region_of node.now.low) (items_of left.now) }
         ensures same { IsPermutation left.entry.now left.exit.now }
         ensures built { IfOk result (λ part. AddsPieces D leaf (items_of left.entry.now) no_pieces (held_pieces part)) }
     {
         gate.pass(0);
-        build_part(rt, alloc, left, leaf, forks - 1, gate)
+        build_part(rt, alloc, left, &node.low, leaf, forks - 1, gate)
     };
     let mut second = || -> Result<BuiltSubtree<D>, Memory>
         requires { IsSync R.row × IsSync G.row × (0 < forks) × (1 ≤ D) × (D ≤ 8) × (1 ≤ leaf) × (leaf ≤ leaf_limit D)
-            × AreEntries right.now }
+            × AreEntries right.now × LieIn D (region_of node.now.high) (items_of right.now) }
         ensures same { IsPermutation right.entry.now right.exit.now }
         ensures built { IfOk result
             (λ part. AddsPieces D leaf (items_of right.entry.now) no_pieces (held_pieces part)) }
     {
         gate.pass(1);
-        build_part(rt, alloc, right, leaf, forks - 1, gate)
+        build_part(rt, alloc, right, &node.high, leaf, forks - 1, gate)
     };
     join_mut(rt, &mut first, &mut second)
 }

@@ -3,20 +3,30 @@
 use crate::asserts::same;
 use crate::samples::entry;
 use bkd_build::{cut, widest};
+use point_codec::{Cell, Entry};
+
+/// The widest dimension of some entries, and 2 where there is none.
+#[tactic(auto, using(bkd_build::proofs::Sides::cell_holds))]
+fn widest_of(entries: &[Entry<2>]) -> usize {
+    match Cell::of(entries) {
+        Some(mut cell) => widest(entries, &mut cell),
+        None => 2,
+    }
+}
 
 #[test]
 fn finds_the_widest_dimension(rt: HostRuntime) {
     let (a, b, c) = (entry(4, [5, 3]), entry(1, [-7, 9]), entry(2, [12, 4]));
     // 19 and 6
-    same(&rt, widest(&[a, b, c]), 0);
+    same(&rt, widest_of(&[a, b, c]), 0);
     // 19 and 19: the first one
-    same(&rt, widest(&[a, b, c, entry(5, [0, -10])]), 0);
+    same(&rt, widest_of(&[a, b, c, entry(5, [0, -10])]), 0);
     // 19 and 20
-    same(&rt, widest(&[a, b, c, entry(6, [0, -11])]), 1);
+    same(&rt, widest_of(&[a, b, c, entry(6, [0, -11])]), 1);
     // the whole range of a coordinate
     same(
         &rt,
-        widest(&[entry(6, [0, i32::MIN]), b, entry(6, [i32::MAX, i32::MAX])]),
+        widest_of(&[entry(6, [0, i32::MIN]), b, entry(6, [i32::MAX, i32::MAX])]),
         1,
     );
 }

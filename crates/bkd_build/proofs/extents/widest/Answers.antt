@@ -1,11 +1,10 @@
-use Rattle.std.proofs.Common.{◌≡◌, ◌<◌, length, arith, rules}
+use Rattle.std.proofs.Common.{rules, ◌≡◌, true, false, get_or}
 use Rattle.point_codec.specs.Seen.{items_of, region_of}
-use Rattle.leaf_codec.proofs.Items.{length-items}
-use Rattle.bkd_build.proofs.Sides.{widest_of_cell}
+use Rattle.bkd_build.proofs.Sides.{widest_exact}
 use Rattle.bkd_build.proofs.extents.widest.Goals as goal
 
-pub returns-in-Some : goal.returns-in-Some
-returns-in-Some g c =
-    let some : 0 < length (items_of c.args.entries.now) = omega (arith, length-items c.args.entries.now, c.requires.some) in
-    let long : length (region_of c.in-Some.cell).lo ≡ g.row.D = search rules in
-    widest_of_cell g.row.D c.widest_side.result (region_of c.in-Some.cell) (items_of c.args.entries.now) some long c.in-Some.ensures.least c.widest_side.ensures
+pub returns-clause-widest : goal.returns-clause-widest
+returns-clause-widest g c =
+    let h = c.sides.invariant in
+    let is : get_or c.sides.exact c.sides.widest false ≡ true = search rules in
+    widest_exact g.row.D c.sides.widest (region_of c.sides.cell) (items_of c.args.entries.now) h.inside h.side (h.exact c.sides.widest is)
