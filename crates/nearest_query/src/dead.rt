@@ -11,10 +11,17 @@ use live_bits::LiveBits;
 use page_cache::PageCache;
 use segment_file::SegmentHead;
 
-/// Whether no entry of the leaf is live.
-pub fn has_none_live<const D: usize>(view: &LeafView<'_, D>, live: &LiveBits) -> bool
-    ensures { IsTrue result → live_items live.now view.now ≡ [] }
+/// Whether the live set is watched over, and no entry of the leaf is live.
+pub fn has_none_live<const D: usize>(
+    view: &LeafView<'_, D>,
+    live: &LiveBits,
+    watched: bool,
+) -> bool
+    ensures { IsTrue result → IsTrue watched × (live_items live.now view.now ≡ []) }
 {
+    if !watched {
+        return false;
+    }
     for i in 0..view.count() {
         if live.is_live(view.doc(i)) {
             return false;
@@ -23,17 +30,21 @@ pub fn has_none_live<const D: usize>(view: &LeafView<'_, D>, live: &LiveBits) ->
     true
 }
 
-/// Whether the leaf at the place, in a page that is kept, is known to be dead.
+/// Whether the live set is watched over, and the leaf at the place, in a page that is kept, is known to be dead.
 pub fn is_known_dead<const D: usize>(
     cache: &PageCache,
     head: &SegmentHead<D>,
     place: LeafPlace,
+    watched: bool,
 ) -> bool
     requires small { place.page < 8388608 }
     requires kept { IsKept cache.now head.now.id (page_of head.now place.page) }
-    ensures { IsTrue result → (page : List ℕ)
+    ensures { IsTrue result → IsTrue watched × (page : List ℕ)
         × KeepsDead cache.now head.now.id (page_of head.now place.page) place.offset place.length page }
 {
+    if !watched {
+        return false;
+    }
     cache.is_dead(
         head.id(),
         head.page_of(place),

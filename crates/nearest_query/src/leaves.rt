@@ -72,14 +72,14 @@ pub fn open_leaf<const D: usize, F: Pages>(
         → NotDamaged result }
 {
     let place = load_leaf(alloc, folder, cache, head, node)?;
-    if watched && is_known_dead(cache, head, place) {
+    if is_known_dead(cache, head, place, watched) {
         return Ok(());
     }
     let Some(view) = leaf_in(cache, head, node, place) else {
         return Err(bad_leaf(cache, head, node, place));
     };
     offer_leaf(&view, live, at, found)?;
-    let dead = watched && has_none_live(&view, live);
+    let dead = has_none_live(&view, live, watched);
     remember(cache, head, place, dead);
     Ok(())
 }
