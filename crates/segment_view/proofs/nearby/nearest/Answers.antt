@@ -9,6 +9,7 @@ use Rattle.segment_file.specs.Heads.{Head, IsHead}
 use Rattle.documents.specs.NearestEntries.{IsNearest, nears_of}
 use Rattle.nearest_query.specs.Segments.{AreLeavesKept, AreNearLeaves, AreSegments, HasId, HaveTrees, IsSegmentDamage, bound_of, live_in}
 use Rattle.segment_view.specs.LiveSegments.{heads_of}
+use Rattle.segment_view.proofs.Listing.{hide_these, these_hide, ids_of_these}
 use Rattle.segment_view.proofs.Living.{live_listed, read_segments}
 use Rattle.segment_view.proofs.Reading.{id_of}
 use Rattle.segment_view.proofs.Shown.{parts_shown}
@@ -35,6 +36,14 @@ returns-clause-reads g c = λ told agrees es read found is leaves near.
     found
     (subst (λ (xs : List Item). IsNearest c.args.k (nears_of at (xs ++ items_of c.args.buffer.now)) found) (sym live) is) leaves
     (subst (λ (hs : List Head). AreNearLeaves g.row.D at (bound_of c.args.k found) hs leaves) (sym c.heads-2.ensures.value) near)
+
+pub returns-clause-hides : goal.returns-clause-hides
+returns-clause-hides g c = λ watched.
+    these_hide g.row.D c.nearest.new.cache c.args.segments.now c.heads-2.result.now c.lives.result.now c.heads-2.ensures.value c.lives.ensures
+    (c.nearest.ensures.hides watched)
+
+pub returns-clause-marks : goal.returns-clause-marks
+returns-clause-marks g c = c.nearest.ensures.marks
 
 pub returns-clause-calm : goal.returns-clause-calm
 returns-clause-calm g c = record {
