@@ -1,5 +1,5 @@
 -- What the fault of a write says where a call may meet damage too.
-use Rattle.std.proofs.Common.{◌≡◌, ℕ, Err, refl, arith}
+use Rattle.std.proofs.Common.{◌≡◌, ℕ, Err, arith}
 use Rattle.page_cache.specs.declared.faults.PageFault.TheVariants as page
 use Rattle.page_cache.specs.Causes.{HasPageCause}
 pub use Rattle.page_cache.proofs.Causes.{wrote_cause}

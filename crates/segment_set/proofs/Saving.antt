@@ -1,5 +1,5 @@
 -- What is saved of a set.
-use Rattle.std.proofs.Common.{◌≡◌, ℕ, true, false, cond, List, Option, is_some, Result, Ok, Err, refl, sym, ap, subst, ◌∙◌, ◌⊎◌, inl, inr, arith}
+use Rattle.std.proofs.Common.{◌≡◌, ℕ, true, false, cond, List, Option, is_some, Result, Ok, Err, sym, ap, subst, ◌∙◌, ◌⊎◌, inl, inr}
 use Rattle.std.specs.Prelude.{IfOk, OnOk}
 use Rattle.std.specs.List.{All, AllZip, Contains, list_any}
 use Rattle.outer_io.specs.declared.file_name.FileName.{FileName}

@@ -1,5 +1,5 @@
 -- What one call leaves and its damage shows, the call that hands it on leaves and shows too.
-use Rattle.std.proofs.Common.{◌≡◌, ◌<◌, ◌+◌, ◌^◌, ℕ}
+use Rattle.std.proofs.Common.{◌<◌, ◌+◌, ◌^◌, ℕ}
 use Rattle.std.specs.Prelude.{Result, IsErrOf}
 use Rattle.outer_io.specs.Files.{Files}
 use Rattle.page_cache.specs.declared.faults.Damage.{Damage}

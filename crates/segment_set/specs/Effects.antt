@@ -1,5 +1,5 @@
 -- What calls of a set leave and what their faults show, one record for each effect.
-use Rattle.std.specs.Prelude.{◌≡◌, ◌≤◌, ◌+◌, ◌↔◌, ◌<◌, ◌^◌, ℕ, List, [], length, All, Option, None, Some}
+use Rattle.std.specs.Prelude.{◌≡◌, ◌≤◌, ◌+◌, ◌↔◌, ◌<◌, ◌^◌, ℕ, List, length, All, None, Some}
 use Rattle.std.specs.Prelude.{Result, IfOk, OnOk, OnErr, IsErrOf}
 use Rattle.std.specs.List.{AllZip}
 use Rattle.outer_io.specs.Files.{Files, bytes_of}

@@ -1,5 +1,5 @@
 -- What is listed of segments when they are saved, and what is written of them.
-use Rattle.std.specs.Prelude.{◌≡◌, ◌⊎◌, ℕ, true, false, List, length, Contains}
+use Rattle.std.specs.Prelude.{◌≡◌, ◌⊎◌, true, false, List, length, Contains}
 use Rattle.outer_io.specs.declared.file_name.FileName.TheVariants.{Live, Segment}
 use Rattle.outer_io.specs.Files.{Files, bytes_of}
 use Rattle.live_bits.specs.LiveSet.{LiveSet, IsLiveSet}

@@ -45,6 +45,7 @@ impl<const D: usize> SegmentSet<D> {
         // what stays
         ensures faithful { IsTrue F.told → IsFaithful D (F.files folder.old) self.old
             → IsFaithful D (F.files folder.new) self.new }
+        ensures cache { self.new.cache ≡ self.old.cache }
         // where the policy chooses nothing, nothing is read
         ensures rested { IsSettled self.old → F.reads folder.new ≡ F.reads folder.old }
         // what an error says
@@ -77,6 +78,7 @@ impl<const D: usize> SegmentSet<D> {
         // what stays
         ensures faithful { IsTrue F.told → IsFaithful D (F.files folder.old) self.old
             → IsFaithful D (F.files folder.new) self.new }
+        ensures cache { self.new.cache ≡ self.old.cache }
         // where the policy chooses nothing, nothing is done
         ensures rested { IsSettled self.old → F.reads folder.new ≡ F.reads folder.old }
         ensures still { IsSettled self.old → self.new ≡ self.old }
@@ -125,6 +127,7 @@ impl<const D: usize> SegmentSet<D> {
         ensures moves { Rearranges D (IsTrue F.told) (F.files folder.old) (F.files folder.new) self.old self.new }
         ensures faithful { IsTrue F.told → IsFaithful D (F.files folder.old) self.old
             → IsFaithful D (F.files folder.new) self.new }
+        ensures cache { self.new.cache ≡ self.old.cache }
         ensures emptied { OnOk result (self.new.buffer ≡ []) }
         ensures spills { OnOk result ((moment (F.files folder.new) self.new ≡ moment (F.files folder.old) self.old)
             ⊎ WritesBuffer D (IsTrue F.told) (moment (F.files folder.old) self.old)

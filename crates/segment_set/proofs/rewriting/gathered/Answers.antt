@@ -1,4 +1,4 @@
-use Rattle.std.proofs.Common.{◌≡◌, ◌≤◌, ◌<◌, ◌^◌, List, length, All, true, Err, IsTrue, ap, sym, subst, ◌∙◌, inl, inr, lit<, arith}
+use Rattle.std.proofs.Common.{◌≡◌, ◌≤◌, ◌<◌, ◌^◌, List, length, All, true, Err, IsTrue, refl, ap, sym, subst, ◌∙◌, inl, inr, lit<, arith}
 use Rattle.std.proofs.lemmas.List.{nil_from_length}
 use Rattle.std.proofs.lemmas.Bool.Decides.{nat_tests}
 use Rattle.std.proofs.lemmas.List.Elements.{All-filter}
@@ -8,6 +8,8 @@ use Rattle.point_codec.specs.Points.{Item}
 use Rattle.point_codec.specs.Seen.{items_of}
 use Rattle.point_codec.specs.declared.entries.Entry.{Entry}
 use Rattle.documents.specs.Entries.{MakeDocs, is_among}
+use Rattle.page_cache.specs.declared.faults.PageFault.{PageFault}
+use Rattle.page_cache.specs.declared.faults.PageFault.TheVariants as page
 use Rattle.segment_file.specs.Damages.{IsLeafDamageOf}
 use Rattle.nearest_query.proofs.Parts.{on_damage}
 use Rattle.segment_view.specs.LiveSegments.{LiveSegment, live_in_parts, parts_among, has_live}
@@ -22,10 +24,44 @@ use Rattle.segment_set.proofs.Doubted.{doubt_among, part_shown, whole_shows}
 use Rattle.index_opening.proofs.Evident.{on_evident_at, on_part_evident}
 use Rattle.segment_set.proofs.Evident.{doubt_evident, gathered_of_files}
 use Rattle.segment_set.proofs.Fresh.{gathered_of, holds_live, items_length}
+use Rattle.segment_set.proofs.Refused.{memory_caused, memory_damage, never_value, same_cause}
+use Rattle.segment_set.proofs.Saving.{done_cause}
 use Rattle.segment_set.proofs.Sizes.{built_fits}
 use Rattle.segment_set.proofs.Spilled.{some_is}
 use Rattle.segment_set.proofs.rewriting.gathered.Goals as goal
 use Rattle.point_codec.proofs.Sizes.{entry_fits}
+
+-- want of memory for the one page
+
+pub returns-in_err-once-clause-gathered : goal.returns-in_err-once-clause-gathered
+returns-in_err-once-clause-gathered g c = never_value _ c.from_residual.result c.from_residual.ensures.1 _
+
+pub returns-in_err-once-clause-makes : goal.returns-in_err-once-clause-makes
+returns-in_err-once-clause-makes g c = λ told contents reads. never_value _ c.from_residual.result c.from_residual.ensures.1 _
+
+pub returns-in_err-once-clause-files : goal.returns-in_err-once-clause-files
+returns-in_err-once-clause-files g c = λ told. refl
+
+pub returns-in_err-once-clause-cause : goal.returns-in_err-once-clause-cause
+returns-in_err-once-clause-cause g c =
+    memory_caused (g.F.Pages.faults c.args.folder.now) (g.F.Pages.faults c.args.folder.now) c.from_residual.result c.from_residual.ensures.1 refl
+
+pub returns-in_err-once-clause-whole : goal.returns-in_err-once-clause-whole
+returns-in_err-once-clause-whole g c = λ told contents reads next make few. memory_damage _ c.from_residual.result c.from_residual.ensures.1
+
+pub returns-in_err-once-clause-shown : goal.returns-in_err-once-clause-shown
+returns-in_err-once-clause-shown g c = λ names now. memory_damage _ c.from_residual.result c.from_residual.ensures.1
+
+pub returns-in_err-once-clause-damage : goal.returns-in_err-once-clause-damage
+returns-in_err-once-clause-damage g c = λ told. memory_damage _ c.from_residual.result c.from_residual.ensures.1
+
+pub returns-in_err-once-clause-doubled : goal.returns-in_err-once-clause-doubled
+returns-in_err-once-clause-doubled g c = λ told contents reads. memory_damage _ c.from_residual.result c.from_residual.ensures.1
+
+pub returns-in_err-once-clause-evident : goal.returns-in_err-once-clause-evident
+returns-in_err-once-clause-evident g c = memory_damage _ c.from_residual.result c.from_residual.ensures.1
+
+-- what the call below answers
 
 pub returns-in_err-entries-clause-whole : goal.returns-in_err-entries-clause-whole
 returns-in_err-entries-clause-whole g c =
@@ -89,6 +125,27 @@ returns-clause-makes g c = λ told contents reads.
     (ap items_of c.as_mut_slice.ensures.value
     ∙ c.in_ok-entries.ensures.entries told (c.in_ok-once.ensures.agrees (g.F.Pages.files c.args.folder.now)) contents reads)
     (holds_live g.row.D (items_of c.as_mut_slice.result.now) has.0 c.in_ok-build_of.field-0 has.1 has.2 c.in_ok-build_of.ensures.live.1)
+
+pub returns-in_err-entries-clause-cause : goal.returns-in_err-entries-clause-cause
+returns-in_err-entries-clause-cause g c =
+    same_cause (g.F.Pages.faults c.args.folder.now) (g.F.Pages.faults c.gather.new.folder) c.in_err-entries.field-0.0 c.from_residual-in_err-entries.result
+    c.from_residual-in_err-entries.ensures.1 c.in_err-entries.ensures.cause
+
+pub returns-then-is_empty-clause-cause : goal.returns-then-is_empty-clause-cause
+returns-then-is_empty-clause-cause g c =
+    done_cause (g.F.Pages.faults c.args.folder.now) (g.F.Pages.faults c.gather.new.folder) _ c.in_ok-entries.ensures.cause.fine
+
+pub returns-in_err-build_of-clause-cause : goal.returns-in_err-build_of-clause-cause
+returns-in_err-build_of-clause-cause g c =
+    let p = err_from_is_err_and c.from_residual-in_err-build_of.result c.from_residual-in_err-build_of.ensures.1 in
+    rw (p.1, p.2)
+    (record {
+      later = c.in_ok-entries.ensures.cause.later;
+      fine = tt;
+      failed = λ is.
+          let same : c.in_err-build_of.field-0.0 ≡ page.Failed = cc in
+          absurd (c.in_err-build_of.ensures.unfailed (ap (λ (f : PageFault). Err f) same));
+    })
 
 pub returns-clause-cause : goal.returns-clause-cause
 returns-clause-cause g c = record { later = c.in_ok-entries.ensures.cause.later; fine = c.in_ok-entries.ensures.cause.fine; failed = λ h. cc }

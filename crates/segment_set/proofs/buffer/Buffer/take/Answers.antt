@@ -1,5 +1,5 @@
 -- The entries of the number are marked, and go where more are gone than wait.
-use Rattle.std.proofs.Common.{◌≡◌, ◌-◌, length, ap, ◌∙◌, arith}
+use Rattle.std.proofs.Common.{◌-◌, length, ap, ◌∙◌, arith}
 use Rattle.point_codec.specs.Seen.{items_of}
 use Rattle.documents.specs.Entries.{entries_but, has_entry}
 use Rattle.segment_set.specs.Waiting.{BufferData, came_as, waiting}

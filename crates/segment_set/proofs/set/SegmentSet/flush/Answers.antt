@@ -64,6 +64,12 @@ returns-in_err-merge_settle-clause-damaged g c =
     _ _ c.in_err-merge_settle.ensures.damaged
     (λ P. same_damage P c.in_err-merge_settle.field-0.0 c.from_residual.result c.from_residual.ensures.1)
 
+pub returns-in_err-merge_settle-clause-cache : goal.returns-in_err-merge_settle-clause-cache
+returns-in_err-merge_settle-clause-cache g c = c.in_err-merge_settle.ensures.cache
+
+pub returns-clause-cache : goal.returns-clause-cache
+returns-clause-cache g c = c.write_buffer.ensures.cache ∙ c.in_ok-merge_settle.ensures.cache
+
 pub returns-clause-faithful : goal.returns-clause-faithful
 returns-clause-faithful g c = λ told faithful. c.write_buffer.ensures.faithful told (c.in_ok-merge_settle.ensures.faithful told faithful)
 

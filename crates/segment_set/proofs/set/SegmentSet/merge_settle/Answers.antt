@@ -21,6 +21,7 @@ loop-ids-init g c = record {
   entries = entries_none g.row.D (IsTrue g.F.Pages.told) (g.F.Pages.files c.args.folder.now) c.args.self.now;
   settles = settles_none g.row.D (IsTrue g.F.Pages.told) (moment (g.F.Pages.files c.args.folder.now) c.args.self.now);
   buffer = refl;
+  cache = refl;
   faults = refl;
   rested = λ settled. (refl, refl);
   faithful = λ told faithful. faithful;
@@ -39,6 +40,7 @@ loop-ids-preserved g c = record {
       (moment (g.F.Pages.files c.merge.new.folder) c.merge.new.self) c.in-Some.ids.items c.as_slice.result.now c.as_slice.ensures.value
       (rw c.in-Some.is at c.in_ok-ids.ensures.choice) c.in_ok-merge.ensures.merged c.merge.ensures.alone);
   buffer = c.merge.ensures.buffer ∙ c.loop-ids.invariant.buffer;
+  cache = c.merge.ensures.cache ∙ c.loop-ids.invariant.cache;
   faults = c.in_ok-merge.ensures.cause.fine ∙ c.loop-ids.invariant.faults;
   rested = λ settled.
       absurd (unsettled c.args.self.now c.loop-ids.self (c.loop-ids.invariant.rested settled).0 settled (rw c.in-Some.is at c.in_ok-ids.ensures.ten));
@@ -76,11 +78,17 @@ returns-clause-still g c = λ settled. (c.loop-ids.invariant.rested settled).0
 pub returns-in_err-ids-clause-buffer : goal.returns-in_err-ids-clause-buffer
 returns-in_err-ids-clause-buffer g c = c.loop-ids.invariant.buffer
 
+pub returns-in_err-ids-clause-cache : goal.returns-in_err-ids-clause-cache
+returns-in_err-ids-clause-cache g c = c.loop-ids.invariant.cache
+
 pub returns-in_err-ids-clause-moves : goal.returns-in_err-ids-clause-moves
 returns-in_err-ids-clause-moves g c = c.loop-ids.invariant.moves c.next_merge.ensures.well
 
 pub returns-clause-buffer : goal.returns-clause-buffer
 returns-clause-buffer g c = c.loop-ids.invariant.buffer
+
+pub returns-clause-cache : goal.returns-clause-cache
+returns-clause-cache g c = c.loop-ids.invariant.cache
 
 pub returns-clause-moves : goal.returns-clause-moves
 returns-clause-moves g c = c.loop-ids.invariant.moves c.next_merge.ensures.well
@@ -108,6 +116,9 @@ returns-in_err-merge-clause-moves g c =
 
 pub returns-in_err-merge-clause-buffer : goal.returns-in_err-merge-clause-buffer
 returns-in_err-merge-clause-buffer g c = c.merge.ensures.buffer ∙ c.loop-ids.invariant.buffer
+
+pub returns-in_err-merge-clause-cache : goal.returns-in_err-merge-clause-cache
+returns-in_err-merge-clause-cache g c = c.merge.ensures.cache ∙ c.loop-ids.invariant.cache
 
 pub returns-in_err-merge-clause-levels : goal.returns-in_err-merge-clause-levels
 returns-in_err-merge-clause-levels g c =

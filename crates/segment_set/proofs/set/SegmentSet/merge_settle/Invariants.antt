@@ -12,6 +12,7 @@ invariant-loop-ids g l = record {
   entries : KeepsEntries g.row.D (IsTrue g.F.Pages.told) (g.F.Pages.files l.initial.folder) (g.F.Pages.files l.folder) l.initial.self l.self;
   settles : Settles g.row.D (IsTrue g.F.Pages.told) (moment (g.F.Pages.files l.initial.folder) l.initial.self) (moment (g.F.Pages.files l.folder) l.self);
   buffer : l.self.buffer ≡ l.initial.self.buffer;
+  cache : l.self.cache ≡ l.initial.self.cache;
   faults : g.F.Pages.faults l.folder ≡ g.F.Pages.faults l.initial.folder;
   rested : IsSettled l.initial.self → (l.self ≡ l.initial.self) × (g.F.Pages.reads l.folder ≡ g.F.Pages.reads l.initial.folder);
   faithful : IsTrue g.F.Pages.told → IsFaithful g.row.D (g.F.Pages.files l.initial.folder) l.initial.self

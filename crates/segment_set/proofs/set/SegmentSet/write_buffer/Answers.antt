@@ -144,6 +144,12 @@ returns-clause-moves g c =
 pub returns-then-is_empty-clause-faithful : goal.returns-then-is_empty-clause-faithful
 returns-then-is_empty-clause-faithful g c = λ told faithful. faithful
 
+pub returns-then-is_empty-clause-cache : goal.returns-then-is_empty-clause-cache
+returns-then-is_empty-clause-cache g c = refl
+
+pub returns-clause-cache : goal.returns-clause-cache
+returns-clause-cache g c = ap (λ (s : SetData). s.cache) c.self.view_is
+
 -- the cache stays, and the files of which it keeps pages are named
 pub returns-clause-faithful : goal.returns-clause-faithful
 returns-clause-faithful g c = λ told faithful.
