@@ -46,6 +46,11 @@ these_hide D cache parts heads lives heads_are lives_are hide =
     hide_one_by_one D cache parts
     (subst (λ (hs : List Head). HideNone D cache hs (lives_of parts)) heads_are (subst (HideNone D cache heads) lives_are hide))
 
+pub lives_beside : (parts : List LiveSegment) (heads : List Head) (lives : List LiveSet) → heads ≡ heads_of parts → lives ≡ lives_of parts
+    → length lives ≡ length heads
+lives_beside parts heads lives heads_are lives_are =
+    ap length lives_are ∙ length-map parts (λ (p : LiveSegment). p.live) ∙ sym (length-map parts (λ (p : LiveSegment). p.head)) ∙ ap length (sym heads_are)
+
 pub ids_of_these : (parts : List LiveSegment) (heads : List Head) → heads ≡ heads_of parts → IsStrictlyIncreasing (ids_of parts)
     → IsStrictlyIncreasing (map (λ h. h.id) heads)
 ids_of_these parts heads heads_are up =
