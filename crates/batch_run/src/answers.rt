@@ -119,7 +119,7 @@ fn find_near<const D: usize>(
     ensures agrees { Agrees (folder_files pages.old.files.now) cache.new }
 {
     docs_nearest();
-    let found = nearest(alloc, segments, &[], cache, pages, at, k);
+    let found = nearest(alloc, segments, &[], cache, pages, at, k, false);
     let found = of_whole(found)?;
     Ok(Reply::Near(Nears::new(found)))
 }

@@ -87,6 +87,7 @@ impl Stored {
             &mut self.folder,
             at,
             10,
+            false,
         )
         .ok()?;
         let mut sum = 0u64;

@@ -20,3 +20,4 @@ pub mod LeftOut
 pub mod Waits
 pub mod Unread
 pub mod Narrower
+pub mod Passed

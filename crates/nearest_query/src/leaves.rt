@@ -11,15 +11,17 @@ ghost use Rattle.inner_pack.specs.Trees.{IndexTree, Leaf};
 ghost use Rattle.inner_pack.specs.Nodes.{IsAt};
 ghost use Rattle.page_cache.specs.Cache.{Agrees, IsKept};
 ghost use Rattle.page_cache.specs.Evidence.{OnDamage, NotDamaged};
-ghost use Rattle.page_cache.specs.Reading.{ReadsCached, ReadsNothing};
+ghost use Rattle.page_cache.specs.Reading.{ReadsMarking, ReadsNothing};
 ghost use Rattle.segment_file.specs.Heads.{page_of};
 ghost use Rattle.segment_file.specs.Segments.{HoldsLeaf};
 ghost use Rattle.segment_file.specs.Damages.{IsLeafDamage, IsLeafDamageOf};
 ghost use Rattle.documents.specs.NearestEntries.{nears_of};
 ghost use Rattle.nearest_query.specs.Best.{AreBest, AreAdded};
+ghost use Rattle.nearest_query.specs.Dead.{HidesNone, MarksOf};
 ghost use Rattle.nearest_query.specs.Segments.{live_items};
 
 use crate::candidates::Candidates;
+use crate::dead::{has_none_live, is_known_dead, remember};
 use crate::outwards::{offer_above, offer_below};
 use inner_pack::NodeAt;
 use leaf_codec::LeafView;
@@ -30,7 +32,8 @@ use point_codec::{Entry, Near, Point};
 use segment_file::{SegmentHead, bad_leaf, leaf_in, load_leaf};
 use std::alloc::{AllocError, Global};
 
-/// Offers the live entries of a leaf. Its page is read where it isn't kept.
+/// Offers the live entries of a leaf. Its page is read where it isn't kept. Where the live set is watched over, a leaf
+/// that is known to be dead isn't looked at, and one without a live entry is known to be dead from then on.
 pub fn open_leaf<const D: usize, F: Pages>(
     alloc: Global,
     folder: &mut F,
@@ -40,9 +43,12 @@ pub fn open_leaf<const D: usize, F: Pages>(
     node: &NodeAt<'_, D>,
     at: &Point<D>,
     found: &mut Candidates,
+    watched: bool,
 ) -> Result<(), PageFault>
     requires leaf { node.now.leaves ≡ 1 }
-    ensures reading { ReadsCached F.told (λ i. i ≡ head.now.id) (F.files folder.old) (F.files folder.new)
+    requires hides { IsTrue watched → HidesNone D cache.old head.now.id live.now }
+    ensures marks { MarksOf D watched head.now.id live.now cache.old cache.new }
+    ensures reading { ReadsMarking F.told (λ i. i ≡ head.now.id) (F.files folder.old) (F.files folder.new)
         cache.old cache.new (F.faults folder.old) (F.faults folder.new) result }
     ensures reads { F.reads folder.new ≤ F.reads folder.old + 1 }
     ensures kept { (first : ℕ) (s : Spot) (path : Region) (t : IndexTree) → IsAt node.now first s path t
@@ -66,10 +72,15 @@ pub fn open_leaf<const D: usize, F: Pages>(
         → NotDamaged result }
 {
     let place = load_leaf(alloc, folder, cache, head, node)?;
+    if is_known_dead(cache, head, place, watched) {
+        return Ok(());
+    }
     let Some(view) = leaf_in(cache, head, node, place) else {
         return Err(bad_leaf(cache, head, node, place));
     };
     offer_leaf(&view, live, at, found)?;
+    let dead = has_none_live(&view, live, watched);
+    remember(cache, head, place, dead);
     Ok(())
 }
 

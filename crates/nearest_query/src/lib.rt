@@ -3,6 +3,7 @@
 #![tactic(auto)]
 
 mod candidates;
+mod dead;
 mod few;
 mod frontier;
 mod laws;

@@ -1,18 +1,20 @@
 //! The nearest documents of segments and a buffer.
 
 ghost use Rattle.std.specs.Prelude.{◌≡◌, ◌≤◌, ◌<◌, ◌+◌, ◌++◌, ℕ, List, [], length, All, IsTrue, OnOk, IfOk};
-ghost use Rattle.std.specs.Prelude.{sum_by};
+ghost use Rattle.std.specs.Prelude.{sum_by, map, false};
 ghost use Rattle.std.specs.List.{range_with_len};
+ghost use Rattle.std.specs.List.Sorted.{IsStrictlyIncreasing};
 ghost use Rattle.point_codec.specs.Points.{Item, Region};
 ghost use Rattle.point_codec.specs.Seen.{items_of};
 ghost use Rattle.point_codec.specs.declared.entries.Near.{Near};
 ghost use Rattle.inner_pack.specs.Trees.{IndexTree};
 ghost use Rattle.inner_pack.specs.Bodies.{HasTree};
-ghost use Rattle.page_cache.specs.Cache.{Agrees};
+ghost use Rattle.page_cache.specs.Cache.{MarksGo, Agrees};
 ghost use Rattle.page_cache.specs.Evidence.{OnDamage, NotDamaged};
-ghost use Rattle.page_cache.specs.Reading.{ReadsCached};
+ghost use Rattle.page_cache.specs.Reading.{ReadsMarking};
 ghost use Rattle.segment_file.specs.Damages.{IsLeafDamageOf};
 ghost use Rattle.documents.specs.NearestEntries.{IsNearest, nears_of};
+ghost use Rattle.nearest_query.specs.Dead.{HideNone};
 ghost use Rattle.nearest_query.specs.Segments.{AreLeavesKept, AreSegments, AreNearLeaves, HasId, HaveTrees};
 ghost use Rattle.nearest_query.specs.Segments.{IsSegmentDamage, bound_of, live_in};
 ghost use Rattle.nearest_query.specs.Fronts.{Front, leaf_sum, sum_below};
@@ -36,6 +38,9 @@ use std::alloc::{AllocError, Global};
 /// Leaves are read by way of the cache, and only those whose cell is as near as the last number found, of segments that
 /// have a live number. It answers a damage of a leaf that it had to read, Failed and Memory; a cache keeps nothing new
 /// then but pages of these segments.
+///
+/// Where the live sets are watched over (`watched`), the cache remembers which leaves have no live entry, and passes them
+/// over: the caller sees to it then that no number becomes live again in a segment of which pages may be kept.
 pub fn nearest<const D: usize, F: Pages>(
     alloc: Global,
     heads: &[SegmentHead<D>],
@@ -45,10 +50,16 @@ pub fn nearest<const D: usize, F: Pages>(
     folder: &mut F,
     at: &Point<D>,
     k: u16,
+    watched: bool,
 ) -> Result<Vec<Near>, PageFault>
     requires lives { length lives.now ≡ length heads.now }
     requires some { 1 ≤ k }
     requires few { k ≤ 10000 }
+    // which leaves of these segments are dead the cache knows of no greater live sets
+    requires apart { IsTrue watched → IsStrictlyIncreasing (map (λ h. h.id) heads.now) }
+    requires hides { IsTrue watched → HideNone D cache.old heads.now lives.now }
+    ensures hides { IsTrue watched → HideNone D cache.new heads.now lives.now }
+    ensures marks { watched ≡ false → MarksGo cache.old cache.new }
     ensures answer { IsTrue F.told → Agrees (F.files folder.old) cache.old → (contents : ℕ → List Item)
         → AreSegments D (F.files folder.old) contents heads.now
         → IfOk result
@@ -69,7 +80,7 @@ pub fn nearest<const D: usize, F: Pages>(
         → OnDamage result (IsLeafDamageOf (F.files folder.old)) }
     ensures whole { IsTrue F.told → Agrees (F.files folder.old) cache.old → (contents : ℕ → List Item)
         → AreSegments D (F.files folder.old) contents heads.now → NotDamaged result }
-    ensures reading { ReadsCached F.told (HasId heads.now) (F.files folder.old) (F.files folder.new)
+    ensures reading { ReadsMarking F.told (HasId heads.now) (F.files folder.old) (F.files folder.new)
         cache.old cache.new (F.faults folder.old) (F.faults folder.new) result }
 {
     let mut found = Candidates::new(alloc, usize::from(k));
@@ -85,6 +96,7 @@ pub fn nearest<const D: usize, F: Pages>(
         at,
         &mut frontier,
         &mut found,
+        watched,
     )?;
     Ok(found.found(alloc)?)
 }

@@ -1,18 +1,20 @@
 //! The search, best first.
 
 ghost use Rattle.std.specs.Prelude.{◌≡◌, ◌≤◌, ◌<◌, ◌+◌, ℕ, List, [], ◌∷◌, length, All, IsTrue, true, OnOk, sum_by};
-ghost use Rattle.std.specs.Prelude.{Option};
+ghost use Rattle.std.specs.Prelude.{Option, map, false};
+ghost use Rattle.std.specs.List.Sorted.{IsStrictlyIncreasing};
 ghost use Rattle.point_codec.specs.Points.{Region};
 ghost use Rattle.point_codec.specs.declared.entries.Near.{Near};
 ghost use Rattle.inner_pack.specs.Places.{Spot};
 ghost use Rattle.inner_pack.specs.Trees.{IndexTree, leaf_count};
 ghost use Rattle.inner_pack.specs.Nodes.{IsAt};
-ghost use Rattle.page_cache.specs.Cache.{Agrees};
+ghost use Rattle.page_cache.specs.Cache.{MarksGo, Agrees};
 ghost use Rattle.page_cache.specs.Evidence.{OnDamage, NotDamaged};
-ghost use Rattle.page_cache.specs.Reading.{ReadsCached, ReadsNothing};
+ghost use Rattle.page_cache.specs.Reading.{ReadsMarking, ReadsNothing};
 ghost use Rattle.segment_file.specs.Damages.{IsLeafDamageOf};
 ghost use Rattle.documents.specs.NearestEntries.{IsNearest};
 ghost use Rattle.nearest_query.specs.Best.{found_of};
+ghost use Rattle.nearest_query.specs.Dead.{HideNone};
 ghost use Rattle.nearest_query.specs.Segments.{AreLeavesKept, HasId, IsSegmentDamage, is_within, bound_of};
 ghost use Rattle.nearest_query.specs.Fronts.{Front, IsWaiting, leaf_sum, sum_below, work};
 ghost use Rattle.nearest_query.specs.Search.{World, IsOver, IsInside, IsNodeBelow, IsNode, IsSought, one_within};
@@ -62,10 +64,15 @@ fn open<'a, const D: usize, F: Pages>(
     next: Waiting,
     frontier: &mut Frontier<'a, D>,
     found: &mut Candidates,
+    watched: bool,
 ) -> Result<(), PageFault>
     requires lives { length lives.now ≡ length heads.now }
+    requires apart { IsTrue watched → IsStrictlyIncreasing (map (λ h. h.id) heads.now) }
+    requires hides { IsTrue watched → HideNone D cache.old heads.now lives.now }
     requires inside { IsInside (length heads.now) frontier.old.nodes next }
-    ensures reading { ReadsCached F.told (HasId heads.now) (F.files folder.old) (F.files folder.new)
+    ensures hides { IsTrue watched → HideNone D cache.new heads.now lives.now }
+    ensures marks { watched ≡ false → MarksGo cache.old cache.new }
+    ensures reading { ReadsMarking F.told (HasId heads.now) (F.files folder.old) (F.files folder.new)
         cache.old cache.new (F.faults folder.old) (F.faults folder.new) result }
     ensures room { found.new.many.room ≡ found.old.many.room }
     ensures work { OnOk result (sum_by work frontier.new.turns < work next + sum_by work frontier.old.turns) }
@@ -105,6 +112,7 @@ fn open<'a, const D: usize, F: Pages>(
             frontier.node(next.place),
             at,
             found,
+            watched,
         ),
     }
 }
@@ -119,10 +127,15 @@ pub fn search<'a, const D: usize, F: Pages>(
     at: &Point<D>,
     frontier: &mut Frontier<'a, D>,
     found: &mut Candidates,
+    watched: bool,
 ) -> Result<(), PageFault>
     requires lives { length lives.now ≡ length heads.now }
+    requires apart { IsTrue watched → IsStrictlyIncreasing (map (λ h. h.id) heads.now) }
+    requires hides { IsTrue watched → HideNone D cache.old heads.now lives.now }
     requires inside { All (IsInside (length heads.now) frontier.old.nodes) frontier.old.turns }
-    ensures reading { ReadsCached F.told (HasId heads.now) (F.files folder.old) (F.files folder.new)
+    ensures hides { IsTrue watched → HideNone D cache.new heads.now lives.now }
+    ensures marks { watched ≡ false → MarksGo cache.old cache.new }
+    ensures reading { ReadsMarking F.told (HasId heads.now) (F.files folder.old) (F.files folder.new)
         cache.old cache.new (F.faults folder.old) (F.faults folder.new) result }
     ensures answer { IsTrue F.told → Agrees (F.files folder.old) cache.old → (w : World) (all : List Near)
         → IsOver w at.now.c heads.now lives.now (F.files folder.old)
@@ -149,7 +162,7 @@ pub fn search<'a, const D: usize, F: Pages>(
             return Ok(());
         }
         open(
-            alloc, folder, cache, heads, lives, at, next, frontier, found,
+            alloc, folder, cache, heads, lives, at, next, frontier, found, watched,
         )?;
     }
     Ok(())

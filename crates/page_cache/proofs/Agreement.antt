@@ -1,5 +1,5 @@
 -- What agreement of a cache gives, and that a file is one body of a length.
-use Rattle.std.proofs.Common.{◌≡◌, ℕ, ◌-◌, ◌*◌, List, length, take, replicate, Option, sym, ap, ◌∙◌, subst}
+use Rattle.std.proofs.Common.{◌≡◌, ℕ, ◌-◌, ◌*◌, List, length, take, replicate, Option, ◌↔◌, sym, ap, ◌∙◌, subst}
 use Rattle.std.proofs.Math.Seq.{take-append_seam}
 use Rattle.outer_io.specs.declared.file_name.FileName.{FileName}
 use Rattle.outer_io.specs.declared.file_name.FileName.TheVariants.{Segment}
@@ -7,7 +7,7 @@ use Rattle.outer_io.specs.Files.{Files, bytes_of}
 use Rattle.page_cache.specs.declared.cache.PageCache.{PageCache}
 use Rattle.page_cache.specs.FilePages.{page_at, payloads_of}
 use Rattle.page_cache.specs.Bodies.{pages_for, padded_body, IsBodyFile}
-use Rattle.page_cache.specs.Cache.{Keeps, IsKept, KeepsFile, Agrees}
+use Rattle.page_cache.specs.Cache.{Keeps, KeepsDead, IsKept, KeepsPages, KeepsFile, Agrees}
 use Rattle.page_cache.specs.Evidence.{IsPageOf}
 
 -- only the files of which pages are kept matter
@@ -26,6 +26,29 @@ agreeing_page files c id number bytes agrees keeps = agrees id number bytes keep
 pub agrees_empty : (files : Files) (c : PageCache) → ((id : ℕ) → KeepsFile c id → ⊥) → Agrees files c
 unfolding Agrees KeepsFile IsKept
 agrees_empty files c none id number bytes keeps = absurd (none id (number, (bytes, keeps)))
+
+-- a page of which a leaf is known to be dead is kept
+pub dead_is_kept : (c : PageCache) (id number offset len : ℕ) (bytes : List ℕ) → KeepsDead c id number offset len bytes → Keeps c id number bytes
+unfolding Keeps KeepsDead
+dead_is_kept c id number offset len bytes known = (known.0, known.1, known.2)
+
+pub dead_file_kept : (c : PageCache) (id number offset len : ℕ) (bytes : List ℕ) → KeepsDead c id number offset len bytes → KeepsFile c id
+unfolding KeepsFile IsKept
+dead_file_kept c id number offset len bytes known = (number, (bytes, dead_is_kept c id number offset len bytes known))
+
+-- two caches that keep the same pages
+module _ (old new : PageCache) (keeps : (id number : ℕ) (bytes : List ℕ) → Keeps new id number bytes ↔ Keeps old id number bytes) where
+  pub pages_alike : KeepsPages old new
+  unfolding IsKept
+  pages_alike id number kept = (kept.0, (keeps id number kept.0).1 kept.1)
+
+  pub file_alike : (id : ℕ) → KeepsFile new id → KeepsFile old id
+  unfolding KeepsFile IsKept
+  file_alike id kept = (kept.0, (kept.1.0, (keeps id kept.0 kept.1.0).0 kept.1.1))
+
+  pub agrees_alike : (files : Files) → Agrees files old → Agrees files new
+  unfolding Agrees
+  agrees_alike files agrees id number bytes kept = agrees id number bytes ((keeps id number bytes).0 kept)
 
 -- two bodies of one length that a file is are the same
 pub bodies_equal : (name : FileName) (bytes a b : List ℕ) → length a ≡ length b → IsBodyFile name bytes a → IsBodyFile name bytes b → a ≡ b

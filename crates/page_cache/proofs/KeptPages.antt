@@ -4,7 +4,7 @@ use Rattle.std.proofs.Common.{Contains, Option, Some, None, IfSome, IfNone, refl
 use Rattle.std.specs.Bool.{OnTrue, OnFalse}
 use Rattle.std.specs.Cmp.{IsEquivalence}
 use Rattle.std.specs.List.{IsDistinct}
-use Rattle.std.specs.Option.{is_some, option_map_or}
+use Rattle.std.specs.Option.{is_some, option_map, option_map_or}
 use Rattle.std.specs.Map.{keys_of, lookup, lookup_entry, remove_entry}
 use Rattle.std.proofs.lemmas.Cmp.{nat_eq_equiv}
 use Rattle.std.proofs.lemmas.List.{take-map}
@@ -17,7 +17,7 @@ use Rattle.std.specs.declared.boxed.Box.{Box}
 use Rattle.std.specs.declared.alloc.Global.{Global}
 use Rattle.page_file.specs.declared.page.PageBytes.{PageBytes}
 use Rattle.page_cache.specs.declared.key.PageKey.{PageKey}
-use Rattle.page_cache.specs.Keys.{Kept, same_key, keys_but, HasKey, KeepsNoMore, KeepsOneMore}
+use Rattle.page_cache.specs.Keys.{KeptData, Kept, same_key, keys_but, HasKey, KeepsIn, KeepsNoMore, KeepsOneMore}
 
 -- ---- keys
 
@@ -56,18 +56,18 @@ module _ (key : PageKey) where
   none_has (f ∷ es) h has = (elim (same_key key f.0) as (λ b. same_key key f.0 ≡ b → ⊥) [
     | true ↦ λ t. let g = rw t at h in cc
     | false ↦ λ t. elim (Contains-cons f es (key, has.0) has.1) [
-      | inl e ↦ true≢false (sym (key_itself key) ∙ ap (λ (g : PageKey × Box PageBytes Global). same_key key g.0) (sym e) ∙ t)
+      | inl e ↦ true≢false (sym (key_itself key) ∙ ap (λ (g : PageKey × KeptData). same_key key g.0) (sym e) ∙ t)
       | inr on ↦ none_has es (rw t at h) (has.0, on)
     ]
   ]) refl
 
   -- an entry that is found has the key
-  pub found_entry : (es : Kept) (e : PageKey × Box PageBytes Global) → lookup_entry (same_key key) es ≡ Some e → Contains es (key, e.1)
+  pub found_entry : (es : Kept) (e : PageKey × KeptData) → lookup_entry (same_key key) es ≡ Some e → Contains es (key, e.1)
   found_entry es e h =
       let c = Contains-lookup_entry (same_key key) es e h in
       subst (λ (k : PageKey). Contains es (k, e.1)) (sym (key_true key e.0 c.1)) c.0
 
-  pub missing_none : (es : Kept) (o : Option (PageKey × Box PageBytes Global)) → lookup_entry (same_key key) es ≡ o → (HasKey es key → ⊥)
+  pub missing_none : (es : Kept) (o : Option (PageKey × KeptData)) → lookup_entry (same_key key) es ≡ o → (HasKey es key → ⊥)
       → lookup_entry (same_key key) es ≡ None
   missing_none es None h missing = h
   missing_none es (Some e) h missing = absurd (missing (e.1, found_entry es e h))
@@ -100,20 +100,20 @@ module _ (key : PageKey) where
 
   -- ---- a page is used
 
-  abbrev used : Kept → Option (PageKey × Box PageBytes Global) → Kept
+  abbrev used : Kept → Option (PageKey × KeptData) → Kept
   used es o = option_map_or (λ e. e ∷ remove_entry (same_key key) es) o es
 
-  used_found : (es : Kept) (o : Option (PageKey × Box PageBytes Global)) → lookup_entry (same_key key) es ≡ o → OnTrue (is_some o) (HasKey (used es o) key)
+  used_found : (es : Kept) (o : Option (PageKey × KeptData)) → lookup_entry (same_key key) es ≡ o → OnTrue (is_some o) (HasKey (used es o) key)
   used_found es None h = tt
   used_found es (Some e) h =
       let same : key ≡ e.0 = key_true key e.0 (Contains-lookup_entry (same_key key) es e h).1 in
       (e.1, subst (λ (k : PageKey). Contains (e ∷ remove_entry (same_key key) es) (k, e.1)) (sym same) (Contains-head e (remove_entry (same_key key) es)))
 
-  used_missing : (es : Kept) (o : Option (PageKey × Box PageBytes Global)) → lookup_entry (same_key key) es ≡ o → OnFalse (is_some o) (HasKey es key → ⊥)
+  used_missing : (es : Kept) (o : Option (PageKey × KeptData)) → lookup_entry (same_key key) es ≡ o → OnFalse (is_some o) (HasKey es key → ⊥)
   used_missing es None h = none_has es h
   used_missing es (Some e) h = tt
 
-  used_first : (es : Kept) (o : Option (PageKey × Box PageBytes Global)) → lookup_entry (same_key key) es ≡ o
+  used_first : (es : Kept) (o : Option (PageKey × KeptData)) → lookup_entry (same_key key) es ≡ o
       → OnTrue (is_some o) (keys_of (used es o) ≡ key ∷ keys_but key (keys_of es))
   used_first es None h = tt
   used_first es (Some e) h =
@@ -121,14 +121,14 @@ module _ (key : PageKey) where
       ap (λ (k : PageKey). k ∷ keys_of (remove_entry (same_key key) es)) (sym same) ∙ ap (λ (ks : List PageKey). key ∷ ks) (keys_without es)
 
   -- each page that was kept is kept
-  stays_or_found : (es : Kept) (e : PageKey × Box PageBytes Global) → Contains es e
+  stays_or_found : (es : Kept) (e : PageKey × KeptData) → Contains es e
       → Contains (remove_entry (same_key key) es) e ⊎ (lookup_entry (same_key key) es ≡ Some e)
   stays_or_found [] e has = absurd (Contains-nil e has)
   stays_or_found (f ∷ es) e has =
       (elim (same_key key f.0) as (λ b.
       Contains (cond b es (f ∷ remove_entry (same_key key) es)) e ⊎ (cond b (Some f) (lookup_entry (same_key key) es) ≡ Some e)) [
         | true ↦ elim (Contains-cons f es e has) [
-          | inl same ↦ inr (ap (λ (g : PageKey × Box PageBytes Global). Some g) same)
+          | inl same ↦ inr (ap (λ (g : PageKey × KeptData). Some g) same)
           | inr on ↦ inl on
         ]
         | false ↦ elim (Contains-cons f es e has) [
@@ -140,17 +140,17 @@ module _ (key : PageKey) where
         ]
       ])
 
-  used_more : (es : Kept) (o : Option (PageKey × Box PageBytes Global)) → lookup_entry (same_key key) es ≡ o → KeepsNoMore (used es o) es
+  used_more : (es : Kept) (o : Option (PageKey × KeptData)) → lookup_entry (same_key key) es ≡ o → KeepsNoMore (used es o) es
   used_more es None h e has = has
   used_more es (Some f) h e has = elim (stays_or_found es e has) [
     | inl left ↦ Contains-tail f (remove_entry (same_key key) es) e left
     | inr first ↦ subst (Contains (f ∷ remove_entry (same_key key) es)) (some_one f e (sym h ∙ first)) (Contains-head f (remove_entry (same_key key) es))
   ]
     where
-      some_one : (x y : PageKey × Box PageBytes Global) → Some x ≡ Some y → x ≡ y
+      some_one : (x y : PageKey × KeptData) → Some x ≡ Some y → x ≡ y
       some_one x y same = cc
 
-  used_same : (es : Kept) (o : Option (PageKey × Box PageBytes Global)) → OnFalse (is_some o) (used es o ≡ es)
+  used_same : (es : Kept) (o : Option (PageKey × KeptData)) → OnFalse (is_some o) (used es o ≡ es)
   used_same es None = refl
   used_same es (Some e) = tt
 
@@ -186,14 +186,14 @@ module _ (key : PageKey) where
 
   -- ---- a page is kept
 
-  pub put_missing : (c : LruCache PageKey (Box PageBytes Global)) (page : Box PageBytes Global) → (HasKey c.entries key → ⊥)
+  pub put_missing : (c : LruCache PageKey KeptData) (page : KeptData) → (HasKey c.entries key → ⊥)
       → put_entries same_key c key page ≡ (key, page) ∷ take (c.cap - 1) c.entries
   put_missing c page missing =
-      ap (λ (o : Option (PageKey × Box PageBytes Global)).
+      ap (λ (o : Option (PageKey × KeptData)).
       option_map_or (λ e. (e.0, page) ∷ remove_entry (same_key key) c.entries) o ((key, page) ∷ take (c.cap - 1) c.entries))
       (missing_none c.entries (lookup_entry (same_key key) c.entries) refl missing)
 
-  module _ (es ns : Kept) (room : ℕ) (page : Box PageBytes Global) (after : ns ≡ (key, page) ∷ take (room - 1) es) where
+  module _ (es ns : Kept) (room : ℕ) (page : KeptData) (after : ns ≡ (key, page) ∷ take (room - 1) es) where
     pub keep_kept : Contains ns (key, page)
     keep_kept = subst (λ (l : Kept). Contains l (key, page)) (sym after) (Contains-head (key, page) (take (room - 1) es))
 
@@ -205,25 +205,43 @@ module _ (key : PageKey) where
 
     pub keep_first : keys_of ns ≡ key ∷ take (room - 1) (keys_of es)
     keep_first =
-        ap (λ (l : Kept). keys_of l) after ∙ ap (λ (ks : List PageKey). key ∷ ks) (sym (take-map (λ (e : PageKey × Box PageBytes Global). e.0) (room - 1) es))
+        ap (λ (l : Kept). keys_of l) after ∙ ap (λ (ks : List PageKey). key ∷ ks) (sym (take-map (λ (e : PageKey × KeptData). e.0) (room - 1) es))
 
   -- ---- a page is taken out
 
-  pub taken_some : (es : Kept) (r : Option (Box PageBytes Global)) → r ≡ lookup (same_key key) es → IfSome r (λ p. Contains es (key, p))
-  taken_some es None e = tt
-  taken_some es (Some p) e = Contains-from_lookup key_true key p es (sym e)
+  -- the page alone is handed out
+  abbrev page_of : Option KeptData → Option (Box PageBytes Global)
+  page_of r = option_map (λ k. k.page) r
 
-  pub taken_none : (es : Kept) (r : Option (Box PageBytes Global)) → r ≡ lookup (same_key key) es → IfNone r (HasKey es key → ⊥)
-  taken_none es None e = none_has es (none_of_value es (sym e))
-  taken_none es (Some p) e = tt
+  some_taken : (es : Kept) (r : Option KeptData) → r ≡ lookup (same_key key) es → IfSome (page_of r) (λ p. KeepsIn es key p.value.b)
+  some_taken es None e = tt
+  some_taken es (Some k) e = (k, Contains-from_lookup key_true key k es (sym e), refl)
+
+  pub taken_some : (es : Kept) (r : Option KeptData) (q : Option (Box PageBytes Global)) → q ≡ page_of r → r ≡ lookup (same_key key) es
+      → IfSome q (λ p. KeepsIn es key p.value.b)
+  taken_some es r q is e =
+      subst (λ (o : Option (Box PageBytes Global)). IfSome o (λ p. KeepsIn es key p.value.b)) (sym is) (some_taken es r e)
+
+  no_page : (P : Type 0) (r : Option KeptData) → IfNone r P → IfNone (page_of r) P
+  no_page P None h = h
+  no_page P (Some k) h = tt
+
+  none_left : (es : Kept) (r : Option KeptData) → r ≡ lookup (same_key key) es → IfNone r (HasKey es key → ⊥)
+  none_left es None e = none_has es (none_of_value es (sym e))
+  none_left es (Some k) e = tt
+
+  pub taken_none : (es : Kept) (r : Option KeptData) (q : Option (Box PageBytes Global)) → q ≡ page_of r → r ≡ lookup (same_key key) es
+      → IfNone q (HasKey es key → ⊥)
+  taken_none es r q is e =
+      subst (λ (o : Option (Box PageBytes Global)). IfNone o (HasKey es key → ⊥)) (sym is) (no_page (HasKey es key → ⊥) r (none_left es r e))
 
   -- all but the page of this key stays
-  pub taken_stays : (es : Kept) (e : PageKey × Box PageBytes Global) → Contains es e → Contains (remove_entry (same_key key) es) e ⊎ (e.0 ≡ key)
+  pub taken_stays : (es : Kept) (e : PageKey × KeptData) → Contains es e → Contains (remove_entry (same_key key) es) e ⊎ (e.0 ≡ key)
   taken_stays [] e has = absurd (Contains-nil e has)
   taken_stays (f ∷ es) e has =
       (elim (same_key key f.0) as (λ b. same_key key f.0 ≡ b → Contains (cond b es (f ∷ remove_entry (same_key key) es)) e ⊎ (e.0 ≡ key)) [
         | true ↦ λ t. elim (Contains-cons f es e has) [
-          | inl same ↦ inr (ap (λ (g : PageKey × Box PageBytes Global). g.0) (sym same) ∙ sym (key_true key f.0 t))
+          | inl same ↦ inr (ap (λ (g : PageKey × KeptData). g.0) (sym same) ∙ sym (key_true key f.0 t))
           | inr on ↦ inl on
         ]
         | false ↦ λ t. elim (Contains-cons f es e has) [
@@ -244,9 +262,14 @@ module _ (key : PageKey) where
         | false ↦ λ g. ap (λ (l : Kept). f ∷ l) (none_taken es g)
       ]) h
 
-  pub taken_same : (es ns : Kept) (r : Option (Box PageBytes Global)) → r ≡ lookup (same_key key) es → ns ≡ remove_entry (same_key key) es → IfNone r (ns ≡ es)
-  taken_same es ns None e after = after ∙ none_taken es (sym e)
-  taken_same es ns (Some p) e after = tt
+  same_left : (es ns : Kept) (r : Option KeptData) → r ≡ lookup (same_key key) es → ns ≡ remove_entry (same_key key) es → IfNone r (ns ≡ es)
+  same_left es ns None e after = after ∙ none_taken es (sym e)
+  same_left es ns (Some k) e after = tt
+
+  pub taken_same : (es ns : Kept) (r : Option KeptData) (q : Option (Box PageBytes Global)) → q ≡ page_of r → r ≡ lookup (same_key key) es
+      → ns ≡ remove_entry (same_key key) es → IfNone q (ns ≡ es)
+  taken_same es ns r q is e after =
+      subst (λ (o : Option (Box PageBytes Global)). IfNone o (ns ≡ es)) (sym is) (no_page (ns ≡ es) r (same_left es ns r e after))
 
   one_key : (x y : PageKey) → same_key key x ≡ true → same_key key y ≡ same_key x y
   one_key x y e = ap (λ (k : PageKey). same_key k y) (key_true key x e)

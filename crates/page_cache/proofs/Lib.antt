@@ -4,6 +4,7 @@ pub mod OneRead
 pub mod Agreement
 pub mod CachePages
 pub mod KeptPages
+pub mod Marks
 pub mod TakenOut
 pub mod FileSizes
 pub mod Sealed

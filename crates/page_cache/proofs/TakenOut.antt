@@ -8,21 +8,18 @@ use Rattle.std.proofs.lemmas.Map.Keys.{IsDistinct-head, IsDistinct-tail}
 use Rattle.lru.specs.LruCache.{promoted, last_entry}
 use Rattle.lru.proofs.Pairs.{last_of_push}
 use Rattle.lru.proofs.Splits.{Contains-head, Contains-tail, Contains-cons, Contains-nil}
-use Rattle.std.specs.declared.boxed.Box.{Box}
-use Rattle.std.specs.declared.alloc.Global.{Global}
-use Rattle.page_file.specs.declared.page.PageBytes.{PageBytes}
 use Rattle.page_cache.specs.declared.key.PageKey.{PageKey}
-use Rattle.page_cache.specs.Keys.{Kept, same_key, is_of_other}
+use Rattle.page_cache.specs.Keys.{KeptData, Kept, same_key, is_of_other}
 use Rattle.page_cache.proofs.KeptPages.{key_itself, key_turned}
 
 -- ---- a segment's file is taken out by turning the list once
 
-apart_of_last : (k : PageKey) (front : Kept) (last : PageKey × Box PageBytes Global) → AllByRecursion (λ y. same_key k y ≡ false) (keys_of (front ++ last ∷ []))
+apart_of_last : (k : PageKey) (front : Kept) (last : PageKey × KeptData) → AllByRecursion (λ y. same_key k y ≡ false) (keys_of (front ++ last ∷ []))
     → same_key k last.0 ≡ false
 apart_of_last k [] last h = h.0
 apart_of_last k (f ∷ front) last h = apart_of_last k front last h.1
 
-last_found : (front : Kept) (last : PageKey × Box PageBytes Global) → IsDistinct same_key (keys_of (front ++ last ∷ []))
+last_found : (front : Kept) (last : PageKey × KeptData) → IsDistinct same_key (keys_of (front ++ last ∷ []))
     → lookup_entry (same_key last.0) (front ++ last ∷ []) ≡ Some last
 last_found [] last apart = ap (λ (b : Bool). cond b (Some last) None) (key_itself last.0)
 last_found (f ∷ front) last apart =
@@ -31,7 +28,7 @@ last_found (f ∷ front) last apart =
     ap (λ (b : Bool). cond b (Some f) (lookup_entry (same_key last.0) (front ++ last ∷ []))) other
     ∙ last_found front last (IsDistinct-tail same_key f.0 (keys_of (front ++ last ∷ [])) apart)
 
-last_left : (front : Kept) (last : PageKey × Box PageBytes Global) → IsDistinct same_key (keys_of (front ++ last ∷ []))
+last_left : (front : Kept) (last : PageKey × KeptData) → IsDistinct same_key (keys_of (front ++ last ∷ []))
     → remove_entry (same_key last.0) (front ++ last ∷ []) ≡ front
 last_left [] last apart = ap (λ (b : Bool). cond b [] (last ∷ [])) (key_itself last.0)
 last_left (f ∷ front) last apart =
@@ -41,12 +38,12 @@ last_left (f ∷ front) last apart =
     ∙ ap (λ (l : Kept). f ∷ l) (last_left front last (IsDistinct-tail same_key f.0 (keys_of (front ++ last ∷ [])) apart))
 
 -- the last page goes to the front
-pub last_first : (es front : Kept) (last : PageKey × Box PageBytes Global) → es ≡ front ++ last ∷ [] → IsDistinct same_key (keys_of es)
+pub last_first : (es front : Kept) (last : PageKey × KeptData) → es ≡ front ++ last ∷ [] → IsDistinct same_key (keys_of es)
     → promoted (same_key last.0) es ≡ last ∷ front
 last_first es front last e apart =
     let apart' : IsDistinct same_key (keys_of (front ++ last ∷ [])) = subst (λ (l : Kept). IsDistinct same_key (keys_of l)) e apart in
     ap (λ (l : Kept). promoted (same_key last.0) l) e
-    ∙ ap (λ (o : Option (PageKey × Box PageBytes Global)). option_map_or (λ g. g ∷ remove_entry (same_key last.0) (front ++ last ∷ [])) o (front ++ last ∷ []))
+    ∙ ap (λ (o : Option (PageKey × KeptData)). option_map_or (λ g. g ∷ remove_entry (same_key last.0) (front ++ last ∷ [])) o (front ++ last ∷ []))
     (last_found front last apart')
     ∙ ap (λ (l : Kept). last ∷ l) (last_left front last apart')
 
@@ -112,20 +109,20 @@ keys_filtered id (f ∷ es) =
 
 -- ---- one turn
 
-pub key_of_last : (o : Option (PageKey × Box PageBytes Global)) (k : PageKey) (v : Box PageBytes Global) (es front : Kept)
-    (last : PageKey × Box PageBytes Global)
+pub key_of_last : (o : Option (PageKey × KeptData)) (k : PageKey) (v : KeptData) (es front : Kept)
+    (last : PageKey × KeptData)
     → o ≡ last_entry es → o ≡ Some (k, v) → es ≡ front ++ last ∷ [] → k ≡ last.0
 key_of_last o k v es front last at is e =
     let found = sym is ∙ at ∙ ap (λ (l : Kept). last_entry l) e ∙ (last_of_push front last).0 in
-    ap (λ (x : Option (PageKey × Box PageBytes Global)). option_map_or (λ (p : PageKey × Box PageBytes Global). p.0) x k) found
+    ap (λ (x : Option (PageKey × KeptData)). option_map_or (λ (p : PageKey × KeptData). p.0) x k) found
 
-pub turn_out : (id : ℕ) (es ns front : Kept) (last : PageKey × Box PageBytes Global) → ns ≡ take (length es - 1) es → es ≡ front ++ last ∷ [] → last.0.id ≡ id
+pub turn_out : (id : ℕ) (es ns front : Kept) (last : PageKey × KeptData) → ns ≡ take (length es - 1) es → es ≡ front ++ last ∷ [] → last.0.id ≡ id
     → ns ≡ cond {A = Kept} (is_of_other id last.0) (last ∷ front) front
 turn_out id es ns front last after e own =
     after ∙ ap (λ (l : Kept). take (length l - 1) l) e ∙ (last_of_push front last).1
     ∙ sym (ap (λ (b : Bool). cond {A = Kept} (not b) (last ∷ front) front) (eq-eqb last.0.id id own))
 
-pub turn_round : (id : ℕ) (es ns front : Kept) (last : PageKey × Box PageBytes Global) (k : PageKey) → ns ≡ promoted (same_key k) es → k ≡ last.0
+pub turn_round : (id : ℕ) (es ns front : Kept) (last : PageKey × KeptData) (k : PageKey) → ns ≡ promoted (same_key k) es → k ≡ last.0
     → es ≡ front ++ last ∷ []
     → IsDistinct same_key (keys_of es) → (last.0.id ≡ id → ⊥) → ns ≡ cond {A = Kept} (is_of_other id last.0) (last ∷ front) front
 turn_round id es ns front last k after same e apart other =

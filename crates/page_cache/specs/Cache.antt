@@ -5,7 +5,7 @@ use Rattle.outer_io.specs.declared.file_name.FileName.TheVariants.{Commit, Commi
 use Rattle.outer_io.specs.Files.{Files}
 use Rattle.page_cache.specs.declared.key.PageKey.{PageKey}
 use Rattle.page_cache.specs.declared.cache.PageCache.{PageCache}
-use Rattle.page_cache.specs.Keys.{page_key, keys_but, KeepsIn, is_of_other}
+use Rattle.page_cache.specs.Keys.{page_key, leaf_part, keys_but, KeepsIn, KeepsDeadIn, is_of_other}
 use Rattle.page_cache.specs.Evidence.{IsPageOf}
 
 -- the cache keeps this page of the segment's file, with these bytes
@@ -19,6 +19,15 @@ IsKept c id number = (bytes : List ℕ) × Keeps c id number bytes
 -- each page that the one keeps the other keeps
 abbrev pub KeepsPages : PageCache → PageCache → Type 0
 KeepsPages old new = (id number : ℕ) → IsKept old id number → IsKept new id number
+
+-- it keeps this page with these bytes, and knows that the leaf in this part of the payload is dead
+unfoldable pub KeepsDead : PageCache → ℕ → ℕ → (offset len : ℕ) → List ℕ → Type 0
+KeepsDead c id number offset len bytes = KeepsDeadIn c.pages.entries (page_key id number) (leaf_part offset len) bytes
+
+-- marks only go: each leaf that the new knows to be dead the old knew, in a page of the same bytes
+abbrev pub MarksGo : PageCache → PageCache → Type 0
+MarksGo old new = (id number offset len : ℕ) (bytes : List ℕ) → KeepsDead new id number offset len bytes
+    → KeepsDead old id number offset len bytes
 
 -- it keeps some page of the segment's file
 unfoldable pub KeepsFile : PageCache → ℕ → Type 0

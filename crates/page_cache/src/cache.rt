@@ -3,8 +3,12 @@
 ghost use Rattle.page_cache.specs.Keys.{AllValid};
 
 use crate::faults::{Memory, PageFault};
-use crate::kept::{KeptPages, add_note, keep, kept_page, remove_page, remove_pages, touch};
+use crate::kept::{
+    KeptPages, add_note, has_dead_part, keep, kept_page, mark_part, remove_page, remove_pages,
+    touch,
+};
 use crate::key::PageKey;
+use crate::leaf_part::LeafPart;
 use crate::note::LeafNote;
 use crate::read::read_page;
 use lru::LruCache;
@@ -25,7 +29,7 @@ pub struct PageCache {
 
 impl PageCache {
     ghost use Rattle.std.specs.Prelude.{◌≡◌, ◌≢◌, ◌≤◌, ◌+◌, ◌⊎◌, ℕ, List, [], IsTrue, IsOk, OnOk, OnErr, IfOk, IfSome};
-    ghost use Rattle.std.specs.Prelude.{IfNone, OnSome};
+    ghost use Rattle.std.specs.Prelude.{◌↔◌, IfNone, OnSome};
     ghost use Rattle.outer_io.specs.Counts.{RisesByOne};
     ghost use Rattle.outer_io.specs.Files.{Files, bytes_of};
     ghost use Rattle.outer_io.specs.declared.file_name.FileName.TheVariants.{Segment};
@@ -36,7 +40,7 @@ impl PageCache {
     ghost use Rattle.page_cache.specs.Keys.{page_key, keys_but};
     ghost use Rattle.page_cache.specs.Notes.{Fits};
     ghost use Rattle.page_cache.specs.Cache.{Keeps, IsKept, KeepsFile, Agrees, room_of, order_of, of_others, IsUsed};
-    ghost use Rattle.page_cache.specs.Cache.{KeepsOf, KeepsPages, IsKeptOf};
+    ghost use Rattle.page_cache.specs.Cache.{KeepsOf, KeepsPages, KeepsDead, MarksGo, IsKeptOf};
     ghost use Rattle.page_cache.specs.Reading.{ReadsCached};
 
     /// A cache with room for so many pages, 1 to 65,536, that keeps none.
@@ -134,6 +138,31 @@ impl PageCache {
         add_note(&mut self.pages, PageKey { id, number }, note);
     }
 
+    /// Marks a leaf of a page that is kept as dead: the cache knows then that its caller told so. What is kept stays as
+    /// it is, and what was marked before may go for it. Takes no memory.
+    #[tactic(auto, unfolding(crate::specs::Cache::Keeps, crate::specs::Cache::KeepsDead, crate::specs::Cache::room_of, crate::specs::Cache::order_of))]
+    pub fn mark_dead(&mut self, id: u64, number: u32, offset: u16, length: u16)
+        ensures dead { (i n at len : ℕ) (bytes : List ℕ) → KeepsDead self.new i n at len bytes
+            → KeepsDead self.old i n at len bytes
+            ⊎ (Keeps self.old i n bytes × (i ≡ id) × (n ≡ number) × (at ≡ offset) × (len ≡ length)) }
+        ensures keeps { (i n : ℕ) (bytes : List ℕ) → Keeps self.new i n bytes ↔ Keeps self.old i n bytes }
+        ensures order { order_of self.new ≡ order_of self.old }
+        ensures room { room_of self.new ≡ room_of self.old }
+    {
+        let part = LeafPart { offset, length };
+        mark_part(&mut self.pages, PageKey { id, number }, part);
+    }
+
+    /// Whether a leaf of a page that is kept is known to be dead.
+    #[tactic(auto, unfolding(crate::specs::Cache::Keeps, crate::specs::Cache::KeepsDead, crate::specs::Cache::IsKept))]
+    pub fn is_dead(&self, id: u64, number: u32, offset: u16, length: u16) -> bool
+        requires { IsKept self.now id number }
+        ensures { IsTrue result → (bytes : List ℕ) × KeepsDead self.now id number offset length bytes }
+    {
+        let part = LeafPart { offset, length };
+        has_dead_part(&self.pages, PageKey { id, number }, part)
+    }
+
     /// Removes a page, and leaves the others. None exactly where it isn't kept; then all stays as it was. Takes no
     /// memory.
     #[tactic(auto, unfolding(crate::specs::Cache::Keeps, crate::specs::Cache::IsKept, crate::specs::Cache::KeepsFile, crate::specs::Cache::Agrees, crate::specs::Cache::room_of, crate::specs::Cache::order_of))]
@@ -148,6 +177,7 @@ impl PageCache {
         ensures stays { (i n : ℕ) (bytes : List ℕ) → Keeps self.old i n bytes
             → Keeps self.new i n bytes ⊎ ((file.now ≡ Segment i) × (number ≡ n)) }
         ensures others { (i n : ℕ) (bytes : List ℕ) → Keeps self.new i n bytes → Keeps self.old i n bytes }
+        ensures marks { MarksGo self.old self.new }
         ensures fewer { (i : ℕ) → KeepsFile self.new i → KeepsFile self.old i }
         ensures agrees { (files : Files) → Agrees files self.old → Agrees files self.new }
         ensures room { room_of self.new ≡ room_of self.old }
@@ -164,6 +194,7 @@ impl PageCache {
         ensures gone { KeepsFile self.new id → ⊥ }
         ensures order { order_of self.new ≡ of_others id (order_of self.old) }
         ensures others { (i n : ℕ) (bytes : List ℕ) → i ≢ id → Keeps self.old i n bytes → Keeps self.new i n bytes }
+        ensures marks { MarksGo self.old self.new }
         ensures fewer { (i : ℕ) → KeepsFile self.new i → KeepsFile self.old i }
         ensures agrees { (files : Files) → Agrees files self.old → Agrees files self.new }
         ensures room { room_of self.new ≡ room_of self.old }

@@ -1,20 +1,19 @@
 //! The kept pages by themselves: a list of pages by their keys, the last used first.
 
 ghost use Rattle.std.specs.Prelude.{◌≡◌, ◌⊎◌, ◌≤◌, ◌<◌, ◌-◌, ◌++◌, ◌∷◌, [], cond, ℕ, List, length, map, take, filter};
+ghost use Rattle.std.specs.Prelude.{option_map};
 ghost use Rattle.std.specs.Prelude.{Contains, IsTrue, IfSome, IfNone, IfOk, OnOk, OnErr};
 ghost use Rattle.std.specs.Bool.{OnTrue, OnFalse};
 ghost use Rattle.std.specs.Map.{keys_of};
-ghost use Rattle.std.specs.declared.boxed.Box.{Box};
-ghost use Rattle.std.specs.declared.alloc.Global.{Global};
-ghost use Rattle.page_file.specs.declared.page.PageBytes.{PageBytes};
 ghost use Rattle.page_cache.specs.declared.key.PageKey.{PageKey};
 ghost use Rattle.page_cache.specs.Notes.{Fits};
-ghost use Rattle.page_cache.specs.Keys.{Kept, same_key, keys_but, HasKey, KeepsIn, KeepsNoMore, KeepsOneMore};
-ghost use Rattle.page_cache.specs.Keys.{is_of_other};
+ghost use Rattle.page_cache.specs.Keys.{KeptData, Kept, fresh, same_key, keys_but, HasKey, KeepsIn, KeepsDeadIn};
+ghost use Rattle.page_cache.specs.Keys.{KeepsNoMore, KeepsOneMore, MarksOne, is_of_other};
 
 use crate::faults::Memory;
 use crate::kept_page::KeptPage;
 use crate::key::PageKey;
+use crate::leaf_part::LeafPart;
 use crate::note::LeafNote;
 use lru::LruCache;
 use page_file::PageBytes;
@@ -38,8 +37,8 @@ pub(crate) fn touch(pages: &mut KeptPages, key: PageKey) -> bool
 /// Keeps a page that isn't kept, and puts it first. Where the room is full the last goes for it.
 pub(crate) fn keep(pages: &mut KeptPages, key: PageKey, page: Box<PageBytes>) -> Result<(), Memory>
     requires { HasKey pages.old.entries key → ⊥ }
-    ensures kept { OnOk result (Contains pages.new.entries (key, page)) }
-    ensures one { KeepsOneMore key page pages.old.entries pages.new.entries }
+    ensures kept { OnOk result (Contains pages.new.entries (key, fresh page)) }
+    ensures one { KeepsOneMore key (fresh page) pages.old.entries pages.new.entries }
     ensures first { OnOk result
         (keys_of pages.new.entries ≡ key ∷ take (pages.old.cap - 1) (keys_of pages.old.entries)) }
     ensures room { pages.new.cap ≡ pages.old.cap }
@@ -52,8 +51,8 @@ pub(crate) fn keep(pages: &mut KeptPages, key: PageKey, page: Box<PageBytes>) ->
 /// A page that is kept.
 pub(crate) fn kept_page(pages: &KeptPages, key: PageKey) -> &KeptPage
     requires { HasKey pages.now.entries key }
-    ensures kept { KeepsIn pages.now.entries key result.now.value.b }
-    ensures only { (bytes : List ℕ) → KeepsIn pages.now.entries key bytes → bytes ≡ result.now.value.b }
+    ensures kept { Contains pages.now.entries (key, result.now) }
+    ensures only { (bytes : List ℕ) → KeepsIn pages.now.entries key bytes → bytes ≡ result.now.page.value.b }
 {
     // it says that no key stands twice
     let _kept = pages.len();
@@ -65,11 +64,11 @@ pub(crate) fn kept_page(pages: &KeptPages, key: PageKey) -> &KeptPage
 
 /// Takes a page out, if it is kept.
 pub(crate) fn remove_page(pages: &mut KeptPages, key: PageKey) -> Option<Box<PageBytes>>
-    ensures some { IfSome result (λ p. Contains pages.old.entries (key, p)) }
+    ensures some { IfSome result (λ p. KeepsIn pages.old.entries key p.value.b) }
     ensures none { IfNone result (HasKey pages.old.entries key → ⊥) }
     ensures gone { HasKey pages.new.entries key → ⊥ }
     ensures fewer { KeepsNoMore pages.old.entries pages.new.entries }
-    ensures stays { (e : PageKey × Box PageBytes Global) → Contains pages.old.entries e → Contains pages.new.entries e
+    ensures stays { (e : PageKey × KeptData) → Contains pages.old.entries e → Contains pages.new.entries e
         ⊎ (e.0 ≡ key) }
     ensures order { keys_of pages.new.entries ≡ keys_but key (keys_of pages.old.entries) }
     ensures same { IfNone result (pages.new.entries ≡ pages.old.entries) }
@@ -82,7 +81,7 @@ pub(crate) fn remove_page(pages: &mut KeptPages, key: PageKey) -> Option<Box<Pag
 
 /// The page without its notes.
 fn page_of(kept: Option<KeptPage>) -> Option<Box<PageBytes>>
-    ensures { result ≡ kept }
+    ensures { result ≡ option_map (λ k. k.page) kept }
 {
     match kept {
         Some(kept) => Some(kept.into_page()),
@@ -100,9 +99,27 @@ pub(crate) fn add_note(pages: &mut KeptPages, key: PageKey, note: LeafNote)
     }
 }
 
+/// Marks a leaf of a page as dead, if that is kept.
+pub(crate) fn mark_part(pages: &mut KeptPages, key: PageKey, part: LeafPart)
+    ensures marks { MarksOne key part pages.old.entries pages.new.entries }
+    ensures room { pages.new.cap ≡ pages.old.cap }
+{
+    if let Some(page) = pages.peek_mut(&key) {
+        page.mark(part);
+    }
+}
+
+/// Whether a leaf of a page that is kept was told to be dead.
+pub(crate) fn has_dead_part(pages: &KeptPages, key: PageKey, part: LeafPart) -> bool
+    requires { HasKey pages.now.entries key }
+    ensures { IsTrue result → (bytes : List ℕ) × KeepsDeadIn pages.now.entries key part bytes }
+{
+    kept_page(pages, key).has_dead(&part)
+}
+
 /// Takes the last page out where it is of the segment's file, and else puts it first.
 fn rotate(pages: &mut KeptPages, id: u64)
-    ensures turned { (front : Kept) (last : PageKey × Box PageBytes Global) → pages.old.entries ≡ front ++ last ∷ []
+    ensures turned { (front : Kept) (last : PageKey × KeptData) → pages.old.entries ≡ front ++ last ∷ []
         → pages.new.entries ≡ cond (is_of_other id last.0) (last ∷ front) front }
     ensures room { pages.new.cap ≡ pages.old.cap }
 {

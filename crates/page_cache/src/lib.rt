@@ -16,6 +16,7 @@ mod kept;
 mod kept_page;
 mod key;
 mod laws;
+mod leaf_part;
 mod note;
 mod read;
 

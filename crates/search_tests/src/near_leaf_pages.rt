@@ -24,6 +24,7 @@ fn ten_nearest(
         &mut stored.folder,
         at,
         10,
+        false,
     )
 }
 
@@ -42,6 +43,7 @@ fn ten_of_entries(
         &mut stored.folder,
         at,
         10,
+        false,
     )
 }
 

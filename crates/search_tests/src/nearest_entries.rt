@@ -24,7 +24,17 @@ fn nearest_in<const D: usize>(
 {
     let mut cache = PageCache::new(alloc, 1)?;
     let mut folder = MemFolder::new(alloc, Vec::new(alloc));
-    let found = nearest(alloc, &[], &[], buffer, &mut cache, &mut folder, at, k)?;
+    let found = nearest(
+        alloc,
+        &[],
+        &[],
+        buffer,
+        &mut cache,
+        &mut folder,
+        at,
+        k,
+        false,
+    )?;
     Ok(found)
 }
 

@@ -97,6 +97,7 @@ fn nearest_of_three(
         &mut folder,
         &Point { c: [at] },
         k,
+        false,
     ))
 }
 
@@ -118,6 +119,7 @@ fn two_nearest(
         folder,
         &Point { c: [at] },
         2,
+        false,
     )
 }
 
@@ -205,6 +207,7 @@ fn nothing_is_read_where_no_number_is_live(rt: HostRuntime) -> Result<(), Fail> 
         &mut folder,
         &Point { c: [0] },
         3,
+        false,
     )?;
     same(
         &rt,

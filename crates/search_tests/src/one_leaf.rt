@@ -57,6 +57,7 @@ fn nearest_in_leaf(
         &mut folder,
         &Point { c: at },
         k,
+        false,
     )?;
     Ok(found)
 }

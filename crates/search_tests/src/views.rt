@@ -207,6 +207,7 @@ fn the_nearest_of_segments_and_buffer(rt: HostRuntime) -> Result<(), Fail> {
         &mut folder,
         &at,
         3,
+        false,
     )?;
     let expected = [
         Near { doc: 1, dist2: 1 },

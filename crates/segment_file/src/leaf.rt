@@ -6,11 +6,12 @@ ghost use Rattle.outer_io.specs.Files.{Files, bytes_of};
 ghost use Rattle.outer_io.specs.declared.file_name.FileName.TheVariants.{Segment};
 ghost use Rattle.point_codec.specs.Points.{Item, Region};
 ghost use Rattle.point_codec.specs.Seen.{region_of};
-ghost use Rattle.leaf_codec.specs.Leaves.{SpellsLeafIn, SpellsSomeIn};
+ghost use Rattle.leaf_codec.specs.Leaves.{SpellsLeaf, SpellsLeafIn, SpellsSomeIn};
 ghost use Rattle.inner_pack.specs.Places.{Spot};
 ghost use Rattle.inner_pack.specs.Trees.{IndexTree, Leaf};
 ghost use Rattle.inner_pack.specs.Nodes.{IsAt, IsPlaceOf};
-ghost use Rattle.page_cache.specs.Cache.{IsKept, KeepsFile, KeepsPages, Agrees, order_of};
+ghost use Rattle.page_file.specs.Page.{payload_of};
+ghost use Rattle.page_cache.specs.Cache.{Keeps, IsKept, KeepsFile, KeepsPages, MarksGo, Agrees};
 ghost use Rattle.page_cache.specs.Evidence.{OnDamage, NotDamaged};
 ghost use Rattle.page_cache.specs.FilePages.{IsFilePage};
 ghost use Rattle.page_cache.specs.Reading.{ReadsCached};
@@ -116,6 +117,10 @@ pub fn leaf_in<'a, const D: usize>(
         (λ view. (first : ℕ) (s : Spot) (path : Region) (t : IndexTree) → IsAt node.now first s path t
         → length view ≡ count_of head.now first) }
     ensures bad { IfNone result (SpellsNoLeaf cache.now head.now node.now place) }
+    // What the kept page spells there, over every folder.
+    ensures spelled { IfSome result (λ view. (bytes : List ℕ)
+        → Keeps cache.now head.now.id (page_of head.now place.page) bytes
+        → SpellsLeaf D (take place.length (drop place.offset (payload_of bytes))) view) }
 {
     let cell = node.cell();
     let count = head.count_of(node.first_leaf());
@@ -169,6 +174,7 @@ pub fn bad_leaf<const D: usize>(
         → OnFault result (IsLeafDamage D head.now first s t) }
     ensures damage { (files : Files) → Agrees files cache.old → OnFault result (IsLeafDamageOf files) }
     ensures fewer { (i : ℕ) → KeepsFile cache.new i → KeepsFile cache.old i }
+    ensures marks { MarksGo cache.old cache.new }
     ensures agrees { (files : Files) → Agrees files cache.old → Agrees files cache.new }
 {
     let file = FileName::Segment(head.id());

@@ -39,6 +39,7 @@ use Rattle.index_opening.specs.Opened.{IsOpened}
 use Rattle.segment_set.proofs.SavedSegments.{take_whole, zip_length}
 use Rattle.index_opening.proofs.Listed.{as_part, parts_held, entries_map}
 use Rattle.index_opening.proofs.Ordered.{zip_right}
+use Rattle.segment_set.proofs.Unhidden.{unhidden_nothing}
 
 -- ---- the names of the files that a commit lists
 
@@ -217,6 +218,7 @@ well_attached D told files c names parts cache dims commit all placed listed own
   few_inputs = omega arith;
   built = λ n is. absurd cc;
   cached = λ id keeps. absurd (none id keeps);
+  unhidden = unhidden_nothing _ cache parts none;
 }
 
 pub at_rest_attached : (told : Type 0) (files : Files) (c : CommitData) (names : NameList) (parts : List LiveSegment) (cache : PageCache)

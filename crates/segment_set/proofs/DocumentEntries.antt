@@ -194,6 +194,7 @@ well_with D s points ok room given well = record {
   few_inputs = well.few_inputs;
   built = well.built;
   cached = well.cached;
+  unhidden = well.unhidden;
 }
   where
     mine : List Item

@@ -66,6 +66,7 @@ well_empty D leaf names cache some few least greatest none own = record {
   few_inputs = omega arith;
   built = λ n is. absurd cc;
   cached = λ id kept. absurd (none id kept);
+  unhidden = All-nil _;
 }
 
 pub sees_empty : (D leaf : ℕ) (names : NameList) (cache : PageCache) (files : Files) → Agrees files cache

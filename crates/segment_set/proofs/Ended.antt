@@ -117,6 +117,7 @@ module _ (D : ℕ) (told : Type 0) (files new_files : Files) {s : SetData} (name
       well_moved D told files new_files s names b.inputs parts s.buffer end_moves well None s.cache
       (omega (arith, well.few, few_parts (living b.built) replaces built_is)) well.room well.ordered well.once well.sixteen
       (All-nil (λ (id : ℕ). is_among (ids_of parts) id ≡ true)) (omega arith) (λ n is. cc) well.cached
+      (λ i n offset len page known. known)
 
   -- all but the flag
   pub end_stays : StaysAlone s (moved s names parts s.buffer s.begun s.cache)

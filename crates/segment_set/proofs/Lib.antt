@@ -1,6 +1,7 @@
 pub mod Carried
 pub mod Standing
 pub mod Counted
+pub mod Unhidden
 pub mod Well
 pub mod Buffered
 pub mod Held

@@ -31,6 +31,8 @@ use Rattle.segment_set.proofs.Carried.{canon_filter, canon_named, canon_placed, 
 use Rattle.segment_set.proofs.Replaced.{one_if, place_in, some_place, live_placed}
 use Rattle.segment_set.proofs.Grown.{Grown, grown}
 use Rattle.segment_set.proofs.Weller.{place_built, all_replaced, total_replaced, among_replaced, spread_replaced}
+use Rattle.page_cache.specs.Cache.{MarksGo}
+use Rattle.segment_set.proofs.Unhidden.{unhidden_follow}
 
 -- the set with other names, segments, buffer, begun merge and cache
 abbrev pub moved : SetData → NameList → List LiveSegment → List Item → Option BegunMerge → PageCache → SetData
@@ -62,13 +64,22 @@ module _ (D : ℕ) (told : Type 0) (files new_files : Files) (s : SetData) (name
           (among_to (ids_of s.parts) id
           (All-contains (λ n. is_among (ids_of s.parts) n ≡ true) (inputs_of s.begun) id well.inputs (among_to (inputs_of s.begun) id among)))
 
+  pub follows_moved : Follows s.names s.parts parts
+  follows_moved = by m.built m.replaces
+    where
+      by : (built : Option NewSegmentData) → Replaces D told s.names names new_files ids built s.parts parts → Follows s.names s.parts parts
+      by None r = subst (Follows s.names s.parts) (sym r) (follows_filter s.names (λ p. not (is_among ids p.head.id)) s.parts)
+      by (Some n) r =
+          follows_placed s.names (part_at r.id n) s.parts (parts_but ids s.parts) parts r.placed r.fresh
+          (follows_filter s.names (λ p. not (is_among ids p.head.id)) s.parts)
+
   pub well_moved : IsWell D s → (begun : Option BegunMerge) (cache : PageCache) → length parts ≤ 200 → length left ≤ 16384 → IsNonDecreasingBy (λ x. x.doc) left
       → NoneTwice left → AreFew left
       → All (λ id. is_among (ids_of parts) id ≡ true) (inputs_of begun) → length (inputs_of begun) ≤ 64
       → ((n : NewSegmentData) → built_of begun ≡ Some n → IsBuiltOf D s.leaf (parts_among (inputs_of begun) parts) n)
-      → ((id : ℕ) → KeepsFile cache id → is_named s.names.names (Segment id) ≡ true)
+      → ((id : ℕ) → KeepsFile cache id → is_named s.names.names (Segment id) ≡ true) → MarksGo s.cache cache
       → IsWell D (moved s names parts left begun cache)
-  well_moved well begun cache few room ordered once sixteen inputs few_inputs built cached = record {
+  well_moved well begun cache few room ordered once sixteen inputs few_inputs built cached go = record {
     some_dims = well.some_dims;
     few_dims = well.few_dims;
     least_leaf = well.least_leaf;
@@ -95,6 +106,7 @@ module _ (D : ℕ) (told : Type 0) (files new_files : Files) (s : SetData) (name
     few_inputs = few_inputs;
     built = built;
     cached = λ id keeps. m.kept.more (Segment id) (cached id keeps);
+    unhidden = unhidden_follow D s.names s.parts parts s.cache cache follows_moved go cached well.unhidden;
   }
 
   -- no number is live that wasn't
@@ -128,15 +140,6 @@ module _ (D : ℕ) (told : Type 0) (files new_files : Files) (s : SetData) (name
       record { leaf = refl; next = refl; given = refl; snapshots = refl; begun = same; live = λ number live. live_before number begun cache live }
 
   -- ---- the segments
-
-  pub follows_moved : Follows s.names s.parts parts
-  follows_moved = by m.built m.replaces
-    where
-      by : (built : Option NewSegmentData) → Replaces D told s.names names new_files ids built s.parts parts → Follows s.names s.parts parts
-      by None r = subst (Follows s.names s.parts) (sym r) (follows_filter s.names (λ p. not (is_among ids p.head.id)) s.parts)
-      by (Some n) r =
-          follows_placed s.names (part_at r.id n) s.parts (parts_but ids s.parts) parts r.placed r.fresh
-          (follows_filter s.names (λ p. not (is_among ids p.head.id)) s.parts)
 
   pub canon_moved : told → IsWell D s → AreCanonical D new_files s.names parts
   canon_moved is_told well = by m.built m.replaces m.made

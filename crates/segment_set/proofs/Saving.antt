@@ -33,14 +33,15 @@ use Rattle.segment_set.proofs.Carried.{canon_named, canon_then, follows_none, un
 use Rattle.segment_set.proofs.Standing.{sees_alike, sees_like}
 use Rattle.segment_set.proofs.Covered.{IsListedAs}
 use Rattle.segment_set.proofs.SavedSegments.{zip_left}
+use Rattle.segment_view.specs.Unhidden.{HidesNoneOf}
 
 -- ---- what every set keeps to, with other names
 
 pub well_other : (D : ℕ) (s : SetData) (names : NameList) (cache : PageCache) (saved : Option CommitData) → IsWell D s → All (IsNamed names) s.parts
     → All (λ v. All (IsNamed names) v.parts) s.snapshots
-    → is_named names.names Commit ≡ false → ((id : ℕ) → KeepsFile cache id → is_named names.names (Segment id) ≡ true)
+    → is_named names.names Commit ≡ false → ((id : ℕ) → KeepsFile cache id → is_named names.names (Segment id) ≡ true) → All (HidesNoneOf D cache) s.parts
     → IsWell D (record s { names = names; cache = cache; saved = saved })
-well_other D s names cache saved well named kept own cached = record {
+well_other D s names cache saved well named kept own cached unhidden = record {
   some_dims = well.some_dims;
   few_dims = well.few_dims;
   least_leaf = well.least_leaf;
@@ -64,6 +65,7 @@ well_other D s names cache saved well named kept own cached = record {
   few_inputs = well.few_inputs;
   built = well.built;
   cached = cached;
+  unhidden = unhidden;
 }
 
 -- with more of them
@@ -75,7 +77,7 @@ well_names D told before after s names saved well keeps =
     (λ k p lt. keeps.more _ (well.named k p lt))
     (λ k v lt j p jt. keeps.more _ (well.kept k v lt j p jt))
     (keeps.own ∙ well.own)
-    (λ id kept. keeps.more (Segment id) (well.cached id kept))
+    (λ id kept. keeps.more (Segment id) (well.cached id kept)) well.unhidden
 
 -- ---- answers
 

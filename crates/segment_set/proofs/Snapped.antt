@@ -69,6 +69,7 @@ well_snapped D s name few well = record {
   few_inputs = well.few_inputs;
   built = well.built;
   cached = well.cached;
+  unhidden = well.unhidden;
 }
 
 -- ---- those of a name go
@@ -143,6 +144,7 @@ well_released D s name well = record {
   few_inputs = well.few_inputs;
   built = well.built;
   cached = well.cached;
+  unhidden = well.unhidden;
 }
 
 -- ---- all go, and the begun merge
@@ -197,6 +199,7 @@ well_rested D s well = record {
   few_inputs = omega arith;
   built = λ n is. cc;
   cached = well.cached;
+  unhidden = well.unhidden;
 }
 
 -- ---- the set from its fields

@@ -24,6 +24,7 @@ use Rattle.segment_set.specs.Merges.{IsGathered, MakesLive}
 use Rattle.segment_set.proofs.Standing.{totals_length}
 use Rattle.segment_set.proofs.Fresh.{some_docs}
 use Rattle.segment_set.proofs.Moved.{moved}
+use Rattle.segment_view.specs.Unhidden.{HidesNoneOf}
 
 -- ---- what is read
 
@@ -84,8 +85,9 @@ chosen_few which ids =
 pub begun_well : (D : ℕ) {s : SetData} (well : IsWell D s) (b : BegunMerge) (cache : PageCache) → All (λ id. is_among (ids_of s.parts) id ≡ true) b.inputs
     → length b.inputs ≤ 64
     → ((n : NewSegmentData) → b.built ≡ Some n → IsGathered D s.leaf (parts_among b.inputs s.parts) n)
-    → ((id : ℕ) → KeepsFile cache id → is_named s.names.names (Segment id) ≡ true) → IsWell D (moved s s.names s.parts s.buffer (Some b) cache)
-begun_well D {s} well b cache inputs few gathered cached = record {
+    → ((id : ℕ) → KeepsFile cache id → is_named s.names.names (Segment id) ≡ true) → All (HidesNoneOf D cache) s.parts
+    → IsWell D (moved s s.names s.parts s.buffer (Some b) cache)
+begun_well D {s} well b cache inputs few gathered cached unhidden = record {
   some_dims = well.some_dims;
   few_dims = well.few_dims;
   least_leaf = well.least_leaf;
@@ -109,6 +111,7 @@ begun_well D {s} well b cache inputs few gathered cached = record {
   few_inputs = few;
   built = λ n is. let of = gathered n is in record { leaf_size = of.made.leaf_size; has = of.made.has; fits = of.made.fits; within = of.within };
   cached = cached;
+  unhidden = unhidden;
 }
 
 -- what was built of the inputs' live entries merges them

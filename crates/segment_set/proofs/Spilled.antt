@@ -59,6 +59,7 @@ module _ (D : ℕ) (told : Type 0) (files new_files : Files) {s : SetData} (name
       (λ i j d le lt. absurd (omega (arith, lt))) none_twice_none few_none
       (ids_stay (inputs_of s.begun) s.parts parts stay well.inputs) well.few_inputs
       (λ n is. subst (λ (ps : List LiveSegment). IsBuiltOf D s.leaf ps n) (sym stay) (well.built n is)) well.cached
+      (λ i n offset len page known. known)
 
   pub spill_stays : StaysAlone s (moved s names parts [] s.begun s.cache)
   spill_stays = stays_moved D told files new_files s names [] parts [] spill_moves s.begun s.cache refl
@@ -88,7 +89,8 @@ pub refused_after : (D : ℕ) (told : Type 0) (files new_files : Files) {s : Set
     → KeepsNamed told s.names names files new_files
     → IsAfter D told files new_files s (moved s names s.parts s.buffer s.begun s.cache)
 refused_after D told files new_files {s} well names kept =
-    merge_after D told files new_files well names [] s.parts s.cache kept (λ id h. cc) (λ t agrees. agrees) (λ id h. inl h) {T = ℕ} {E = ℕ} (Err 0) tt refl
+    merge_after D told files new_files well names [] s.parts s.cache kept (λ id h. cc) (λ t agrees. agrees) (λ id h. inl h)
+    (λ i n offset len page known. known) {T = ℕ} {E = ℕ} (Err 0) tt refl
 
 pub spill_after : (D : ℕ) (told : Type 0) (files new_files : Files) {s : SetData} (well : IsWell D s) (names : NameList) (parts : List LiveSegment)
     (left : List Item)

@@ -24,6 +24,7 @@ use Rattle.segment_set.proofs.Standing.{ids_named, sees_same}
 use Rattle.segment_set.proofs.Replaced.{one_if, place_in, some_place, length_parted, all_among, ids_stay}
 use Rattle.segment_set.proofs.Weller.{place_built, length_replaced}
 use Rattle.segment_set.proofs.Moved.{Moves, moved, inputs_stay, well_moved, stays_moved, follows_moved, canon_moved, seen_moved, begun_moved}
+use Rattle.page_cache.specs.Cache.{MarksGo}
 
 pub ok_or_err : {T E P Q : Type 0} (r : Result T E) → OnOk r P → OnErr r Q → P ⊎ Q
 ok_or_err (Ok v) p q = inl p
@@ -138,15 +139,15 @@ module _ (D : ℕ) (told : Type 0) (files new_files : Files) (before : PageCache
   abbrev pub IsApart : Type 0
   IsApart = (id : ℕ) → is_among ids id ≡ true → is_among (inputs_of s.begun) id ≡ false
 
-  pub step_well : IsApart → (cache : PageCache) → ((id : ℕ) → KeepsFile cache id → is_named s.names.names (Segment id) ≡ true)
+  pub step_well : IsApart → (cache : PageCache) → ((id : ℕ) → KeepsFile cache id → is_named s.names.names (Segment id) ≡ true) → MarksGo s.cache cache
       → IsWell D (moved s names parts s.buffer s.begun cache)
-  step_well apart cache cached =
+  step_well apart cache cached go =
       let stay : parts_among (inputs_of s.begun) parts ≡ parts_among (inputs_of s.begun) s.parts =
       inputs_stay D told files new_files s names st.gone parts s.buffer st.moves well (λ id h. apart id (st.some id h)) in
       well_moved D told files new_files s names st.gone parts s.buffer st.moves well s.begun cache
       (omega (arith, st.few, well.few)) well.room well.ordered well.once well.sixteen
       (ids_stay (inputs_of s.begun) s.parts parts stay well.inputs) well.few_inputs
-      (λ n is. subst (λ (ps : List LiveSegment). IsBuiltOf D s.leaf ps n) (sym stay) (well.built n is)) cached
+      (λ n is. subst (λ (ps : List LiveSegment). IsBuiltOf D s.leaf ps n) (sym stay) (well.built n is)) cached go
 
   pub step_stays : (cache : PageCache) → StaysAlone s (moved s names parts s.buffer s.begun cache)
   step_stays cache = stays_moved D told files new_files s names st.gone parts s.buffer st.moves s.begun cache refl
@@ -187,13 +188,14 @@ pub merge_after : (D : ℕ) (told : Type 0) (files new_files : Files) {s : SetDa
     → ((id : ℕ) → is_among ids id ≡ true → is_among (inputs_of s.begun) id ≡ false)
     → (told → Agrees files s.cache → Agrees files cache)
     → ((id : ℕ) → KeepsFile cache id → KeepsFile s.cache id ⊎ Contains (ids_of (parts_among ids s.parts)) id)
+    → MarksGo s.cache cache
     → {T E : Type 0} (r : Result T E) → OnOk r (IsMerged D told s.leaf s.names names files new_files ids s.parts parts) → OnErr r (parts ≡ s.parts)
     → IsAfter D told files new_files s (moved s names parts s.buffer s.begun cache)
-merge_after D told files new_files {s} well names ids parts cache kept apart agrees others r merged refused =
+merge_after D told files new_files {s} well names ids parts cache kept apart agrees others go r merged refused =
     let st = step D told files new_files s.cache s names ids parts kept r merged refused in
     let cached = cached_more s.names s.parts s.cache cache ids well.named well.cached others in
     record {
-      well = step_well D told files new_files s.cache names ids parts st well apart cache cached;
+      well = step_well D told files new_files s.cache names ids parts st well apart cache cached go;
       seen = λ t i h. step_seen D told files new_files s.cache names ids parts st well t apart i h refl cache cached (agrees t);
       stays = step_stays D told files new_files s.cache names ids parts st well cache;
       follows = step_follows D told files new_files s.cache names ids parts st well;

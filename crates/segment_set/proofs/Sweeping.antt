@@ -28,6 +28,8 @@ use Rattle.segment_set.proofs.Saving.{well_other}
 use Rattle.segment_set.proofs.SavedSegments.{take_whole}
 use Rattle.segment_set.proofs.Standing.{IsLike, sees_like, stands_alike}
 use Rattle.segment_set.proofs.Needed.{not_needed, needed_still, needed_before}
+use Rattle.page_cache.specs.Cache.{MarksGo}
+use Rattle.segment_set.proofs.Unhidden.{unhidden_still}
 
 -- ---- sweeps, one after another
 
@@ -131,7 +133,7 @@ swept_removed told k s t before after name named own un is same none_there = rec
 
 module _ (D : ℕ) (s : SetData) (k : CommitData) (name : FileName) (cache : PageCache) (well : IsWell D s)
     (named : is_named s.names.names name ≡ true) (un : IsUnneeded s k name)
-    (fewer : (id : ℕ) → KeepsFile cache id → KeepsFile s.cache id) (none : (id : ℕ) → name ≡ Segment id → KeepsFile cache id → ⊥) where
+    (go : MarksGo s.cache cache) (fewer : (id : ℕ) → KeepsFile cache id → KeepsFile s.cache id) (none : (id : ℕ) → name ≡ Segment id → KeepsFile cache id → ⊥) where
   still_named : (parts : List LiveSegment) → All (IsNamed s.names) parts → ((p : LiveSegment) → Contains parts p → Segment p.head.id ≢ name)
       → All (IsNamed (names_but name s.names)) parts
   still_named parts named apart k p lt =
@@ -144,6 +146,7 @@ module _ (D : ℕ) (s : SetData) (k : CommitData) (name : FileName) (cache : Pag
       (λ p there e. un.shown (inr (get_or s.snapshots k v, All-contains_itself s.snapshots k v lt, (p, there, sym e)))))
       (others_kept s.names.names name Commit (λ e. both_ways (is_named s.names.names Commit) well.own (ap (is_named s.names.names) e ∙ named)) ∙ well.own)
       (λ id keeps. others_kept s.names.names name (Segment id) (λ e. none id (sym e) keeps) ∙ well.cached id (fewer id keeps))
+      (unhidden_still D s.cache cache s.parts go well.unhidden)
 
   pub sees_swept : (before after : Files) (t : SetData) (i : Index) → SameBut name before after → Agrees before cache → IsLike s t → t.parts ≡ s.parts
       → t.buffer ≡ s.buffer → t.begun ≡ s.begun → t.cache ≡ cache

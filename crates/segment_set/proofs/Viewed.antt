@@ -24,6 +24,9 @@ use Rattle.segment_set.specs.Sets.{IsNamed, IsWell, NamedView, SetData, buffer_i
 use Rattle.segment_set.specs.Seen.{Sees, ShowsSnapshot, StandsOver, entries_seen}
 use Rattle.segment_set.proofs.Standing.{ids_named, sees_like}
 use Rattle.segment_set.proofs.Well.{well_cache}
+use Rattle.page_cache.specs.Cache.{MarksGo}
+use Rattle.segment_view.specs.Unhidden.{HidesNoneOf}
+use Rattle.segment_set.proofs.Unhidden.{unhidden_still}
 
 -- ---- the segments of a view
 
@@ -122,11 +125,25 @@ none_named name (v ∷ vs) none = by (bytes_eq v.name name) none (none_named nam
 
 pub looked_well : (D : ℕ) (told : Bool) (f g : Files) (s : SetData) (view : Option (List ℕ)) (segments : List LiveSegment) (cache : PageCache) → IsWell D s
     → segments ≡ viewed_parts view s
-    → IsCalm told f g s.cache cache (ids_of segments) → IsWell D (record s { cache = cache })
-looked_well D told f g s view segments cache well is calm = well_cache D s cache well (λ id kept.
+    → IsCalm told f g s.cache cache (ids_of segments) → All (HidesNoneOf D cache) s.parts → IsWell D (record s { cache = cache })
+looked_well D told f g s view segments cache well is calm unhidden = well_cache D s cache well (λ id kept.
     ⊎_elim (well.cached id)
     (λ h. ids_named s.names (viewed_parts view s) (viewed_named D view s well) id (subst (λ (ps : List LiveSegment). Contains (ids_of ps) id) is h))
-    (calm.others id kept))
+    (calm.others id kept)) unhidden
+
+-- what the cache knows to be dead after a call that watches over the segments of now, and over those of no snapshot
+pub looked_unhidden : (D : ℕ) (watched : Bool) (s : SetData) (view : Option (List ℕ)) (segments : List LiveSegment) (cache : PageCache)
+    → segments ≡ viewed_parts view s → (IsTrue watched → view ≡ None) → (IsTrue watched → All (HidesNoneOf D cache) segments)
+    → (watched ≡ false → MarksGo s.cache cache) → All (HidesNoneOf D s.cache) s.parts → All (HidesNoneOf D cache) s.parts
+looked_unhidden D true s view segments cache is now hides go before =
+    subst (All (HidesNoneOf D cache)) (is ∙ ap (λ (v : Option (List ℕ)). viewed_parts v s) (now refl)) (hides refl)
+looked_unhidden D false s view segments cache is now hides go before = unhidden_still D s.cache cache s.parts (go refl) before
+
+-- and before it
+pub unhidden_in : (D : ℕ) (s : SetData) (view : Option (List ℕ)) (segments : List LiveSegment) → segments ≡ viewed_parts view s → view ≡ None
+    → All (HidesNoneOf D s.cache) s.parts → All (HidesNoneOf D s.cache) segments
+unhidden_in D s view segments is now before =
+    subst (All (HidesNoneOf D s.cache)) (sym (is ∙ ap (λ (v : Option (List ℕ)). viewed_parts v s) now)) before
 
 pub looked_agrees : (D : ℕ) (told : Bool) (f g : Files) (s t : SetData) (ids : List ℕ) (cache : PageCache) (i : Index) → s ≡ t
     → IsCalm told f g s.cache cache ids → IsTrue told → Sees D f t i → Agrees f cache

@@ -23,6 +23,8 @@ use Rattle.segment_build.specs.NewSegments.{NewSegmentData}
 use Rattle.file_names.specs.Names.{is_named}
 use Rattle.segment_set.specs.Sets.{BegunMerge, IsBuiltOf, IsNamed, IsSpread, IsWell, SetData, begun_but, built_but, built_of, inputs_of, is_live_in, set_but}
 use Rattle.segment_set.proofs.Counted.{few_filter, none_twice_filter}
+use Rattle.segment_view.specs.Unhidden.{HidesNoneOf}
+use Rattle.segment_set.proofs.Unhidden.{hides_fewer}
 
 -- ---- entries of numbers that are kept
 
@@ -191,6 +193,10 @@ well_but D number s well = record {
       (subst (IsBuiltOf D s.leaf (cleared_parts number (parts_among (inputs_of s.begun) s.parts))) (sym old.2)
       (built_of_but D s.leaf number (parts_among (inputs_of s.begun) s.parts) old.0 (well.built old.0 old.1))));
   cached = well.cached;
+  unhidden = All-map (HidesNoneOf D s.cache) clear s.parts
+      (All-weaker (HidesNoneOf D s.cache) (λ (p : LiveSegment). HidesNoneOf D s.cache (clear p))
+      (λ p h. hides_fewer D s.cache p.head.id (live_set_without number p.live) p.live
+      (λ m live. left_of (is_live p.live m) (not (eqb m number)) (sym (is_live-without p.live number m) ∙ live)) h) s.parts well.unhidden);
 }
   where
     clear : LiveSegment → LiveSegment
@@ -199,8 +205,8 @@ well_but D number s well = record {
 -- ---- another cache
 
 pub well_cache : (D : ℕ) (s : SetData) (cache : PageCache) → IsWell D s → ((id : ℕ) → KeepsFile cache id → is_named s.names.names (Segment id) ≡ true)
-    → IsWell D (record s { cache = cache })
-well_cache D s cache well cached = record {
+    → All (HidesNoneOf D cache) s.parts → IsWell D (record s { cache = cache })
+well_cache D s cache well cached unhidden = record {
   some_dims = well.some_dims;
   few_dims = well.few_dims;
   least_leaf = well.least_leaf;
@@ -224,4 +230,5 @@ well_cache D s cache well cached = record {
   few_inputs = well.few_inputs;
   built = well.built;
   cached = cached;
+  unhidden = unhidden;
 }

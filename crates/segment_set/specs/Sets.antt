@@ -15,6 +15,7 @@ use Rattle.page_cache.specs.Cache.{KeepsFile}
 use Rattle.commit_list.specs.Commits.{CommitData}
 use Rattle.merge_policy.specs.Choice.{free_count}
 use Rattle.stored_index.specs.Segments.{places}
+use Rattle.segment_view.specs.Unhidden.{HidesNoneOf}
 use Rattle.segment_view.specs.LiveSegments.{LiveSegment, cleared_parts, lives_of, ids_of, parts_among}
 use Rattle.document_checks.specs.Crowded.{AreFew, AreUncrowded}
 use Rattle.segment_build.specs.NewSegments.{NewSegmentData, HasEntries}
@@ -197,3 +198,4 @@ pub record IsWell (D : ℕ) (s : SetData) : Type 0 where
   pub built : (n : NewSegmentData) → built_of s.begun ≡ Some n
       → IsBuiltOf D s.leaf (parts_among (inputs_of s.begun) s.parts) n
   pub cached : (id : ℕ) → KeepsFile s.cache id → is_named s.names.names (Segment id) ≡ true
+  pub unhidden : All (HidesNoneOf D s.cache) s.parts

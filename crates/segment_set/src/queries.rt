@@ -124,7 +124,17 @@ impl<const D: usize> SegmentSet<D> {
             self.snapshots.as_slice(),
             view,
         );
-        segment_view::nearest(alloc, segments, buffer, &mut self.cache, folder, at, k)
+        let watched = is_of_now(view);
+        segment_view::nearest(
+            alloc,
+            segments,
+            buffer,
+            &mut self.cache,
+            folder,
+            at,
+            k,
+            watched,
+        )
     }
 
     /// What a visit of the view costs at most for this shape. It reads nothing and takes no memory.
@@ -175,6 +185,14 @@ fn segments_of<'a, const D: usize>(
             &snapshot.segments
         }
     }
+}
+
+/// Whether the view is that of now: only its live bits are watched over, since those of a snapshot are older, and may
+/// have what was deleted since.
+fn is_of_now(view: &View) -> bool
+    ensures { IsTrue result → view_name view.now ≡ None }
+{
+    matches!(view, View::Now)
 }
 
 /// Settles the buffer, where the view looks at it.

@@ -9,3 +9,4 @@ pub mod Stepwise
 pub mod Hits
 pub mod Marked
 pub mod Numbered
+pub mod Listing

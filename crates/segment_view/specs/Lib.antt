@@ -5,3 +5,4 @@ pub mod Found
 pub mod Calm
 pub mod Damages
 pub mod Marks
+pub mod Unhidden

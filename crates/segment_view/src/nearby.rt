@@ -1,10 +1,10 @@
 //! The documents nearest to a point.
 
-ghost use Rattle.std.specs.Prelude.{◌≡◌, ◌≤◌, ◌+◌, ◌++◌, ℕ, List, All, IsTrue, IfOk};
+ghost use Rattle.std.specs.Prelude.{◌≡◌, ◌≤◌, ◌+◌, ◌++◌, ℕ, List, All, IsTrue, IfOk, false};
 ghost use Rattle.point_codec.specs.declared.entries.Near.{Near};
 ghost use Rattle.point_codec.specs.Seen.{items_of};
 ghost use Rattle.inner_pack.specs.Trees.{IndexTree};
-ghost use Rattle.page_cache.specs.Cache.{Agrees};
+ghost use Rattle.page_cache.specs.Cache.{MarksGo, Agrees};
 ghost use Rattle.page_cache.specs.Causes.{HasPageCause};
 ghost use Rattle.page_cache.specs.Evidence.{OnDamage, NotDamaged};
 ghost use Rattle.segment_file.specs.Heads.{IsHead};
@@ -13,6 +13,7 @@ ghost use Rattle.documents.specs.NearestEntries.{IsNearest, nears_of};
 ghost use Rattle.nearest_query.specs.Segments.{AreLeavesKept, AreNearLeaves, HaveTrees, bound_of};
 ghost use Rattle.segment_view.specs.LiveSegments.{Contents, AreRead, heads_of, ids_of, live_in_parts};
 ghost use Rattle.segment_view.specs.Calm.{IsCalm};
+ghost use Rattle.segment_view.specs.Unhidden.{HidesNoneOf};
 ghost use Rattle.segment_view.specs.Damages.{IsPartDamage};
 
 use crate::segments::Segments;
@@ -28,6 +29,9 @@ use std::alloc::Global;
 ///
 /// Only leaves whose cell is as near as the last number found are read. The answer may be a damage of a leaf that had
 /// to be read, Failed and Memory.
+///
+/// Where the live sets are watched over (`watched`) the cache remembers which leaves have no live entry, and these are
+/// passed over: the caller sees to it then that no number becomes live again while pages of its segment may be kept.
 pub fn nearest<const D: usize, F: Pages>(
     alloc: Global,
     segments: &Segments<D>,
@@ -36,9 +40,14 @@ pub fn nearest<const D: usize, F: Pages>(
     folder: &mut F,
     at: &Point<D>,
     k: u16,
+    watched: bool,
 ) -> Result<Vec<Near>, PageFault>
     requires some { 1 ≤ k }
     requires few { k ≤ 10000 }
+    // where the live sets are watched over: no leaf that the cache knows to be dead has an entry that is live
+    requires hides { IsTrue watched → All (HidesNoneOf D cache.old) segments.now }
+    ensures hides { IsTrue watched → All (HidesNoneOf D cache.new) segments.now }
+    ensures marks { watched ≡ false → MarksGo cache.old cache.new }
     ensures answer { IsTrue F.told → Agrees (F.files folder.old) cache.old → (c : Contents)
         → AreRead D (F.files folder.old) c segments.now
         → IfOk result
@@ -71,6 +80,7 @@ pub fn nearest<const D: usize, F: Pages>(
         folder,
         at,
         k,
+        watched,
     )
 }
 

@@ -7,7 +7,7 @@ ghost use Rattle.point_codec.specs.Seen.{items_of};
 ghost use Rattle.inner_pack.specs.Places.{front};
 ghost use Rattle.inner_pack.specs.Trees.{IndexTree};
 ghost use Rattle.inner_pack.specs.Bodies.{HasTree};
-ghost use Rattle.page_cache.specs.Cache.{Agrees};
+ghost use Rattle.page_cache.specs.Cache.{MarksGo, Agrees};
 ghost use Rattle.page_cache.specs.Causes.{HasPageCause};
 ghost use Rattle.page_cache.specs.Evidence.{OnDamage, NotDamaged};
 ghost use Rattle.page_cache.specs.Reading.{ReadsNothing};
@@ -59,6 +59,7 @@ pub fn visit<const D: usize, S: Shape<D>, F: Pages>(
     // What stays.
     ensures has { S.has shape.new ≡ S.has shape.old }
     ensures crosses { S.crosses shape.new ≡ S.crosses shape.old }
+    ensures marks { MarksGo cache.old cache.new }
     ensures calm { IsCalm F.told (F.files folder.old) (F.files folder.new) cache.old cache.new (ids_of segments.now) }
     // What an error says.
     ensures cause { HasPageCause (F.faults folder.old) (F.faults folder.new) result }
@@ -96,6 +97,7 @@ fn visit_segments<const D: usize, S: Shape<D>, F: Pages>(
         → ReadsNothing (F.reads folder.old) (F.reads folder.new) cache.old cache.new result }
     ensures has { S.has shape.new ≡ S.has shape.old }
     ensures crosses { S.crosses shape.new ≡ S.crosses shape.old }
+    ensures marks { MarksGo cache.old cache.new }
     ensures calm { IsCalm F.told (F.files folder.old) (F.files folder.new) cache.old cache.new (ids_of segments.now) }
     ensures cause { HasPageCause (F.faults folder.old) (F.faults folder.new) result }
     ensures shown { OnDamage result (IsPartDamage D segments.now) }
@@ -136,6 +138,7 @@ fn visit_one<const D: usize, S: Shape<D>, F: Pages>(
         → ReadsNothing (F.reads folder.old) (F.reads folder.new) cache.old cache.new result }
     ensures has { S.has shape.new ≡ S.has shape.old }
     ensures crosses { S.crosses shape.new ≡ S.crosses shape.old }
+    ensures marks { MarksGo cache.old cache.new }
     ensures calm { IsCalm F.told (F.files folder.old) (F.files folder.new) cache.old cache.new (head.now.id ∷ []) }
     ensures cause { HasPageCause (F.faults folder.old) (F.faults folder.new) result }
     ensures shown { OnDamage result (IsReadDamage D head.now) }

@@ -1,6 +1,6 @@
 use Rattle.std.specs.Prelude.{All}
 use Rattle.nearest_query.proofs.Results.{always}
-use Rattle.std.proofs.Common.{◌≡◌, length, get_or, ℕ, ap, subst, sym, refl, ◌∙◌, arith}
+use Rattle.std.proofs.Common.{◌≡◌, length, get_or, ℕ, ap, subst, sym, refl, ◌∙◌, arith, rules}
 use Rattle.inner_pack.specs.Nodes.{IsAt}
 use Rattle.nearest_query.specs.Search.{one_within, head_at, live_at, no_live}
 use Rattle.nearest_query.specs.Segments.{no_head}
@@ -19,7 +19,49 @@ use Rattle.page_cache.specs.Cache.{IsKept}
 use Rattle.page_cache.proofs.Unread.{reads_failed}
 use Rattle.segment_file.specs.Heads.{Head, page_of}
 use Rattle.nearest_query.proofs.Unread.{leaf_kept}
+use Rattle.nearest_query.proofs.Passed.{hides_own, hide_one, marks_none}
 use Rattle.nearest_query.proofs.search.open.Goals as goal
+
+-- ---- leaves that are known to be dead
+
+pub open_leaf-requires : goal.open_leaf-requires
+open_leaf-requires g c = (
+  search rules,
+  (
+    search rules,
+    (
+      search rules,
+      (
+        ap (λ m. m.leaves)
+            (c.node-in-None.ensures ∙ c.requires.inside.stands.is c.node-in-None.result.now
+            ∙ sym (c.node.ensures ∙ c.requires.inside.stands.is c.node.result.now))
+            ∙ c.in-None.ensures.none.0 refl,
+        λ watched.
+            hides_own g.row.D c.args.heads.now c.args.lives.now c.args.next.segment c.index-heads-next.result c.index-lives-next.result c.args.cache.now
+            c.requires.inside.inside
+            (read_any c.args.heads.now c.args.next.segment c.index-heads-next.result no_head c.requires.inside.inside c.index-heads-next.is)
+            (read_any c.args.lives.now c.args.next.segment c.index-lives-next.result no_live (omega (arith, c.requires.lives, c.requires.inside.inside))
+            c.index-lives-next.is)
+            (c.requires.hides watched),
+      ),
+    ),
+  ),
+)
+
+pub returns-in-None-clause-hides : goal.returns-in-None-clause-hides
+returns-in-None-clause-hides g c = λ watched.
+    hide_one g.row.D c.args.watched c.args.heads.now c.args.lives.now c.args.next.segment c.index-heads-next.result c.index-lives-next.result c.args.cache.now
+    c.open_leaf.new.cache c.requires.inside.inside
+    (read_any c.args.heads.now c.args.next.segment c.index-heads-next.result no_head c.requires.inside.inside c.index-heads-next.is)
+    (read_any c.args.lives.now c.args.next.segment c.index-lives-next.result no_live (omega (arith, c.requires.lives, c.requires.inside.inside))
+    c.index-lives-next.is)
+    (c.requires.apart watched) c.open_leaf.ensures.marks (c.requires.hides watched)
+
+pub returns-in-None-clause-marks : goal.returns-in-None-clause-marks
+returns-in-None-clause-marks g c =
+    marks_none g.row.D c.args.watched c.index-heads-next.result.id c.index-lives-next.result c.args.cache.now c.open_leaf.new.cache c.open_leaf.ensures.marks
+
+-- ---- the search
 
 pub returns-in_err-fork-in-Some-clause-reads : goal.returns-in_err-fork-in-Some-clause-reads
 returns-in_err-fork-in-Some-clause-reads g c = λ w bound n at within.

@@ -41,10 +41,17 @@ open-requires g c = (
       search rules,
       (
         c.requires.lives,
-        subst (λ ns. IsInside (length c.args.heads.now) ns c.in-Some.next) (sym c.in-Some.ensures.nodes)
-            (All-head (IsInside (length c.args.heads.now) c.loop-next.frontier.nodes) c.in-Some.next c.pop.new.self.turns
-            (All-permutation (IsInside (length c.args.heads.now) c.loop-next.frontier.nodes) c.loop-next.frontier.turns (c.in-Some.next ∷ c.pop.new.self.turns)
-            c.in-Some.ensures.some c.loop-next.invariant.inside)),
+        (
+          c.requires.apart,
+          (
+            c.loop-next.invariant.hides,
+            subst (λ ns. IsInside (length c.args.heads.now) ns c.in-Some.next) (sym c.in-Some.ensures.nodes)
+                (All-head (IsInside (length c.args.heads.now) c.loop-next.frontier.nodes) c.in-Some.next c.pop.new.self.turns
+                (All-permutation (IsInside (length c.args.heads.now) c.loop-next.frontier.nodes) c.loop-next.frontier.turns
+                (c.in-Some.next ∷ c.pop.new.self.turns)
+                c.in-Some.ensures.some c.loop-next.invariant.inside)),
+          ),
+        ),
       ),
     ),
   ),
@@ -57,6 +64,8 @@ loop-next-init g c = record {
   faults = refl;
   others = λ i h. inl h;
   agrees = λ told a. a;
+  hides = c.requires.hides;
+  marks = λ off i n offset len page known. known;
   inside = c.requires.inside;
   parts = λ trees all. all;
   kept = λ trees all kept. (refl, λ i m k. k);
@@ -79,6 +88,9 @@ loop-next-preserved g c = record {
   agrees = λ told a. subst (λ f. Agrees f c.open.new.cache) (c.loop-next.invariant.files told)
       (c.in_ok-open.ensures.reading.agrees told
       (subst (λ f. Agrees f c.loop-next.cache) (sym (c.loop-next.invariant.files told)) (c.loop-next.invariant.agrees told a)));
+  hides = c.in_ok-open.ensures.hides;
+  marks = λ off i n offset len page known.
+      c.loop-next.invariant.marks off i n offset len page (c.in_ok-open.ensures.marks off i n offset len page known);
   inside = c.in_ok-open.ensures.inside
       (subst (λ ns. All (IsInside (length c.args.heads.now) ns) c.pop.new.self.turns) (sym c.in-Some.ensures.nodes)
       (All-tail (IsInside (length c.args.heads.now) c.loop-next.frontier.nodes) c.in-Some.next c.pop.new.self.turns
@@ -123,6 +135,10 @@ loop-next-preserved g c = record {
       c.in-Some.ensures.some in
       omega (arith, r, o, p);
 }
+
+pub returns-in_err-open-clause-marks : goal.returns-in_err-open-clause-marks
+returns-in_err-open-clause-marks g c = λ off i n offset len page known.
+    c.loop-next.invariant.marks off i n offset len page (c.in_err-open.ensures.marks off i n offset len page known)
 
 pub returns-in_err-open-clause-reading : goal.returns-in_err-open-clause-reading
 returns-in_err-open-clause-reading g c =

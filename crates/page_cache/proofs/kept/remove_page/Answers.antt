@@ -6,10 +6,10 @@ use Rattle.page_cache.proofs.KeptPages as kept
 use Rattle.page_cache.proofs.kept.remove_page.Goals as goal
 
 pub returns-clause-some : goal.returns-clause-some
-returns-clause-some c = kept.taken_some c.args.key c.args.pages.now.entries c.page_of.result (c.page_of.ensures ∙ c.pop.ensures.value)
+returns-clause-some c = kept.taken_some c.args.key c.args.pages.now.entries c.pop.result c.page_of.result c.page_of.ensures c.pop.ensures.value
 
 pub returns-clause-none : goal.returns-clause-none
-returns-clause-none c = kept.taken_none c.args.key c.args.pages.now.entries c.page_of.result (c.page_of.ensures ∙ c.pop.ensures.value)
+returns-clause-none c = kept.taken_none c.args.key c.args.pages.now.entries c.pop.result c.page_of.result c.page_of.ensures c.pop.ensures.value
 
 pub returns-clause-gone : goal.returns-clause-gone
 returns-clause-gone c = λ has.
@@ -31,5 +31,5 @@ returns-clause-stays c = λ e has. elim (kept.taken_stays c.args.key c.args.page
 
 pub returns-clause-same : goal.returns-clause-same
 returns-clause-same c =
-    kept.taken_same c.args.key c.args.pages.now.entries c.pop.new.self.entries c.page_of.result (c.page_of.ensures ∙ c.pop.ensures.value)
+    kept.taken_same c.args.key c.args.pages.now.entries c.pop.new.self.entries c.pop.result c.page_of.result c.page_of.ensures c.pop.ensures.value
     (ap (λ p. p.entries) c.pop.ensures.entries)

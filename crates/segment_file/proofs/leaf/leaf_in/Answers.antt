@@ -3,7 +3,7 @@ use Rattle.outer_io.specs.Files.{Files, bytes_of}
 use Rattle.outer_io.specs.declared.file_name.FileName.TheVariants.{Segment}
 use Rattle.point_codec.specs.Points.{Region}
 use Rattle.point_codec.specs.Seen.{region_of}
-use Rattle.leaf_codec.specs.Leaves.{SpellsSomeIn}
+use Rattle.leaf_codec.specs.Leaves.{SpellsLeaf, SpellsSomeIn}
 use Rattle.inner_pack.specs.Places.{Spot}
 use Rattle.inner_pack.specs.Trees.{Leaf}
 use Rattle.inner_pack.specs.Nodes.{IsAt}
@@ -62,6 +62,16 @@ returns-clause-none g c =
     (leaf_spells g.row.D (bytes_of (files (Segment c.args.head.now.id))) c.noted_view-known.result.0.bytes.now.b c.args.head.now first s len own items
     c.args.place (of_file g c files agrees) place holds)))
     c.read_part.ensures.none
+
+pub returns-clause-spelled : goal.returns-clause-spelled
+returns-clause-spelled g c =
+    some_weaker c.read_part.result _ _
+    (λ view h bytes kept.
+    let here : Keeps c.args.cache.now c.id.result c.page_of.result bytes = rw (c.id.ensures, c.page_of.ensures) kept in
+    let same : c.noted_view-known.result.0.bytes.now.b ≡ bytes = sym (c.noted_view-known.ensures.only bytes here) in
+    subst (λ (p : List ℕ). SpellsLeaf g.row.D p view)
+    (part g c ∙ ap (λ (page : List ℕ). part_of c.args.place.offset c.args.place.length page) same) h.spells)
+    c.read_part.ensures.some
 
 pub returns-clause-bad : goal.returns-clause-bad
 unfolding SpellsNoLeaf

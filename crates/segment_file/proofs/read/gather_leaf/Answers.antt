@@ -1,4 +1,4 @@
-use Rattle.std.proofs.Common.{sym, subst}
+use Rattle.std.proofs.Common.{sym, subst, rules}
 use Rattle.std.proofs.lemmas.Result.{err_from_is_err_and}
 use Rattle.outer_io.specs.Files.{bytes_of}
 use Rattle.outer_io.specs.declared.file_name.FileName.TheVariants.{Segment}
@@ -67,3 +67,13 @@ returns-clause-last g c = λ first s path t at.
 
 pub returns-clause-added : goal.returns-clause-added
 returns-clause-added g c = (c.in-Some.view, c.in_ok-add_leaf.ensures)
+
+pub returns-clause-reading : goal.returns-clause-reading
+returns-clause-reading g c =
+    let h = c.in_ok-place.ensures.reading in
+    record { files = h.files; others = h.others; agrees = h.agrees; cause = search rules; marks = h.marks }
+
+pub returns-in_err-add_leaf-clause-reading : goal.returns-in_err-add_leaf-clause-reading
+returns-in_err-add_leaf-clause-reading g c =
+    let h = c.in_ok-place.ensures.reading in
+    record { files = h.files; others = h.others; agrees = h.agrees; cause = search rules; marks = h.marks }

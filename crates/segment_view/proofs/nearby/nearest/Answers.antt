@@ -1,4 +1,4 @@
-use Rattle.std.proofs.Common.{◌++◌, ℕ, List, ap, sym, subst, ◌∙◌, inl, inr, ⊎_elim}
+use Rattle.std.proofs.Common.{◌++◌, ℕ, List, ap, sym, subst, ◌∙◌, inl, inr, ⊎_elim, rules}
 use Rattle.std.specs.Prelude.{All, IfOk}
 use Rattle.point_codec.specs.Points.{Item}
 use Rattle.point_codec.specs.Seen.{items_of}
@@ -9,6 +9,7 @@ use Rattle.segment_file.specs.Heads.{Head, IsHead}
 use Rattle.documents.specs.NearestEntries.{IsNearest, nears_of}
 use Rattle.nearest_query.specs.Segments.{AreLeavesKept, AreNearLeaves, AreSegments, HasId, HaveTrees, IsSegmentDamage, bound_of, live_in}
 use Rattle.segment_view.specs.LiveSegments.{heads_of}
+use Rattle.segment_view.proofs.Listing.{hide_these, these_hide, ids_of_these, lives_beside}
 use Rattle.segment_view.proofs.Living.{live_listed, read_segments}
 use Rattle.segment_view.proofs.Reading.{id_of}
 use Rattle.segment_view.proofs.Shown.{parts_shown}
@@ -35,6 +36,40 @@ returns-clause-reads g c = λ told agrees es read found is leaves near.
     found
     (subst (λ (xs : List Item). IsNearest c.args.k (nears_of at (xs ++ items_of c.args.buffer.now)) found) (sym live) is) leaves
     (subst (λ (hs : List Head). AreNearLeaves g.row.D at (bound_of c.args.k found) hs leaves) (sym c.heads-2.ensures.value) near)
+
+pub nearest-requires : goal.nearest-requires
+nearest-requires g c = (
+  search rules,
+  (
+    search rules,
+    (
+      search rules,
+      (
+        lives_beside c.args.segments.now c.heads-2.result.now c.lives.result.now c.heads-2.ensures.value c.lives.ensures,
+        (
+          c.requires.some,
+          (
+            c.requires.few,
+            (
+              λ watched. ids_of_these c.args.segments.now c.heads-2.result.now c.heads-2.ensures.value c.heads-2.ensures.ascend,
+              λ watched.
+                  hide_these g.row.D c.args.cache.now c.args.segments.now c.heads-2.result.now c.lives.result.now c.heads-2.ensures.value c.lives.ensures
+                  (c.requires.hides watched),
+            ),
+          ),
+        ),
+      ),
+    ),
+  ),
+)
+
+pub returns-clause-hides : goal.returns-clause-hides
+returns-clause-hides g c = λ watched.
+    these_hide g.row.D c.nearest.new.cache c.args.segments.now c.heads-2.result.now c.lives.result.now c.heads-2.ensures.value c.lives.ensures
+    (c.nearest.ensures.hides watched)
+
+pub returns-clause-marks : goal.returns-clause-marks
+returns-clause-marks g c = c.nearest.ensures.marks
 
 pub returns-clause-calm : goal.returns-clause-calm
 returns-clause-calm g c = record {

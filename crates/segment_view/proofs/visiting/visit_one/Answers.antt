@@ -62,6 +62,9 @@ returns-clause-calm g c =
     c.args.head.now.id
     c.intersect.ensures.reading.files c.intersect.ensures.reading.agrees c.intersect.ensures.reading.others
 
+pub returns-clause-marks : goal.returns-clause-marks
+returns-clause-marks g c = c.intersect.ensures.reading.marks
+
 pub returns-clause-shown : goal.returns-clause-shown
 returns-clause-shown g c =
     read_shown g.row.D c.args.head.now c.index.result.now c.intersect.result c.index.ensures.ranges c.index.ensures.value c.is_spelled.ensures

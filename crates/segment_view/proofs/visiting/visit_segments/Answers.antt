@@ -22,6 +22,7 @@ use Rattle.segment_view.proofs.visiting.visit_segments.Goals as goal
 pub loop-i-init : goal.loop-i-init
 loop-i-init g c = record {
   calm = calm_none g.F.Pages.told (g.F.Pages.files c.args.folder.now) c.args.cache.now (ids_of c.args.segments.now);
+  marks = λ i n offset len page known. known;
   faults = refl;
   has = refl;
   crosses = refl;
@@ -48,6 +49,7 @@ loop-i-preserved g c =
           c.visit_one.new.cache (ids_of parts) was.calm
           (calm_more g.F.Pages.told (g.F.Pages.files c.loop-i.folder) (g.F.Pages.files c.visit_one.new.folder) c.loop-i.cache c.visit_one.new.cache
           (p.head.id ∷ []) (ids_of parts) (id_in parts p there) one.calm);
+      marks = λ i n offset len page known. was.marks i n offset len page (one.marks i n offset len page known);
       faults = one.cause.fine ∙ was.faults;
       has = one.has ∙ was.has;
       crosses = one.crosses ∙ was.crosses;
@@ -125,6 +127,10 @@ returns-in_err-visit_one-clause-calm g c =
     c.loop-i.cache c.visit_one.new.cache (ids_of parts) c.loop-i.invariant.calm
     (calm_more g.F.Pages.told (g.F.Pages.files c.loop-i.folder) (g.F.Pages.files c.visit_one.new.folder) c.loop-i.cache c.visit_one.new.cache (p.head.id ∷ [])
     (ids_of parts) (id_in parts p (part_in parts c.loop-i.i p c.part.ensures)) c.in_err-visit_one.ensures.calm)
+
+pub returns-in_err-visit_one-clause-marks : goal.returns-in_err-visit_one-clause-marks
+returns-in_err-visit_one-clause-marks g c = λ i n offset len page known.
+    c.loop-i.invariant.marks i n offset len page (c.in_err-visit_one.ensures.marks i n offset len page known)
 
 pub returns-in_err-visit_one-clause-shown : goal.returns-in_err-visit_one-clause-shown
 returns-in_err-visit_one-clause-shown g c =

@@ -1,6 +1,6 @@
 use Rattle.std.proofs.Common.{◌≡◌, ◌≤◌, ◌+◌, ◌*◌, ◌++◌, ℕ, take}
 use Rattle.std.specs.Prelude.{IsTrue}
-use Rattle.page_cache.specs.Cache.{Agrees, KeepsPages}
+use Rattle.page_cache.specs.Cache.{Agrees, KeepsPages, MarksGo}
 use Rattle.documents.specs.Entries.{numbers_found}
 use Rattle.segment_view.specs.LiveSegments.{Contents, AreRead, heads_of, ids_of, live_in_parts}
 use Rattle.segment_view.specs.Costs.{leaves_in, AreTested, AreTouched, AreTouchedKept}
@@ -10,6 +10,7 @@ use Rattle.segment_view.proofs.visiting.visit_segments.Given as goal
 abbrev pub invariant-loop-i : goal.invariant-loop-i
 invariant-loop-i g l = record {
   calm : IsCalm g.F.Pages.told (g.F.Pages.files l.initial.folder) (g.F.Pages.files l.folder) l.initial.cache l.cache (ids_of l.segments);
+  marks : MarksGo l.initial.cache l.cache;
   faults : g.F.Pages.faults l.folder ≡ g.F.Pages.faults l.initial.folder;
   has : g.S.Shape.has l.shape ≡ g.S.Shape.has l.initial.shape;
   crosses : g.S.Shape.crosses l.shape ≡ g.S.Shape.crosses l.initial.shape;

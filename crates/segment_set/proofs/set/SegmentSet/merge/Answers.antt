@@ -60,7 +60,8 @@ after : (g : given.Over) (c : goal.After-merge g)
 after g c =
     merge_after g.row.D (IsTrue g.F.Pages.told) (g.F.Pages.files c.args.folder.now) (g.F.Pages.files c.merge.new.folder) {s = was g c} c.self.invariant
     c.merge.new.names c.args.ids.now c.merge.new.segments c.self.inside.cache
-    c.merge.ensures.kept (apart g c).apart (λ told agrees. agrees) (λ id keeps. inl keeps) c.merge.result (merged g c) c.merge.ensures.refused
+    c.merge.ensures.kept (apart g c).apart (λ told agrees. agrees) (λ id keeps. inl keeps) (λ i n offset len page known. known)
+    c.merge.result (merged g c) c.merge.ensures.refused
 
 pub plan-plan-requires : goal.plan-plan-requires
 plan-plan-requires g c = (set_fits g.row.D c.self.invariant.few_dims, lit< tt)

@@ -103,7 +103,7 @@ invariant_of-self g c =
     (subst (All (λ id. is_among ids id ≡ true)) (sym (chosen g c)) (chosen_there c.args.which.now ids))
     (subst (λ (ns : List ℕ). length ns ≤ 64) (sym (chosen g c)) (chosen_few c.args.which.now ids))
     (gathered_here g c)
-    well.cached
+    well.cached well.unhidden
 
 pub returns-clause-seen : goal.returns-clause-seen
 returns-clause-seen g c = λ told i seen.

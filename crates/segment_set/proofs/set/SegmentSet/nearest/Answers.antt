@@ -14,7 +14,8 @@ use Rattle.segment_set.specs.Sets.{IsWell, SetData, buffer_at, parts_at, viewed_
 use Rattle.segment_set.specs.Seen.{Sees, entries_seen}
 use Rattle.segment_set.specs.Faithful.{IsFaithful}
 use Rattle.segment_set.proofs.Sizes.{point_fits}
-use Rattle.segment_set.proofs.Viewed.{looked_buffer, looked_nearest, looked_parts, looked_read, looked_sees, looked_well, viewed_read}
+use Rattle.segment_set.proofs.Viewed.{looked_buffer, looked_nearest, looked_parts, looked_read, looked_sees, looked_unhidden, looked_well, unhidden_in}
+use Rattle.segment_set.proofs.Viewed.{viewed_read}
 use Rattle.segment_set.proofs.Viewing.{looked_evident, looked_faithful}
 use Rattle.segment_set.proofs.set.SegmentSet.nearest.Given as given
 use Rattle.segment_set.proofs.set.SegmentSet.nearest.Goals as goal
@@ -67,12 +68,22 @@ agreed g c i seen = subst (λ (u : SetData). Agrees (g.F.Pages.files c.args.fold
 pub invariant_of-self : goal.invariant_of-self
 invariant_of-self g c =
     subst (IsWell g.row.D) (sym (same g c))
-    (looked_well _ _ _ _ (was g c) (view_name c.args.view.now) _ _ c.self.invariant (here g c) c.nearest.ensures.calm)
+    (looked_well _ _ _ _ (was g c) (view_name c.args.view.now) _ _ c.self.invariant (here g c) c.nearest.ensures.calm
+    (looked_unhidden g.row.D c.is_of_now-watched.result (was g c) (view_name c.args.view.now) c.view_of.result.0.now c.nearest.new.cache (here g c)
+    c.is_of_now-watched.ensures c.nearest.ensures.hides c.nearest.ensures.marks c.self.invariant.unhidden))
 
 pub nearest-requires : goal.nearest-requires
 nearest-requires g c =
     let dims = c.self.invariant.few_dims in
-    (lit< tt, (entry_fits g.row.D dims, (point_fits g.row.D dims, (c.requires.some, c.requires.few))))
+    (lit< tt, (entry_fits g.row.D dims, (point_fits g.row.D dims, (
+      c.requires.some,
+      (
+        c.requires.few,
+        λ watched.
+            unhidden_in g.row.D (was g c) (view_name c.args.view.now) c.view_of.result.0.now (here g c) (c.is_of_now-watched.ensures watched)
+            c.self.invariant.unhidden,
+      ),
+    ))))
 
 pub returns-clause-found : goal.returns-clause-found
 returns-clause-found g c told i seen docs is =

@@ -3,16 +3,18 @@ use Rattle.std.specs.Prelude.{IsTrue}
 use Rattle.std.specs.List.{filter}
 use Rattle.outer_io.specs.declared.file_name.FileName.{FileName}
 use Rattle.outer_io.specs.Names.{same_name}
-use Rattle.page_cache.specs.Cache.{Agrees, KeepsFile}
+use Rattle.page_cache.specs.Cache.{Agrees, KeepsFile, MarksGo}
 use Rattle.file_names.specs.Names.{NameList}
 use Rattle.segment_set.specs.Sets.{IsWell, SetData}
 use Rattle.segment_set.proofs.Well.{well_cache}
 use Rattle.segment_set.proofs.Sweeping.{names_but, sees_swept, swept_removed, swept_torn, well_swept}
 use Rattle.segment_set.proofs.Viewing.{faithful_swept}
 use Rattle.segment_set.proofs.set.SegmentSet.remove_file.Goals as goal
+use Rattle.segment_set.proofs.Unhidden.{unhidden_still}
 
 pub invariant_of-self : goal.invariant_of-self
 invariant_of-self g c = well_cache g.row.D _ c.forget.new.cache c.self.invariant (λ id keeps. c.self.invariant.cached id (c.forget.ensures.fewer id keeps))
+    (unhidden_still g.row.D c.self.inside.cache c.forget.new.cache c.self.inside.segments c.forget.ensures.marks c.self.invariant.unhidden)
 
 pub invariant_of-self-2 : goal.invariant_of-self-2
 invariant_of-self-2 g c =
@@ -23,7 +25,7 @@ invariant_of-self-2 g c =
     subst (λ (u : SetData). IsWell g.row.D (record u { names = c.remove-2.new.self; cache = c.forget.new.cache })) (sym c.self.view_is)
     (subst (λ (n : NameList). IsWell g.row.D (record s { names = n; cache = c.forget.new.cache })) (sym same)
     (well_swept g.row.D s c.args.c.now c.args.name.now c.forget.new.cache (subst (IsWell g.row.D) c.self.view_is c.self.invariant) c.requires.named
-    c.requires.unneeded
+    c.requires.unneeded (subst (λ (u : SetData). MarksGo u.cache c.forget.new.cache) c.self.view_is c.forget.ensures.marks)
     (λ id keeps. subst (λ (u : SetData). KeepsFile u.cache id) c.self.view_is (c.forget.ensures.fewer id keeps)) c.forget.ensures.gone))
 
 pub returns-in_err-remove-clause-seen : goal.returns-in_err-remove-clause-seen
@@ -31,7 +33,7 @@ returns-in_err-remove-clause-seen g c = λ told i seen.
     let s = c.args.self.now in
     let files = g.F.Pages.files c.args.folder.now in
     sees_swept g.row.D s c.args.c.now c.args.name.now c.forget.new.cache (subst (IsWell g.row.D) c.self.view_is c.self.invariant) c.requires.named
-    c.requires.unneeded
+    c.requires.unneeded (subst (λ (u : SetData). MarksGo u.cache c.forget.new.cache) c.self.view_is c.forget.ensures.marks)
     (λ id keeps. subst (λ (u : SetData). KeepsFile u.cache id) c.self.view_is (c.forget.ensures.fewer id keeps)) c.forget.ensures.gone
     files (g.F.Pages.files c.remove.new.self) _ i (c.in_err-remove.ensures.others told)
     (c.forget.ensures.agrees files (subst (λ (u : SetData). Agrees files u.cache) (sym c.self.view_is) seen.stands.agrees))
@@ -48,7 +50,7 @@ returns-clause-seen g c = λ told i seen.
     let s = c.args.self.now in
     let files = g.F.Pages.files c.args.folder.now in
     sees_swept g.row.D s c.args.c.now c.args.name.now c.forget.new.cache (subst (IsWell g.row.D) c.self.view_is c.self.invariant) c.requires.named
-    c.requires.unneeded
+    c.requires.unneeded (subst (λ (u : SetData). MarksGo u.cache c.forget.new.cache) c.self.view_is c.forget.ensures.marks)
     (λ id keeps. subst (λ (u : SetData). KeepsFile u.cache id) c.self.view_is (c.forget.ensures.fewer id keeps)) c.forget.ensures.gone
     files (g.F.Pages.files c.remove.new.self) _ i (c.in_ok-remove.ensures.others told)
     (c.forget.ensures.agrees files (subst (λ (u : SetData). Agrees files u.cache) (sym c.self.view_is) seen.stands.agrees))

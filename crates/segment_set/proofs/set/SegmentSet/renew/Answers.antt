@@ -40,7 +40,7 @@ whole g c = λ j. record (c.set.view_is j) { names = (ap (λ (s : SetData). s.na
 pub invariant_of-self : goal.invariant_of-self
 invariant_of-self g c = well_other g.row.D (other g c) c.self.inside.names c.set.inside.cache c.set.inside.saved c.set.invariant
     (λ k p lt. named g c _ (c.set.invariant.named k p lt)) (λ k v lt j p jt. named g c _ (c.set.invariant.kept k v lt j p jt)) c.self.invariant.own
-    (λ id keeps. named g c id (c.set.invariant.cached id keeps))
+    (λ id keeps. named g c id (c.set.invariant.cached id keeps)) c.set.invariant.unhidden
 
 pub returns-clause-seen : goal.returns-clause-seen
 returns-clause-seen g c files i seen = subst (λ (s : SetData). Sees g.row.D files s i) (sym (whole g c))

@@ -16,6 +16,7 @@ use Rattle.segment_set.proofs.Viewed.{looked_buffer, looked_found, looked_parts,
 use Rattle.segment_set.proofs.Viewing.{looked_evident, looked_faithful}
 use Rattle.segment_set.proofs.set.SegmentSet.visit.Given as given
 use Rattle.segment_set.proofs.set.SegmentSet.visit.Goals as goal
+use Rattle.segment_set.proofs.Unhidden.{unhidden_still}
 
 -- the set as it was, by its fields
 abbrev was : (g : given.Over) (c : goal.After-visit g) → SetData
@@ -64,7 +65,8 @@ agreed g c i seen = subst (λ (u : SetData). Agrees (g.F.Pages.files c.args.fold
 pub invariant_of-self : goal.invariant_of-self
 invariant_of-self g c =
     subst (IsWell g.row.D) (sym (same g c))
-    (looked_well _ _ _ _ (was g c) (view_name c.args.view.now) _ _ c.self.invariant (here g c) c.visit.ensures.calm)
+    (looked_well _ _ _ _ (was g c) (view_name c.args.view.now) _ _ c.self.invariant (here g c) c.visit.ensures.calm
+    (unhidden_still g.row.D c.self.inside.cache c.visit.new.cache c.self.inside.segments c.visit.ensures.marks c.self.invariant.unhidden))
 
 pub returns-clause-found : goal.returns-clause-found
 returns-clause-found g c told i seen docs is =
