@@ -1,5 +1,5 @@
 -- The status that a run ends with, from how its lines ended.
-use Rattle.std.proofs.Common.{◌≡◌, ◌<◌, ◌+◌, ℕ, Bool, true, false, if◌then◌else◌, ◌==◌, List, Result, Ok, Err, refl, sym, ◌∙◌, arith}
+use Rattle.std.proofs.Common.{◌≡◌, ◌<◌, ◌+◌, ℕ, Bool, true, false, ◌==◌, List, Result, Ok, Err, refl, sym, ◌∙◌, arith}
 use Rattle.std.proofs.lemmas.Bool.Decides.{nat_tests}
 use Rattle.outer_io.specs.Files.{Files}
 use Rattle.script_run.specs.Progress.{ScriptPlace}
@@ -8,7 +8,6 @@ use Rattle.script_run.specs.Runs.{Ends, EndsLines, Finishes}
 use Rattle.run_status.specs.Stops.{status_of}
 use Rattle.run_status.specs.declared.stop.Stop.{Stop}
 use Rattle.run_status.specs.declared.stop.Stop.TheVariants as stop
-use Rattle.run_status.specs.declared.status.Status.TheVariants as status
 use Rattle.script_run.specs.Script.{Meaning, refused_in}
 use Rattle.run_status.proofs.Ending.{counted}
 

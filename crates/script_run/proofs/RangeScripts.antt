@@ -1,16 +1,15 @@
 -- A script of ranges, whose questions are boxes of points, answers and leaves what it does by the points of ranges.
 use Rattle.std.proofs.Common.{◌≡◌, ◌/◌, ◌%◌, ◌==◌, ◌||◌, ◌+◌, ℕ, Bool, true, false, cond, if◌then◌else◌, List, [], ◌∷◌, ◌++◌}
 use Rattle.std.proofs.Common.{length, map, filter, Option, Some, None, Ok, Err, arith, refl, sym, ap, subst, ◌∙◌, ◌⊎◌, inl, inr, ℤ}
-use Rattle.std.specs.Prelude.{All, ◌↔◌}
+use Rattle.std.specs.Prelude.{All}
 use Rattle.std.specs.List.{list_any}
-use Rattle.std.specs.Option.{option_map}
 use Rattle.std.proofs.lemmas.Bool.Decides.{nat_tests}
 use Rattle.std.proofs.lemmas.List.Elements.{All-head, All-tail}
 use Rattle.outer_io.specs.Files.{Files}
 use Rattle.outer_io.specs.Parts.{WritesPart}
 use Rattle.point_codec.specs.Points.{Region, in_box}
 use Rattle.documents.specs.Documents.{Document, hits, passes}
-use Rattle.script_lang.specs.Reading.{Reading, Says, Fails, read}
+use Rattle.script_lang.specs.Reading.{Reading, Says, read}
 use Rattle.script_lang.specs.Replies.{hits_text}
 use Rattle.script_lang.specs.Requests.{Request, Viewed}
 use Rattle.script_lang.specs.Requests as asks
@@ -26,10 +25,10 @@ use Rattle.index_model.specs.Script.{Answer, answer_to}
 use Rattle.stored_index.specs.Stored.{IsStored}
 use Rattle.run_status.specs.declared.status.Status.{Status}
 use Rattle.run_status.specs.declared.status.Status.TheVariants as status
-use Rattle.script_run.specs.Languages.{answer, answer_of, commits, meaning, read_in}
+use Rattle.script_run.specs.Languages.{answer, answer_of, meaning, read_in}
 use Rattle.script_run.specs.Progress.{ScriptPlace, start}
-use Rattle.script_run.specs.RangeScript.{AreRanges, EndsRanges, HaveRanges, Test, range_answer, range_answer_of, range_script}
-use Rattle.script_run.specs.Runs.{Breaks, Ends, Finishes, InFlight, Stops, Waits}
+use Rattle.script_run.specs.RangeScript.{AreRanges, EndsRanges, Test, range_answer, range_answer_of, range_script}
+use Rattle.script_run.specs.Runs.{Breaks, Ends, Finishes, InFlight, Stops}
 use Rattle.script_run.specs.Script.{Meaning, final, refused_in, state_after, stored_after, stored_by, text_of}
 use Rattle.script_run.specs.declared.language.Language.TheVariants.{Ranges}
 use Rattle.script_run.proofs.RangeStates.{final_keeps, line_keeps, viewed_ranges}

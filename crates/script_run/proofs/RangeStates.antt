@@ -1,25 +1,23 @@
 -- Points that are ranges stay so: what a line of ranges adds are ranges.
-use Rattle.std.proofs.Common.{◌≡◌, ◌/◌, ◌%◌, ◌==◌, ℕ, Bool, true, false, cond, not, List, [], ◌∷◌}
-use Rattle.std.proofs.Common.{◌++◌, Option, Some, None, Ok, Err, arith, refl, sym, ap, subst, ◌∙◌}
+use Rattle.std.proofs.Common.{◌≡◌, ◌/◌, ◌%◌, ℕ, Bool, true, false, cond, not, List, [], ◌∷◌}
+use Rattle.std.proofs.Common.{Some, None, Ok, Err, refl, subst}
 use Rattle.std.specs.Prelude.{All, nat_eq}
 use Rattle.std.specs.Option.{option_map}
 use Rattle.std.specs.Str.{bytes_eq}
-use Rattle.std.proofs.lemmas.Bool.Decides.{nat_tests}
 use Rattle.std.proofs.lemmas.List.Elements.{All-append, All-cons, All-filter, All-head, All-nil, All-tail}
 use Rattle.point_codec.specs.Points.{in_box}
 use Rattle.documents.specs.Documents.{Document, passes}
-use Rattle.script_lang.specs.Reading.{read}
 use Rattle.script_lang.specs.Requests.{Request, Viewed}
 use Rattle.script_lang.specs.Requests as asks
 use Rattle.script_lang.specs.declared.faults.Refusal.TheVariants as why
 use Rattle.range_docs.specs.Ranges.{AreEnds}
-use Rattle.range_docs.specs.Reading.{Asks, Finds, RangeReading, RangeRequest, if_blank, range_read}
+use Rattle.range_docs.specs.Reading.{Asks, Finds, RangeReading, RangeRequest, range_read}
 use Rattle.range_docs.specs.Seen.{AddsRanges, request_in, of_points}
 use Rattle.range_docs.proofs.Sound.{names_ranges}
-use Rattle.index_model.specs.State.{Index, Snapshot, State, at_rest, snapshot_of, viewed_docs}
-use Rattle.index_model.specs.Step.{Outcome, Refused, done_ok, step, step_on}
-use Rattle.index_model.specs.Script.{Answer, answer_to}
-use Rattle.script_run.specs.Languages.{LineRequest, answer, answer_of, line_request, read_in}
+use Rattle.index_model.specs.State.{Index, Snapshot, State, snapshot_of, viewed_docs}
+use Rattle.index_model.specs.Step.{Refused, done_ok, step, step_on}
+use Rattle.index_model.specs.Script.{answer_to}
+use Rattle.script_run.specs.Languages.{answer, answer_of, read_in}
 use Rattle.script_run.specs.RangeScript.{AreRanges, HaveRanges}
 use Rattle.script_run.specs.Script.{final}
 use Rattle.script_run.specs.declared.language.Language.TheVariants.{Ranges}

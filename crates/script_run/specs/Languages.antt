@@ -4,13 +4,12 @@ use Rattle.std.specs.Option.{option_map}
 use Rattle.script_lang.specs.Requests.{Request}
 use Rattle.script_lang.specs.Requests as asks
 use Rattle.script_lang.specs.Reading.{read}
-use Rattle.script_lang.specs.Replies.{refused_text}
 use Rattle.range_docs.specs.Reading.{RangeReading, as_points, range_read}
 use Rattle.range_docs.specs.Replies.{range_fault_text}
 use Rattle.range_docs.specs.Seen.{request_in}
 use Rattle.range_docs.specs.declared.faults.RangeFault.{RangeFault}
 use Rattle.index_model.specs.State.{State}
-use Rattle.index_model.specs.Step.{Outcome, step}
+use Rattle.index_model.specs.Step.{step}
 use Rattle.index_model.specs.Script.{Answer, answer_to}
 use Rattle.script_run.specs.Script.{Meaning}
 use Rattle.script_run.specs.declared.language.Language.{Language}
