@@ -1,29 +1,12 @@
 -- The cells of a subtree, each within that of the node above.
-use Rattle.std.proofs.Common.{◌≡◌, ℕ, zero, suc, Bool, true, false, List, [], ◌∷◌, get_or, set, ℤ, pos, ◌≤ℤ◌, refl, subst, arith}
-use Rattle.std.proofs.lemmas.Int.{ints}
-use Rattle.point_codec.specs.Points.{Region, all_le}
-use Rattle.point_codec.specs.Cells.{within, left_of, right_of}
+use Rattle.std.proofs.Common.{◌≡◌, ℕ, Bool, true, List, ℤ, refl, subst, arith}
+use Rattle.point_codec.specs.Points.{Region}
+use Rattle.point_codec.specs.Cells.{left_of, right_of}
 use Rattle.cell_relate.specs.Relations.{AllAnswer}
 use Rattle.cell_relate.proofs.RelationLemmas.{AllAnswer-within, is_outside-all, is_outside-crosses}
 use Rattle.inner_pack.specs.Trees.{IndexTree, Leaf, Split, HasCells, cell_of, leaf_count}
 use Rattle.bkd_reader.specs.Counts.{tested_entries, touched_leaves}
-use Rattle.point_codec.proofs.Corners.{all_le-refl}
-
-pub set_below : (h : List ℤ) (d : ℕ) (x : ℤ) → x ≤ℤ get_or h d (pos 0) → all_le (set h d x) h ≡ true
-set_below [] d x le = refl
-set_below (y ∷ ys) zero x le = rw (all_le-refl ys) (grind (arith, ints))
-set_below (y ∷ ys) (suc d) x le = rw (set_below ys d x le) (grind (arith, ints))
-
-set_above : (h : List ℤ) (d : ℕ) (x : ℤ) → get_or h d (pos 0) ≤ℤ x → all_le h (set h d x) ≡ true
-set_above [] d x le = refl
-set_above (y ∷ ys) zero x le = rw (all_le-refl ys) (grind (arith, ints))
-set_above (y ∷ ys) (suc d) x le = rw (set_above ys d x le) (grind (arith, ints))
-
-pub left_within : (path : Region) (d : ℕ) (x : ℤ) → x ≤ℤ get_or path.hi d (pos 0) → within (left_of path d x) path ≡ true
-left_within path d x le = rw (all_le-refl path.lo, set_below path.hi d x le) refl
-
-pub right_within : (path : Region) (d : ℕ) (x : ℤ) → get_or path.lo d (pos 0) ≤ℤ x → within (right_of path d x) path ≡ true
-right_within path d x le = rw (set_above path.lo d x le, all_le-refl path.hi) refl
+use Rattle.point_codec.proofs.Halves.{left_within, right_within}
 
 -- what the shape answers on all of the path cell, it answers on the paths of both children
 pub all_left : (D : ℕ) (has : List ℤ → Bool) (b : Bool) (path : Region) (d : ℕ) (x : ℤ) (l r : IndexTree) → HasCells D path (Split d x l r)

@@ -3,12 +3,12 @@ use Rattle.std.proofs.Common.{◌≡◌, ℕ, ◌+◌, ◌*◌, ◌≤◌, Bool,
 use Rattle.point_codec.specs.Points.{Region, all_le}
 use Rattle.point_codec.specs.Cells.{left_of, right_of}
 use Rattle.point_codec.proofs.Corners.{both_true, all_le-trans}
+use Rattle.point_codec.proofs.Halves.{left_within, right_within, set_below}
 use Rattle.cell_relate.specs.Relations.{IsUncrossed, KeepsUncrossed}
 use Rattle.cell_relate.proofs.RelationLemmas.{is_outside-outside, uncrossed_within}
 use Rattle.inner_pack.specs.Trees.{IndexTree, Leaf, Split, HasCells, cell_of, leaf_count}
 use Rattle.segment_file.proofs.Subtrees.{some_leaf}
 use Rattle.bkd_reader.specs.Counts.{asked_cells, tested_entries, touched_leaves}
-use Rattle.bkd_reader.proofs.Cells.{left_within, right_within, set_below}
 
 -- a path cell has a point, as the leaves below it have
 ordered_path : (D : ℕ) (path : Region) (t : IndexTree) → HasCells D path t → all_le path.lo path.hi ≡ true

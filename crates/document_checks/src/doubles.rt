@@ -14,8 +14,8 @@ use point_codec::Entry;
 use std::alloc::Global;
 use std::cmp::Ordering;
 
-/// The greatest number of points of a document.
-const MOST_POINTS: usize = 16;
+/// The greatest number of points of one document.
+const MOST_OF_ONE: usize = 16;
 
 /// The least number of which one entry stands twice in the list, or of which there are more than 16 entries, if there
 /// is one. Entries may stand in any order. Where no two entries have one number, nothing is sorted, and the call
@@ -171,5 +171,5 @@ fn repeats_at<const D: usize>(list: &[Entry<D>], k: usize) -> bool
     if by_number(&list[k - 1], &list[k]) == Ordering::Equal {
         return true;
     }
-    k >= MOST_POINTS && list[k - MOST_POINTS].doc == list[k].doc
+    k >= MOST_OF_ONE && list[k - MOST_OF_ONE].doc == list[k].doc
 }

@@ -5,6 +5,7 @@ ghost use Rattle.live_bits.specs.LiveSet.{LiveSet};
 ghost use Rattle.live_bits.specs.LiveBody.{IsLiveBody, SaysLength};
 
 use crate::body::fields_of;
+use point_codec::MOST_POINTS;
 
 /// How many bytes the body has that begins with these bytes, as its sizes say. None where no body begins so. The
 /// bytes are at least the 36 before the bits.

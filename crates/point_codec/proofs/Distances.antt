@@ -27,7 +27,7 @@ pub nearest_dropped : (l h p : List ℤ) (i : ℕ) → i < length l → i < leng
     + dist2 (drop (i + 1) p) (moved_between (drop (i + 1) l) (drop (i + 1) h) (drop (i + 1) p))
 nearest_dropped l h p i a b c = rw (drop-cons l i (pos 0), drop-cons h i (pos 0), drop-cons p i (pos 0), add-one) refl
 
-between_here : (l h x : ℤ) → int_le l h ≡ true → (int_le l (int_max l (int_min x h)) ≡ true) × (int_le (int_max l (int_min x h)) h ≡ true)
+pub between_here : (l h x : ℤ) → int_le l h ≡ true → (int_le l (int_max l (int_min x h)) ≡ true) × (int_le (int_max l (int_min x h)) h ≡ true)
 between_here l h x e = (grind (arith, ints), grind (arith, ints))
 
 moved_is_between : (l h p : List ℤ) → all_le l h ≡ true → length p ≡ length l
@@ -46,7 +46,7 @@ moved_is_between (x ∷ xs) (y ∷ ys) (z ∷ zs) e k =
 pub nearest_is_in : (r : Region) (p : List ℤ) → all_le r.lo r.hi ≡ true → length p ≡ length r.lo → in_box r (nearest_in r p) ≡ true
 nearest_is_in r p e k = let between = moved_is_between r.lo r.hi p e k in rw (between.0, between.1) refl
 
-closer_here : (l h x q : ℤ) → int_le l q ≡ true → int_le q h ≡ true → unsigned_abs (x -ℤ int_max l (int_min x h)) ≤ unsigned_abs (x -ℤ q)
+pub closer_here : (l h x q : ℤ) → int_le l q ≡ true → int_le q h ≡ true → unsigned_abs (x -ℤ int_max l (int_min x h)) ≤ unsigned_abs (x -ℤ q)
 closer_here l h x q a b = grind (arith, ints)
 
 closer : (l h p q : List ℤ) → all_le l q ≡ true → all_le q h ≡ true → dist2 p (moved_between l h p) ≤ dist2 p q

@@ -1,6 +1,7 @@
 -- Entries one by one.
 use Rattle.std.proofs.Common.{◌≡◌, ◌<◌, ◌+◌, ℕ, List, [], ◌∷◌, ◌++◌, length, take, get_or, true, sym, ap, subst, ◌∙◌, append_assoc, Some, Bool, All}
-use Rattle.std.specs.Prelude.{filter, slice_get}
+use Rattle.std.specs.Prelude.{filter, slice_get, Vec}
+use Rattle.std.specs.declared.alloc.Global.{Global}
 use Rattle.std.proofs.lemmas.Option.{slice_get-get_or}
 use Rattle.std.proofs.lemmas.List.{take_more}
 use Rattle.std.proofs.lemmas.List.Elements.{filter-append, filter_passes}
@@ -33,8 +34,8 @@ only_live live items xs is =
     subst (All (λ x. is_live live x.doc ≡ true)) (sym is) (filter_passes (λ (x : Item). is_live live x.doc) items)
 
 -- what is put behind a list that was taken out
-pub taken_then : {D : ℕ} (live : LiveSet) (old taken new : List (Entry D)) (items : List Item) → taken ≡ old
-    → items_of new ≡ items_of taken ++ filter (λ x. is_live live x.doc) items
-    → items_of new ≡ items_of old ++ filter (λ x. is_live live x.doc) items
+pub taken_then : {D : ℕ} (live : LiveSet) (old taken : Vec (Entry D) Global) (new : List (Entry D)) (items : List Item) → taken ≡ old
+    → items_of new ≡ items_of taken.items ++ filter (λ x. is_live live x.doc) items
+    → items_of new ≡ items_of old.items ++ filter (λ x. is_live live x.doc) items
 taken_then {D} live old taken new items same is =
-    is ∙ ap (λ (l : List (Entry D)). items_of l ++ filter (λ (x : Item). is_live live x.doc) items) same
+    is ∙ ap (λ (v : Vec (Entry D) Global). items_of v.items ++ filter (λ (x : Item). is_live live x.doc) items) same

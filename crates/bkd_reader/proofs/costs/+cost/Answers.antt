@@ -44,7 +44,7 @@ pub returns-in-Inside-clause-touched : goal.returns-in-Inside-clause-touched
 returns-in-Inside-clause-touched g t c = λ first s path t' root.
     let has = g.S.Shape.has c.args.shape.now in
     let crosses = g.S.Shape.crosses c.args.shape.now in
-    let all = subst (AllAnswer has true) (c.cell.ensures first s path t' root.is) c.in-Inside.ensures.answer.all in
+    let all = subst (λ r. AllAnswer has true r) (c.cell.ensures first s path t' root.is) c.in-Inside.ensures.answer.all in
     c.leaves_below.ensures ∙ sym (count_at c.args.node.now first s path t' root.is) ∙ sym (touched_all g.row.D has crosses path t' root.cells all)
 
 pub returns-in-Inside-clause-compares : goal.returns-in-Inside-clause-compares

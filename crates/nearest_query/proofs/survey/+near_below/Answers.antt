@@ -16,9 +16,9 @@ near_leaf : (at : List ℤ) (bound : Option ℕ) (path : Region) (len : ℕ) (ow
 unfolding near_leaves
 near_leaf at bound path len own = refl
 
-no_one : (b : Bool) → cond b 1 0 ≡ 0 → b ≡ false
-no_one true h = absurd (omega (arith, h))
-no_one false h = refl
+no_one : (b : Bool) (n : ℕ) → n ≡ cond b 1 0 → n ≡ 0 → b ≡ false
+no_one true n h k = absurd (omega (arith, h, k))
+no_one false n h k = refl
 
 -- the node is too far
 pub returns-then-one-eq0-clause-value : goal.returns-then-one-eq0-clause-value
@@ -27,7 +27,7 @@ returns-then-one-eq0-clause-value g t c = λ first s path tree is cells.
     let same = c.least_dist2.ensures.value ∙ ap (λ r. least_dist2 at r) (c.cell.ensures first s path tree is) in
     none_near g.row.D at c.args.bound path tree cells
     (ap (is_within c.args.bound) (sym same)
-    ∙ no_one (is_within c.args.bound c.least_dist2.result) (sym c.one_within-one.ensures.value ∙ c.if-one-eq0.true))
+    ∙ no_one (is_within c.args.bound c.least_dist2.result) c.one_within-one.result c.one_within-one.ensures.value c.if-one-eq0.true)
 
 pub returns-in-Some-clause-value : goal.returns-in-Some-clause-value
 returns-in-Some-clause-value g t c = λ first s path tree is cells.

@@ -17,12 +17,11 @@ pub returns-in-Entries-clause-spelled : goal.returns-in-Entries-clause-spelled
 unfolding IsSegment IsHeadOf
 returns-in-Entries-clause-spelled g c = λ told agrees p.
     let got = rw c.in-Entries.is at (c.gather_all-done.ensures.gathers told agrees p.root p.tree p.spells.has) in
-    let back = ap (λ v. v.items) c.replace-taken.ensures.value in
     on_ok_weaker c.gather_all-done.result
     (λ m. (
       m.items,
       record { head_is = p; root = p.root; tree = p.tree; has = p.spells.has; holds = m.holds },
-      taken_then c.args.live.now c.args.entries.now.items c.replace-taken.result.items c.in-Entries.list.items m.items back m.so,
+      taken_then c.args.live.now c.args.entries.now c.replace-taken.result c.in-Entries.list.items m.items c.replace-taken.ensures.value m.so,
     )) got
 
 pub returns-in-Entries-clause-entries : goal.returns-in-Entries-clause-entries
@@ -30,22 +29,20 @@ unfolding IsSegment
 returns-in-Entries-clause-entries g c = λ told agrees items p.
     let bytes = bytes_of (g.F.Pages.files c.args.folder.now (Segment c.args.head.now.id)) in
     let got = rw c.in-Entries.is at (c.gather_all-done.ensures.gathers told agrees p.root p.tree p.has) in
-    let back = ap (λ v. v.items) c.replace-taken.ensures.value in
     on_ok_weaker c.gather_all-done.result
     (λ m.
     let same = tree_once g.row.D bytes c.args.head.now 0 front p.tree m.items items m.holds p.holds in
-    taken_then c.args.live.now c.args.entries.now.items c.replace-taken.result.items c.in-Entries.list.items m.items back m.so
+    taken_then c.args.live.now c.args.entries.now c.replace-taken.result c.in-Entries.list.items m.items c.replace-taken.ensures.value m.so
     ∙ ap (λ (l : List Item). items_of c.args.entries.now.items ++ filter (λ (x : Item). is_live c.args.live.now x.doc) l) same)
     got
 
 pub returns-in-Entries-clause-live : goal.returns-in-Entries-clause-live
 returns-in-Entries-clause-live g c =
     let got = rw c.in-Entries.is at c.gather_all-done.ensures.added in
-    let back = ap (λ v. v.items) c.replace-taken.ensures.value in
     on_ok_weaker c.gather_all-done.result
     (λ m. (
       filter (λ (x : Item). is_live c.args.live.now x.doc) m.0,
-      taken_then c.args.live.now c.args.entries.now.items c.replace-taken.result.items c.in-Entries.list.items m.0 back m.1,
+      taken_then c.args.live.now c.args.entries.now c.replace-taken.result c.in-Entries.list.items m.0 c.replace-taken.ensures.value m.1,
       filter_passes (λ (x : Item). is_live c.args.live.now x.doc) m.0,
     )) got
 

@@ -1,16 +1,34 @@
-use Rattle.std.proofs.Common.{◌≡◌, ◌+◌, ◌++◌, List, [], ◌∷◌, true, Err, ap, sym, subst, ◌∙◌, take, arith}
+use Rattle.std.proofs.Common.{◌≡◌, ◌<◌, ◌^◌, ◌+◌, ◌++◌, List, [], ◌∷◌, true, Err, refl, ap, sym, subst, ◌∙◌, take, arith}
 use Rattle.std.specs.List.{All}
-use Rattle.std.proofs.lemmas.List.Elements.{All-contains}
+use Rattle.std.proofs.lemmas.List.Elements.{All-contains, All-nil}
 use Rattle.std.proofs.lemmas.Result.{err_from_is_err_and}
 use Rattle.point_codec.specs.Points.{Item}
 use Rattle.point_codec.specs.Seen.{items_of}
+use Rattle.point_codec.specs.declared.entries.Entry.{Entry}
 use Rattle.segment_view.specs.LiveSegments.{IsRead, live_segment, ids_of, live_in_parts, parts_among, has_live}
 use Rattle.segment_view.specs.Held.{HasOwnHead, AreHeld}
 use Rattle.segment_view.proofs.Holding.{held_more}
 use Rattle.segment_view.proofs.Living.{part_in, all_widen}
-use Rattle.segment_view.proofs.Reading.{calm_then, calm_more, agrees_after, among_in, part_among}
+use Rattle.segment_view.proofs.Reading.{calm_none, calm_then, calm_more, agrees_after, among_in, part_among}
 use Rattle.segment_view.proofs.Stepwise.{leaves_among_more, leaves_among_upto, live_among_more}
 use Rattle.segment_view.proofs.gathering.gather.Goals as goal
+
+pub loop-i-init : goal.loop-i-init
+loop-i-init g c =
+    let parts = c.args.segments.now in
+    let ids = c.args.ids.now in
+    let none = c.in_ok-entries.ensures.items in
+    record {
+      calm = calm_none g.F.Pages.told (g.F.Pages.files c.args.folder.now) c.args.cache.now (ids_of (parts_among ids parts));
+      faults = refl;
+      live = subst (λ (es : List (Entry g.row.D)). All (λ (x : Item). has_live x.doc (parts_among ids parts) ≡ true) (items_of es)) (sym none)
+          (All-nil (λ (x : Item). has_live x.doc (parts_among ids parts) ≡ true));
+      numbers = subst (λ (es : List (Entry g.row.D)). All (λ (e : Entry g.row.D). e.doc < 2 ^ 24) es) (sym none)
+          (All-nil (λ (e : Entry g.row.D). e.doc < 2 ^ 24));
+      reads = omega arith;
+      held = λ told agrees own. ap (λ (es : List (Entry g.row.D)). items_of es) none;
+      entries = λ told agrees es read. ap (λ (xs : List (Entry g.row.D)). items_of xs) none;
+    }
 
 pub loop-i-preserved : goal.loop-i-preserved
 loop-i-preserved g c =
