@@ -1,5 +1,5 @@
 -- Notes are the same where all their numbers are; a note that fits may be put beside others; a value that is written back changes nothing.
-use Rattle.std.proofs.Common.{◌≡◌, ℕ, zero, suc, ◌⊎◌, inl, inr, Bool, true, false, cond, List, [], ◌∷◌, set, Contains, Some, refl, sym, ap, ◌∙◌, subst}
+use Rattle.std.proofs.Common.{◌≡◌, ℕ, zero, suc, ◌⊎◌, inl, inr, true, false, cond, List, [], ◌∷◌, set, Contains, Some, refl, sym, ap, subst}
 use Rattle.std.specs.Map.{lookup, set_value}
 use Rattle.std.specs.declared.boxed.Box.{Box}
 use Rattle.std.specs.declared.alloc.Global.{Global}

@@ -1,5 +1,5 @@
 -- Notes of leaves that were read in a page.
-use Rattle.std.specs.Prelude.{ℕ, ◌≡◌, ◌≢◌, List, take, drop, Contains}
+use Rattle.std.specs.Prelude.{ℕ, ◌≢◌, List, take, drop, Contains}
 use Rattle.point_codec.specs.Points.{Region}
 use Rattle.leaf_codec.specs.Leaves.{SpellsSomeIn}
 use Rattle.page_file.specs.Page.{payload_of}

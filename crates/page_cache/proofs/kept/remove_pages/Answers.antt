@@ -4,7 +4,6 @@ use Rattle.std.specs.declared.alloc.Global.{Global}
 use Rattle.page_file.specs.declared.page.PageBytes.{PageBytes}
 use Rattle.page_cache.specs.declared.key.PageKey.{PageKey}
 use Rattle.page_cache.specs.Keys.{is_of_other}
-use Rattle.page_cache.proofs.KeptPages as kept
 use Rattle.page_cache.proofs.TakenOut as taken_out
 use Rattle.page_cache.proofs.kept.remove_pages.Goals as goal
 

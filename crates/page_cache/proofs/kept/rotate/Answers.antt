@@ -1,7 +1,6 @@
 use Rattle.std.proofs.Common.{sym, ap, ◌∙◌, ◌≡◌, option_map}
 use Rattle.std.specs.Map.Iter.{deref_pair}
 use Rattle.page_cache.specs.declared.key.PageKey.{PageKey}
-use Rattle.page_cache.proofs.KeptPages as kept
 use Rattle.page_cache.proofs.TakenOut as taken_out
 use Rattle.page_cache.proofs.kept.rotate.Goals as goal
 

@@ -1,4 +1,4 @@
-use Rattle.std.proofs.Common.{◌<◌, length, slice_index_or, subst, ap, ◌∙◌, arith}
+use Rattle.std.proofs.Common.{◌<◌, length, subst, arith}
 use Rattle.std.proofs.Math.Logic.{∥∥₁_elim}
 use Rattle.std.proofs.Props.{props}
 use Rattle.std.proofs.lemmas.List.Elements.{Contains-get_or}
