@@ -1,5 +1,6 @@
 -- A file that grows by whole pages.
-use Rattle.std.proofs.Common.{◌≡◌, ◌≤◌, ◌<◌, min, take_all, subst, add-zero, ◌+◌, ℕ, List, [], ◌++◌, length, take, drop, append-nil, Bool, true, false, refl, sym}
+use Rattle.std.proofs.Common.{◌≡◌, ◌≤◌, ◌<◌, min, take_all, subst, add-zero, ◌+◌, ℕ, List}
+use Rattle.std.proofs.Common.{[], ◌++◌, length, take, drop, append-nil, Bool, true, false, refl, sym}
 use Rattle.std.proofs.Common.{ap, ◌∙◌, arith, append_assoc, length-append, zero-add, inl, inr}
 use Rattle.std.proofs.lemmas.Bool.{cases_lt}
 use Rattle.std.proofs.lemmas.List.{take-append-drop}

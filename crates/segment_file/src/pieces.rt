@@ -120,7 +120,8 @@ impl Pieces {
         ensures put { IsTrue F.told → OnOk result ((payloads : List ℕ)
             → IsPaged (Segment (piece_id self.old)) (piece_pages self.old) payloads
             (so_far (bytes_of (F.files folder.old (Segment (piece_id self.old)))) self.old)
-            → IsPaged (Segment (piece_id self.old)) (piece_pages self.new) (payloads ++ padded_body (open_page self.old))
+            → IsPaged (Segment (piece_id self.old)) (piece_pages self.new)
+            (payloads ++ padded_body (open_page self.old))
             (so_far (bytes_of (F.files folder.new (Segment (piece_id self.old)))) self.new)) }
         ensures others { IsTrue F.told
             → SameBut (Segment (piece_id self.old)) (F.files folder.old) (F.files folder.new) }
@@ -141,7 +142,8 @@ impl Pieces {
         ensures put { OnOk result
             ((held payloads : List ℕ)
             → IsPaged (Segment (piece_id self.old)) (piece_pages self.old) payloads (so_far held self.old)
-            → IsPaged (Segment (piece_id self.old)) (piece_pages self.new) (payloads ++ padded_body (open_page self.old))
+            → IsPaged (Segment (piece_id self.old)) (piece_pages self.new)
+            (payloads ++ padded_body (open_page self.old))
             (so_far held self.new)) }
     {
         let open = self.out.len() - self.whole;

@@ -1,4 +1,4 @@
-use Rattle.std.proofs.Common.{◌≡◌, ◌+◌, ◌++◌, ℕ, List, [], length, drop, get_or, ap, sym, subst, arith, ◌∙◌}
+use Rattle.std.proofs.Common.{◌≡◌, ◌+◌, ◌++◌, ℕ, List, [], drop, get_or, ap, sym, subst, arith, ◌∙◌}
 use Rattle.segment_file.specs.Pieced.{open_page, laid_pages}
 use Rattle.segment_file.proofs.Subtrees.{OnOk-weaker}
 use Rattle.segment_file.proofs.Laid.{laid_more, laid_all}

@@ -1,4 +1,4 @@
-use Rattle.std.proofs.Common.{◌≡◌, ◌≤◌, ◌+◌, ◌++◌, ℕ, List, [], length, drop}
+use Rattle.std.proofs.Common.{◌≡◌, ◌≤◌, ◌+◌, ◌++◌, ℕ, List, [], drop}
 use Rattle.std.specs.Prelude.{IsTrue}
 use Rattle.outer_io.specs.Files.{bytes_of, SameBut}
 use Rattle.outer_io.specs.declared.file_name.FileName.TheVariants.{Segment}

@@ -1,7 +1,7 @@
-use Rattle.std.proofs.Common.{◌≡◌, ◌≤◌, ◌<◌, ◌+◌, ◌-◌, ◌++◌, ℕ, List, length, take, drop, vec_len, ap, sym, ◌∙◌, rules, arith, take_all, subst, length-drop}
+use Rattle.std.proofs.Common.{◌≡◌, ◌≤◌, ◌<◌, ◌+◌, ◌++◌, ℕ, List, length, take, drop, vec_len, sym, ◌∙◌, rules, arith, take_all, subst, length-drop}
 use Rattle.std.specs.Prelude.{if◌then◌else◌}
 use Rattle.outer_io.specs.declared.file_name.FileName.TheVariants.{Segment}
-use Rattle.page_cache.specs.Bodies.{pages_for, padded_body, AppendsPage}
+use Rattle.page_cache.specs.Bodies.{padded_body, AppendsPage}
 use Rattle.segment_file.specs.Pieced.{piece_id, piece_pages, so_far, open_page, IsPaged}
 use Rattle.segment_file.proofs.Paged.{behind, more_pages, one_page, fills_one}
 use Rattle.segment_file.proofs.pieces.Pieces.seal.Goals as goal
