@@ -2,8 +2,8 @@
 use Rattle.std.proofs.Common.{◌≡◌, ℕ, ◌+◌, ◌-◌, ◌*◌, ◌≤◌, ◌<◌, inl, inr, min, List, [], ◌++◌, length, take, drop, replicate, refl, sym, ap}
 use Rattle.std.proofs.Common.{◌∙◌, subst, arith, add-zero, zero-add, append_assoc, append-nil, length-append, length-take, length-drop}
 use Rattle.std.proofs.lemmas.Bool.{cases_lt}
-use Rattle.std.proofs.lemmas.List.{take_all, take-append-le, drop-append-le, drop-drop, length-replicate}
-use Rattle.std.proofs.Math.Seq.{take-add}
+use Rattle.std.proofs.lemmas.List.{take_all, take-append-le, drop-append-le, drop-drop, length-replicate, take-replicate}
+use Rattle.std.proofs.Math.Seq.{take-add, take-append-add}
 use Rattle.std.proofs.Math.ListN.{drop_of_length-le}
 use Rattle.outer_io.specs.declared.file_name.FileName.{FileName}
 use Rattle.page_file.specs.Page.{IsPage, payload_of}
@@ -58,6 +58,37 @@ part_filled body rest part i some e f =
           ∙ sym (take-append-le 4064 rest (replicate (4064 * pages_for (length body) - length body) 0) long)
           ∙ ap (λ (x : List ℕ). take 4064 x) (sym behind)
     ]
+
+-- what stands from `from` on was filled with zeros and sealed
+pub sealed_from : (name : FileName) (number from : ℕ) (old grown front page sealed : List ℕ) → from ≤ length old → length old ≤ from + 4064
+    → grown ≡ take (from + 4096) old ++ replicate (from + 4096 - length old) 0 → front ≡ take from grown → page ≡ drop from grown
+    → IsPage (kind_of name) (number_of name) number sealed → payload_of sealed ≡ payload_of page
+    → AppendsPage name number (drop from old) (take from old) (front ++ sealed)
+sealed_from name number from old grown front page sealed within fits e f h is same = record {
+  bytes = sealed;
+  grew = ap (λ (x : List ℕ). x ++ sealed) (f ∙ ap (λ (x : List ℕ). take from x) whole ∙ take-append-le from old zeros within);
+  page = is;
+  payload = same
+      ∙ ap (λ (x : List ℕ). take 4064 x) (h ∙ ap (λ (x : List ℕ). drop from x) whole ∙ drop-append-le from old zeros within)
+      ∙ ap (λ (n : ℕ). take n (drop from old ++ zeros)) (sym left)
+      ∙ take-append-add (drop from old) zeros (4064 - length (drop from old))
+      ∙ ap (λ (x : List ℕ). drop from old ++ x) (take-replicate (4064 - length (drop from old)) (from + 4096 - length old) 0 shorter);
+}
+  where
+    zeros : List ℕ
+    zeros = replicate (from + 4096 - length old) 0
+
+    whole : grown ≡ old ++ zeros
+    whole = e ∙ ap (λ (x : List ℕ). x ++ zeros) (take_all (from + 4096) old (omega arith))
+
+    part : length (drop from old) ≡ length old - from
+    part = length-drop from old
+
+    left : length (drop from old) + (4064 - length (drop from old)) ≡ 4064
+    left = omega (arith, part)
+
+    shorter : 4064 - length (drop from old) ≤ from + 4096 - length old
+    shorter = omega (arith, part)
 
 -- nothing was put yet
 pub put_none : (name : FileName) (first : ℕ) (body old : List ℕ) → PutSoFar name first body 0 old old

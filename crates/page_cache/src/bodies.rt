@@ -1,12 +1,13 @@
 //! Bodies written into pages.
 
-ghost use Rattle.std.specs.Prelude.{◌≡◌, ◌≤◌, ◌<◌, ◌+◌, ◌^◌, length, vec_len, vec_capacity, OnOk, OnErr, IfOk};
+ghost use Rattle.std.specs.Prelude.{◌≡◌, ◌≤◌, ◌<◌, ◌+◌, ◌^◌, length, take, drop, vec_len, vec_capacity};
+ghost use Rattle.std.specs.Prelude.{OnOk, OnErr, IfOk};
 ghost use Rattle.page_cache.specs.Bodies.{pages_for as pages_of_body, IsBodyFile, AppendsPage, AppendsPages};
 
 use crate::faults::Memory;
 use crate::read::place_of;
 use outer_io::FileName;
-use page_file::{PAGE_LEN, PAYLOAD_LEN, seal};
+use page_file::{PAGE_LEN, PAYLOAD_LEN, seal_in_place};
 use std::alloc::Global;
 
 /// How many pages a body of so many bytes fills.
@@ -24,9 +25,25 @@ fn put_page(out: &mut Vec<u8>, name: &FileName, number: u32, part: &[u8])
     ensures len { vec_len out.new ≡ vec_len out.old + 4096 }
     ensures capacity { vec_capacity out.old ≤ vec_capacity out.new }
 {
+    let from = out.len();
+    out.extend_from_slice(part).unwrap();
+    seal_from(out, name, number, from);
+}
+
+/// Makes a page of what stands from `from` on, which is a payload at most: zeros come behind it, and the digest. The
+/// room for it is there.
+pub fn seal_from(out: &mut Vec<u8>, name: &FileName, number: u32, from: usize)
+    requires from { from ≤ vec_len out.old }
+    requires payload { vec_len out.old ≤ from + 4064 }
+    requires room { from + 4096 ≤ vec_capacity out.old }
+    ensures page { AppendsPage name.now number (drop from out.old.items) (take from out.old.items) out.new.items }
+    ensures len { vec_len out.new ≡ from + 4096 }
+    ensures capacity { vec_capacity out.old ≤ vec_capacity out.new }
+{
     let (kind, file) = place_of(name);
-    let page = seal(kind, file, number, part);
-    out.extend_from_slice(&page.b).unwrap();
+    out.resize(from + PAGE_LEN, 0).unwrap();
+    let (_, page) = out.as_mut_slice().split_at_mut(from);
+    seal_in_place(kind, file, number, page);
 }
 
 /// Appends the pages of a body, numbered from `first` on as pages of the file of this name. Each is sealed once.

@@ -20,7 +20,7 @@ mod leaf_part;
 mod note;
 mod read;
 
-pub use bodies::{pages_for, pages_of, put_pages};
+pub use bodies::{pages_for, pages_of, put_pages, seal_from};
 pub use cache::PageCache;
 pub use faults::{Damage, Memory, PageFault};
 pub use first_page::FirstPage;

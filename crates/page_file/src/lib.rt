@@ -12,4 +12,4 @@ mod laws;
 mod page;
 
 pub use laws::{pages_are_unique, payload_length};
-pub use page::{PAGE_LEN, PAYLOAD_LEN, PageBytes, PageView, seal};
+pub use page::{PAGE_LEN, PAYLOAD_LEN, PageBytes, PageView, seal, seal_in_place};

@@ -83,10 +83,19 @@ pub fn seal(kind: u8, file: u64, number: u32, payload: &[u8]) -> PageBytes
 {
     let mut page = PageBytes { b: [0; PAGE_LEN] };
     put_at(&mut page.b, 0, payload);
-    let (filled, _) = page.b.as_slice().split_at(PAYLOAD_LEN);
-    let digest = digest_of(kind, file, number, filled);
-    put_at(&mut page.b, PAYLOAD_LEN, &digest);
+    seal_in_place(kind, file, number, &mut page.b);
     page
+}
+
+/// Makes bytes a page for that place, where they stand: their payload stays, and its digest comes behind it.
+pub fn seal_in_place(kind: u8, file: u64, number: u32, page: &mut [u8])
+    requires { length page.old ≡ PAGE_LEN }
+    ensures page { IsPage kind file number page.new }
+    ensures payload { payload_of page.new ≡ payload_of page.old }
+{
+    let (payload, _) = page.split_at(PAYLOAD_LEN);
+    let digest = digest_of(kind, file, number, payload);
+    put_at(page, PAYLOAD_LEN, &digest);
 }
 
 /// Writes the part over the bytes from `at` on.

@@ -1,5 +1,5 @@
 -- A file that is put together from pages.
-use Rattle.std.specs.Prelude.{◌≡◌, ℕ, ◌+◌, ◌*◌, if◌then◌else◌, nat_le, List, [], ◌∷◌, ◌++◌, length}
+use Rattle.std.specs.Prelude.{◌≡◌, ℕ, ◌+◌, ◌*◌, if◌then◌else◌, nat_le, List, [], ◌∷◌, ◌++◌, length, take, drop}
 use Rattle.outer_io.specs.declared.file_name.FileName.{FileName}
 use Rattle.page_cache.specs.FilePages.{ArePages, payloads_of}
 use Rattle.page_cache.specs.Bodies.{padded_body}
@@ -13,9 +13,13 @@ piece_id p = p.id
 unfoldable pub piece_pages : Pieces → ℕ
 piece_pages p = p.pages
 
--- the file so far: what the folder holds of it, once a piece was handed over, and what is still to be
+-- the file so far, in whole pages: what the folder holds of it, once a piece was handed over, and what is still to be
 unfoldable pub so_far : (held : List ℕ) → Pieces → List ℕ
-so_far held p = if p.started then held ++ p.out.items else p.out.items
+so_far held p = if p.started then held ++ take p.whole p.out.items else take p.whole p.out.items
+
+-- the payload so far of the page that is open
+unfoldable pub open_page : Pieces → List ℕ
+open_page p = drop p.whole p.out.items
 
 -- the bytes are so many pages of the file, each for its place, with these payloads one after another
 pub record IsPaged (name : FileName) (count : ℕ) (payloads bytes : List ℕ) : Type 0 where

@@ -8,7 +8,8 @@ ghost use Rattle.page_cache.specs.Bodies.{padded_body};
 ghost use Rattle.outer_io.specs.Faults.{HasWriteCause};
 ghost use Rattle.segment_file.specs.Heads.{fields_bytes};
 ghost use Rattle.segment_file.specs.FieldsSeen.{fields_said};
-ghost use Rattle.segment_file.specs.Pieced.{piece_id, piece_pages, so_far, IsPaged, laid_pages};
+ghost use Rattle.segment_file.specs.Pieced.{piece_id, piece_pages, so_far, open_page, IsPaged};
+ghost use Rattle.segment_file.specs.Pieced.{laid_pages};
 ghost use Rattle.segment_file.specs.Segments.{IsSegment};
 ghost use Rattle.segment_file.specs.Written.{head_of, FitsSegment, CanWrite};
 
@@ -83,22 +84,23 @@ fn put_segment<F: Folder>(
     let first = fields.write(alloc)?;
     pieces.push(folder, first.as_slice())?;
     pieces.push(folder, index)?;
-    put_leaves(alloc, folder, &mut pieces, leaves)?;
+    put_leaves(folder, &mut pieces, leaves)?;
     pieces.hand_over(folder)?;
     Ok(())
 }
 
 /// Adds the leaf pages: a leaf stands behind the one before where the page has room, and else on the next page. What
-/// is left of a page is zero.
+/// is left of a page is zero. No page is open before, and none behind.
 fn put_leaves<F: Folder>(
-    alloc: Global,
     folder: &mut F,
     pieces: &mut Pieces,
     leaves: &[Bytes],
 ) -> Result<(), WriteFault>
     requires leaves { All (λ b. length b ≤ 4064) leaves.now }
+    requires ended { open_page pieces.old ≡ [] }
     requires room { piece_pages pieces.old + length leaves.now + 1 < 2 ^ 32 }
     ensures id { piece_id pieces.new ≡ piece_id pieces.old }
+    ensures ended { OnOk result (open_page pieces.new ≡ []) }
     ensures put { IsTrue F.told → OnOk result ((payloads : List ℕ)
         → IsPaged (Segment (piece_id pieces.old)) (piece_pages pieces.old) payloads
         (so_far (bytes_of (F.files folder.old (Segment (piece_id pieces.old)))) pieces.old)
@@ -108,43 +110,35 @@ fn put_leaves<F: Folder>(
     ensures reads { F.reads folder.new ≡ F.reads folder.old }
     ensures cause { HasWriteCause (F.faults folder.old) (F.faults folder.new) result }
 {
-    let mut page = Vec::with_capacity(alloc, 4064)?;
     for leaf in leaves {
-        make_room(folder, pieces, &mut page, leaf.as_slice())?;
-        page.extend_from_slice(leaf.as_slice())?;
+        make_room(folder, pieces, leaf.as_slice())?;
+        pieces.add(leaf.as_slice())?;
     }
-    pieces.push(folder, page.as_slice())
+    pieces.end_page(folder)
 }
 
-/// Adds the page and empties it, where it has no room for the leaf.
-fn make_room<F: Folder>(
-    folder: &mut F,
-    pieces: &mut Pieces,
-    page: &mut Vec<u8>,
-    leaf: &[u8],
-) -> Result<(), WriteFault>
-    requires page { length page.old.items ≤ 4064 }
+/// Ends the open page where it has no room for the leaf.
+fn make_room<F: Folder>(folder: &mut F, pieces: &mut Pieces, leaf: &[u8]) -> Result<(), WriteFault>
     requires leaf { length leaf.now ≤ 4064 }
     requires room { piece_pages pieces.old + 1 < 2 ^ 32 }
     ensures id { piece_id pieces.new ≡ piece_id pieces.old }
     ensures pages { OnOk result (piece_pages pieces.new ≤ piece_pages pieces.old + 1) }
-    ensures fits { OnOk result (length page.new.items + length leaf.now ≤ 4064) }
+    ensures fits { OnOk result (length (open_page pieces.new) + length leaf.now ≤ 4064) }
     ensures put { IsTrue F.told → OnOk result ((payloads : List ℕ) (leaves : List (List ℕ))
         → IsPaged (Segment (piece_id pieces.old)) (piece_pages pieces.old) payloads
         (so_far (bytes_of (F.files folder.old (Segment (piece_id pieces.old)))) pieces.old)
         → (more : List ℕ)
         × IsPaged (Segment (piece_id pieces.old)) (piece_pages pieces.new) more
         (so_far (bytes_of (F.files folder.new (Segment (piece_id pieces.old)))) pieces.new)
-        × (payloads ++ laid_pages page.old.items (leaf.now ∷ leaves) ≡ more ++ laid_pages
-        (page.new.items ++ leaf.now) leaves)) }
+        × (payloads ++ laid_pages (open_page pieces.old) (leaf.now ∷ leaves) ≡ more ++ laid_pages
+        (open_page pieces.new ++ leaf.now) leaves)) }
     ensures others { IsTrue F.told → SameBut (Segment (piece_id pieces.old)) (F.files folder.old) (F.files folder.new) }
     ensures reads { F.reads folder.new ≡ F.reads folder.old }
     ensures cause { HasWriteCause (F.faults folder.old) (F.faults folder.new) result }
 {
-    if page.len() + leaf.len() <= 4064 {
+    if pieces.open_len() + leaf.len() <= 4064 {
         return Ok(());
     }
-    pieces.push(folder, page.as_slice())?;
-    page.clear();
+    pieces.end_page(folder)?;
     Ok(())
 }

@@ -10,13 +10,16 @@ use Rattle.bkd_build.proofs.Sides.{value_inside, low_lies, high_lies}
 use Rattle.bkd_build.proofs.halves.halve.Goals as goal
 
 pub returns-clause-lefts : goal.returns-clause-lefts
-returns-clause-lefts g c = entries-take c.left_count-rank.result c.cut-at.new.entries c.left_count-rank.ensures.left (entries-IsPermutation c.args.entries.now c.cut-at.new.entries c.cut-at.ensures.same c.requires.entries)
+returns-clause-lefts g c =
+    entries-take c.left_count-rank.result c.cut-at.new.entries c.left_count-rank.ensures.left
+    (entries-IsPermutation c.args.entries.now c.cut-at.new.entries c.cut-at.ensures.same c.requires.entries)
 
 pub returns-clause-rights : goal.returns-clause-rights
 returns-clause-rights g c =
     let inside : c.left_count-rank.result < length c.cut-at.new.entries =
     omega (arith, length_permutation c.args.entries.now c.cut-at.new.entries c.cut-at.ensures.same, c.left_count-rank.ensures.right) in
-    entries-drop c.left_count-rank.result c.cut-at.new.entries inside (entries-IsPermutation c.args.entries.now c.cut-at.new.entries c.cut-at.ensures.same c.requires.entries)
+    entries-drop c.left_count-rank.result c.cut-at.new.entries inside
+    (entries-IsPermutation c.args.entries.now c.cut-at.new.entries c.cut-at.ensures.same c.requires.entries)
 
 pub returns-clause-split : goal.returns-clause-split
 returns-clause-split g c =

@@ -1,5 +1,5 @@
-use Rattle.std.proofs.Common.{◌≡◌, ◌+◌, ◌++◌, ℕ, List, [], length, drop, get_or, ap, sym, subst, arith, ◌∙◌, length-append}
-use Rattle.segment_file.specs.Pieced.{laid_pages}
+use Rattle.std.proofs.Common.{◌≡◌, ◌+◌, ◌++◌, ℕ, List, [], drop, get_or, ap, sym, subst, arith, ◌∙◌}
+use Rattle.segment_file.specs.Pieced.{open_page, laid_pages}
 use Rattle.segment_file.proofs.Subtrees.{OnOk-weaker}
 use Rattle.segment_file.proofs.Laid.{laid_more, laid_all}
 use Rattle.segment_file.proofs.write.put_leaves.Goals as goal
@@ -7,22 +7,20 @@ use Rattle.segment_file.proofs.write.put_leaves.Goals as goal
 pub loop-leaf-preserved : goal.loop-leaf-preserved
 loop-leaf-preserved g c =
     let i = c.loop-leaf.invariant in
-    let fits = c.in_ok-make_room.ensures.fits in
     let same : c.as_slice-in-loop-leaf.result.now ≡ c.as_slice.result.now = c.as_slice-in-loop-leaf.ensures ∙ sym c.as_slice.ensures in
-    let new_page : c.extend_from_slice.new.self.items ≡ c.make_room.new.page.items ++ c.as_slice.result.now =
-    c.in_ok-extend_from_slice.ensures.items ∙ ap (λ (l : List ℕ). c.make_room.new.page.items ++ l) same in
+    let new_page : open_page c.add.new.self ≡ open_page c.make_room.new.pieces ++ c.as_slice.result.now =
+    c.in_ok-add.ensures.added ∙ ap (λ (l : List ℕ). open_page c.make_room.new.pieces ++ l) same in
     let item : c.as_slice.result.now ≡ get_or c.args.leaves.now c.loop-leaf.leaf-index c.as_slice.result.now =
     subst (λ (l : List ℕ). l ≡ get_or c.args.leaves.now c.loop-leaf.leaf-index l) (sym c.as_slice.ensures) c.leaf-item.is in
     record {
-      id = c.make_room.ensures.id ∙ i.id;
-      pages = (let p = c.in_ok-make_room.ensures.pages in let q = i.pages in omega arith);
-      page = omega (arith, ap (λ (l : List ℕ). length l) new_page, length-append c.make_room.new.page.items c.as_slice.result.now, fits);
+      id = c.add.ensures.id ∙ c.make_room.ensures.id ∙ i.id;
+      pages = (let p = c.in_ok-make_room.ensures.pages in let q = i.pages in let r = c.add.ensures.pages in omega arith);
       put = λ told payloads h.
           let now = i.put told payloads h in
           let step = c.in_ok-make_room.ensures.put told now.0 (drop (c.loop-leaf.leaf-index + 1) c.args.leaves.now) (rw i.id now.1) in (
             step.0,
-            rw (← i.id) step.1,
-            laid_more (payloads ++ laid_pages [] c.args.leaves.now) now.0 step.0 c.loop-leaf.page.items c.extend_from_slice.new.self.items c.as_slice.result.now
+            rw (c.add.ensures.pages, c.add.ensures.same, ← i.id) step.1,
+            laid_more (payloads ++ laid_pages [] c.args.leaves.now) now.0 step.0 (open_page c.loop-leaf.pieces) (open_page c.add.new.self) c.as_slice.result.now
                 c.args.leaves.now c.loop-leaf.leaf-index c.loop-leaf-test.true item now.2
                 (step.2 ∙ ap (λ (l : List ℕ). step.0 ++ laid_pages l (drop (c.loop-leaf.leaf-index + 1) c.args.leaves.now)) (sym new_page)),
           );
@@ -34,11 +32,11 @@ loop-leaf-preserved g c =
 pub returns-clause-put : goal.returns-clause-put
 returns-clause-put g c = λ told.
     let i = c.loop-leaf.invariant in
-    OnOk-weaker c.push.result _ _
+    OnOk-weaker c.end_page.result _ _
     (λ f payloads h.
     let now = i.put told payloads h in
     let paged = f now.0 (rw i.id now.1) in
     let all =
-    laid_all (payloads ++ laid_pages [] c.args.leaves.now) now.0 c.loop-leaf.page.items c.args.leaves.now c.loop-leaf.leaf-index (omega arith) now.2 in
-    rw (← i.id, all, ← c.as_slice-2.ensures.value) paged)
-    (c.push.ensures.put told)
+    laid_all (payloads ++ laid_pages [] c.args.leaves.now) now.0 (open_page c.loop-leaf.pieces) c.args.leaves.now c.loop-leaf.leaf-index (omega arith) now.2 in
+    rw (← i.id, all) paged)
+    (c.end_page.ensures.put told)
