@@ -80,8 +80,9 @@ nearest-requires g c =
       (
         c.requires.few,
         λ watched.
-            unhidden_in g.row.D (was g c) (view_name c.args.view.now) c.view_of.result.0.now (here g c) (c.is_of_now-watched.ensures watched)
-            c.self.invariant.unhidden,
+            unhidden_in g.row.D c.self.inside.cache c.self.inside.segments c.self.inside.snapshots.items (view_name c.args.view.now) c.view_of.result.0.now
+            (c.view_of.ensures.segments ∙ ap (parts_at (view_name c.args.view.now) c.self.inside.segments) c.as_slice.ensures.value)
+            (c.is_of_now-watched.ensures watched) c.self.invariant.unhidden,
       ),
     ))))
 
