@@ -117,7 +117,8 @@ hide_one D watched heads lives k h live old new inside head_is live_is up marks 
     ]
 
 -- where nothing is watched over, none is
-pub marks_none : (D : ℕ) (watched : Bool) (id : ℕ) (live : LiveSet) (old new : PageCache) → MarksOf D watched id live old new → watched ≡ false → MarksGo old new
+pub marks_none : (D : ℕ) (watched : Bool) (id : ℕ) (live : LiveSet) (old new : PageCache) → MarksOf D watched id live old new → watched ≡ false
+    → MarksGo old new
 marks_none D watched id live old new marks off i number offset len page known = elim (marks i number offset len page known) [
   | inl was ↦ was
   | inr this ↦ absurd (true≢false (sym this.0 ∙ off))

@@ -12,11 +12,7 @@ use page_cache::PageCache;
 use segment_file::SegmentHead;
 
 /// Whether the live set is watched over, and no entry of the leaf is live.
-pub fn has_none_live<const D: usize>(
-    view: &LeafView<'_, D>,
-    live: &LiveBits,
-    watched: bool,
-) -> bool
+pub fn has_none_live<const D: usize>(view: &LeafView<'_, D>, live: &LiveBits, watched: bool) -> bool
     ensures { IsTrue result → IsTrue watched × (live_items live.now view.now ≡ []) }
 {
     if !watched {
@@ -45,12 +41,7 @@ pub fn is_known_dead<const D: usize>(
     if !watched {
         return false;
     }
-    cache.is_dead(
-        head.id(),
-        head.page_of(place),
-        place.offset,
-        place.length,
-    )
+    cache.is_dead(head.id(), head.page_of(place), place.offset, place.length)
 }
 
 /// Remembers the leaf at the place as dead, if it is.
@@ -68,11 +59,6 @@ pub fn remember<const D: usize>(
     ensures keeps { (i n : ℕ) (page : List ℕ) → Keeps cache.new i n page ↔ Keeps cache.old i n page }
 {
     if dead {
-        cache.mark_dead(
-            head.id(),
-            head.page_of(place),
-            place.offset,
-            place.length,
-        );
+        cache.mark_dead(head.id(), head.page_of(place), place.offset, place.length);
     }
 }

@@ -39,8 +39,8 @@ use std::alloc::{AllocError, Global};
 /// have a live number. It answers a damage of a leaf that it had to read, Failed and Memory; a cache keeps nothing new
 /// then but pages of these segments.
 ///
-/// Where the live sets are watched over (`watched`), the cache remembers which leaves have no live entry, and passes them
-/// over: the caller sees to it then that no number becomes live again in a segment of which pages may be kept.
+/// Where the live sets are watched over (`watched`), the cache remembers which leaves have no live entry, and these are
+/// passed over: the caller sees to it then that no number becomes live again while pages of its segment may be kept.
 pub fn nearest<const D: usize, F: Pages>(
     alloc: Global,
     heads: &[SegmentHead<D>],
@@ -55,7 +55,7 @@ pub fn nearest<const D: usize, F: Pages>(
     requires lives { length lives.now ≡ length heads.now }
     requires some { 1 ≤ k }
     requires few { k ≤ 10000 }
-    // which leaves of these segments are dead the cache knows of no greater live sets
+    // where the live sets are watched over: no leaf that the cache knows to be dead has an entry that is live
     requires apart { IsTrue watched → IsStrictlyIncreasing (map (λ h. h.id) heads.now) }
     requires hides { IsTrue watched → HideNone D cache.old heads.now lives.now }
     ensures hides { IsTrue watched → HideNone D cache.new heads.now lives.now }

@@ -140,7 +140,6 @@ impl PageCache {
 
     /// Marks a leaf of a page that is kept as dead: the cache knows then that its caller told so. What is kept stays as
     /// it is, and what was marked before may go for it. Takes no memory.
-    #[tactic(auto, unfolding(crate::specs::Cache::Keeps, crate::specs::Cache::KeepsDead, crate::specs::Cache::room_of, crate::specs::Cache::order_of))]
     pub fn mark_dead(&mut self, id: u64, number: u32, offset: u16, length: u16)
         ensures dead { (i n at len : ℕ) (bytes : List ℕ) → KeepsDead self.new i n at len bytes
             → KeepsDead self.old i n at len bytes

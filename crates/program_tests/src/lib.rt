@@ -29,6 +29,8 @@ mod commands;
 #[cfg(test)]
 mod counting;
 #[cfg(test)]
+mod dead_leaves;
+#[cfg(test)]
 mod deletion_windows;
 #[cfg(test)]
 mod drawn_counts;

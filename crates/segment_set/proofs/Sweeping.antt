@@ -133,7 +133,8 @@ swept_removed told k s t before after name named own un is same none_there = rec
 
 module _ (D : ℕ) (s : SetData) (k : CommitData) (name : FileName) (cache : PageCache) (well : IsWell D s)
     (named : is_named s.names.names name ≡ true) (un : IsUnneeded s k name)
-    (go : MarksGo s.cache cache) (fewer : (id : ℕ) → KeepsFile cache id → KeepsFile s.cache id) (none : (id : ℕ) → name ≡ Segment id → KeepsFile cache id → ⊥) where
+    (go : MarksGo s.cache cache) (fewer : (id : ℕ) → KeepsFile cache id → KeepsFile s.cache id)
+    (none : (id : ℕ) → name ≡ Segment id → KeepsFile cache id → ⊥) where
   still_named : (parts : List LiveSegment) → All (IsNamed s.names) parts → ((p : LiveSegment) → Contains parts p → Segment p.head.id ≢ name)
       → All (IsNamed (names_but name s.names)) parts
   still_named parts named apart k p lt =

@@ -20,7 +20,7 @@ use Rattle.index_model.specs.State.{Index, Snapshot, snapshot_of, viewed_docs}
 use Rattle.segment_view.specs.Calm.{IsCalm}
 use Rattle.segment_view.specs.LiveSegments.{AreRead, Contents, LiveSegment, ids_of}
 use Rattle.segment_view.specs.Found.{AreFound}
-use Rattle.segment_set.specs.Sets.{IsNamed, IsWell, NamedView, SetData, buffer_in, has_name, parts_in, view_of, viewed_buffer, viewed_parts}
+use Rattle.segment_set.specs.Sets.{IsNamed, IsWell, NamedView, SetData, buffer_in, has_name, parts_at, parts_in, view_of, viewed_buffer, viewed_parts}
 use Rattle.segment_set.specs.Seen.{Sees, ShowsSnapshot, StandsOver, entries_seen}
 use Rattle.segment_set.proofs.Standing.{ids_named, sees_like}
 use Rattle.segment_set.proofs.Well.{well_cache}
@@ -140,10 +140,10 @@ looked_unhidden D true s view segments cache is now hides go before =
 looked_unhidden D false s view segments cache is now hides go before = unhidden_still D s.cache cache s.parts (go refl) before
 
 -- and before it
-pub unhidden_in : (D : ℕ) (s : SetData) (view : Option (List ℕ)) (segments : List LiveSegment) → segments ≡ viewed_parts view s → view ≡ None
-    → All (HidesNoneOf D s.cache) s.parts → All (HidesNoneOf D s.cache) segments
-unhidden_in D s view segments is now before =
-    subst (All (HidesNoneOf D s.cache)) (sym (is ∙ ap (λ (v : Option (List ℕ)). viewed_parts v s) now)) before
+pub unhidden_in : (D : ℕ) (cache : PageCache) (parts : List LiveSegment) (views : List NamedView) (view : Option (List ℕ)) (segments : List LiveSegment)
+    → segments ≡ parts_at view parts views → view ≡ None → All (HidesNoneOf D cache) parts → All (HidesNoneOf D cache) segments
+unhidden_in D cache parts views view segments is now before =
+    subst (All (HidesNoneOf D cache)) (sym (is ∙ ap (λ (v : Option (List ℕ)). parts_at v parts views) now)) before
 
 pub looked_agrees : (D : ℕ) (told : Bool) (f g : Files) (s t : SetData) (ids : List ℕ) (cache : PageCache) (i : Index) → s ≡ t
     → IsCalm told f g s.cache cache ids → IsTrue told → Sees D f t i → Agrees f cache

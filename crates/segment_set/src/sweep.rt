@@ -7,7 +7,7 @@ ghost use Rattle.outer_io.specs.Faults.{HasCause};
 ghost use Rattle.outer_io.specs.Files.{Files};
 ghost use Rattle.outer_io.specs.declared.file_name.FileName.{FileName};
 ghost use Rattle.outer_io.specs.declared.file_name.FileName.TheVariants.{Segment};
-ghost use Rattle.page_cache.specs.Cache.{Agrees, KeepsFile};
+ghost use Rattle.page_cache.specs.Cache.{Agrees, KeepsFile, MarksGo};
 ghost use Rattle.documents.specs.Entries.{is_among};
 ghost use Rattle.stored_index.specs.Kept.{ListsFile};
 ghost use Rattle.index_model.specs.State.{Index};
@@ -170,6 +170,7 @@ fn lists_file(c: &Commit, name: &FileName) -> bool
 fn forget(cache: &mut PageCache, name: &FileName)
     ensures gone { (id : ℕ) → name.now ≡ Segment id → KeepsFile cache.new id → ⊥ }
     ensures fewer { (id : ℕ) → KeepsFile cache.new id → KeepsFile cache.old id }
+    ensures marks { MarksGo cache.old cache.new }
     ensures agrees { (files : Files) → Agrees files cache.old → Agrees files cache.new }
 {
     if let FileName::Segment(id) = *name {

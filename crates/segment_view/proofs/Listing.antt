@@ -19,7 +19,8 @@ head_there parts i d within = get_or-map (λ (p : LiveSegment). p.head) parts i 
 live_there : (parts : List LiveSegment) (i : ℕ) (d : LiveSegment) → i < length parts → get_or (lives_of parts) i no_live ≡ (get_or parts i d).live
 live_there parts i d within = get_or-map (λ (p : LiveSegment). p.live) parts i d no_live within
 
-pub hide_by_place : (D : ℕ) (cache : PageCache) (parts : List LiveSegment) → All (HidesNoneOf D cache) parts → HideNone D cache (heads_of parts) (lives_of parts)
+pub hide_by_place : (D : ℕ) (cache : PageCache) (parts : List LiveSegment) → All (HidesNoneOf D cache) parts
+    → HideNone D cache (heads_of parts) (lives_of parts)
 hide_by_place D cache parts all i within =
     let d = live_segment no_head no_live in
     let inside : i < length parts = omega (arith, within, length-map parts (λ (p : LiveSegment). p.head)) in

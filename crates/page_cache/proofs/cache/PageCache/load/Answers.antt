@@ -142,6 +142,7 @@ returns-clause-stays g c = λ i n bytes k. elim (c.keep.ensures.one (page_key i 
 
 pub invariant_of-self-2 : goal.invariant_of-self-2
 invariant_of-self-2 g c = record {
-  valid = valid_one c.args.id c.args.number (fresh c.in_ok-page.page) c.touch.new.pages.entries c.keep.new.pages.entries c.keep.ensures.one c.in_ok-page.ensures.valid
+  valid = valid_one c.args.id c.args.number (fresh c.in_ok-page.page) c.touch.new.pages.entries c.keep.new.pages.entries c.keep.ensures.one
+      c.in_ok-page.ensures.valid
       (valid_fewer c.args.self.now.pages.entries c.touch.new.pages.entries c.touch.ensures.fewer c.args.self.now.valid);
 }

@@ -1,5 +1,5 @@
 use Rattle.std.proofs.Common.{ap, inl, inr}
-use Rattle.page_cache.specs.Cache.{Keeps, KeepsDead, order_of}
+use Rattle.page_cache.specs.Cache.{Keeps, KeepsDead, order_of, room_of}
 use Rattle.page_cache.specs.Keys.{page_key, leaf_part}
 use Rattle.page_cache.specs.declared.key.PageKey.{PageKey}
 use Rattle.page_cache.specs.declared.leaf_part.LeafPart.{LeafPart}
@@ -26,6 +26,10 @@ returns-clause-keeps c = λ i n bytes. (c.mark_part.ensures.marks.was (page_key 
 pub returns-clause-order : goal.returns-clause-order
 unfolding order_of
 returns-clause-order c = c.mark_part.ensures.marks.order
+
+pub returns-clause-room : goal.returns-clause-room
+unfolding room_of
+returns-clause-room c = c.mark_part.ensures.room
 
 pub invariant_of-self : goal.invariant_of-self
 invariant_of-self c = record {

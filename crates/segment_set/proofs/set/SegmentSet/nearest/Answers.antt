@@ -74,16 +74,26 @@ invariant_of-self g c =
 
 pub nearest-requires : goal.nearest-requires
 nearest-requires g c =
-    let dims = c.self.invariant.few_dims in
-    (lit< tt, (entry_fits g.row.D dims, (point_fits g.row.D dims, (
-      c.requires.some,
+    let dims = c.self.invariant.few_dims in (
+      lit< tt,
       (
-        c.requires.few,
-        λ watched.
-            unhidden_in g.row.D (was g c) (view_name c.args.view.now) c.view_of.result.0.now (here g c) (c.is_of_now-watched.ensures watched)
-            c.self.invariant.unhidden,
+        entry_fits g.row.D dims,
+        (
+          point_fits g.row.D dims,
+          (
+            c.requires.some,
+            (
+              c.requires.few,
+              λ watched.
+                  unhidden_in g.row.D c.self.inside.cache c.self.inside.segments c.self.inside.snapshots.items (view_name c.args.view.now)
+                  c.view_of.result.0.now
+                  (c.view_of.ensures.segments ∙ ap (parts_at (view_name c.args.view.now) c.self.inside.segments) c.as_slice.ensures.value)
+                  (c.is_of_now-watched.ensures watched) c.self.invariant.unhidden,
+            ),
+          ),
+        ),
       ),
-    ))))
+    )
 
 pub returns-clause-found : goal.returns-clause-found
 returns-clause-found g c told i seen docs is =
