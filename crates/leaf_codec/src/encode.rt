@@ -33,7 +33,10 @@ pub fn encode_leaf<const D: usize>(alloc: Global, entries: &[Entry<D>]) -> Resul
 
 /// Puts the entries in leaf order, and spells the leaf of them. What their keys share, and which dimension is the
 /// sorted one, is the same in any order: so it is found once, for both.
-pub fn encode_entries<const D: usize>(alloc: Global, entries: &mut [Entry<D>]) -> Result<Bytes, Memory>
+pub fn encode_entries<const D: usize>(
+    alloc: Global,
+    entries: &mut [Entry<D>],
+) -> Result<Bytes, Memory>
     requires dims { (1 ≤ D) × (D ≤ 8) }
     requires some { 1 ≤ length entries.old }
     requires few { length entries.old ≤ leaf_limit D }
