@@ -27,8 +27,7 @@ pub fn encode_leaf<const D: usize>(alloc: Global, entries: &[Entry<D>]) -> Resul
     // it fits into the payload of a page
     ensures length { IfOk result (λ b. (1 ≤ length b) × (length b ≤ 4064)) }
 {
-    let dimensions = Dimensions::of(entries);
-    spell(alloc, entries, &dimensions)
+    spell(alloc, entries, &Dimensions::of(entries))
 }
 
 /// Puts the entries in leaf order, and spells the leaf of them. What their keys share, and which dimension is the

@@ -19,6 +19,7 @@ returns-clause-added g c =
     let few : length (items_of c.args.entries.now) ≤ c.args.leaf = rw length-map c.requires.few in
     let spelled : List ℕ = spelling g.row.D (items_of c.encode_entries.new.entries) in
     let was = c.args.self.now in
+    let arranged = c.encode_entries.new.entries in
     let lengths : c.push.new.self.items ≡ was.lengths.items ++ length spelled ∷ [] =
     cc (c.in_ok-push.ensures.items, ap length c.as_slice.ensures, ap length c.in_ok-bytes.ensures.spelled.is) in
     let cells : map region_of c.push-2.new.self.items ≡ map region_of was.cells.items ++ region_of c.cell_round-cell.result ∷ [] =
@@ -26,6 +27,6 @@ returns-clause-added g c =
     let leaves : c.push-3.new.self.items ≡ was.leaves.items ++ spelled ∷ [] =
     c.in_ok-push-3.ensures.items ∙ ap (λ (b : List ℕ). was.leaves.items ++ b ∷ []) c.in_ok-bytes.ensures.spelled.is in
     let nodes : was.nodes.items ≡ was.nodes.items ++ [] = sym (append-nil was.nodes.items) in
-    leaf_adds g.row.D c.args.leaf (items_of c.args.entries.now) (items_of c.encode_entries.new.entries) (region_of c.cell_round-cell.result) (held_pieces was) _
-    (items-IsPermutation c.args.entries.now c.encode_entries.new.entries c.encode_entries.ensures.same) few c.in_ok-bytes.ensures.spelled.are_leaf c.cell_round-cell.ensures
+    leaf_adds g.row.D c.args.leaf (items_of c.args.entries.now) (items_of arranged) (region_of c.cell_round-cell.result) (held_pieces was) _
+    (items-IsPermutation c.args.entries.now arranged c.encode_entries.ensures.same) few c.in_ok-bytes.ensures.spelled.are_leaf c.cell_round-cell.ensures
     (λ i. record { nodes = nodes i; lengths = lengths i; cells = cells i; leaves = leaves i })
