@@ -6,7 +6,7 @@ ghost use Rattle.point_codec.specs.Seen.{items_of, region_of};
 
 use crate::halves::Halving;
 use byte_cursor::{Bytes, Memory};
-use leaf_codec::{arrange, encode_leaf};
+use leaf_codec::encode_entries;
 use point_codec::{Cell, Entry};
 use std::alloc::Global;
 
@@ -71,8 +71,7 @@ impl<const D: usize> BuiltSubtree<D> {
         ensures added { OnOk result
             (AddsPieces D leaf (items_of entries.old) (held_pieces self.old) (held_pieces self.new)) }
     {
-        arrange(entries);
-        let bytes = encode_leaf(alloc, entries)?;
+        let bytes = encode_entries(alloc, entries)?;
         let cell = cell_round(entries);
         self.lengths.push(bytes.as_slice().len() as u16)?;
         self.cells.push(cell)?;

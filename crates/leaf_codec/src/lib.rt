@@ -23,7 +23,7 @@ mod words;
 mod write_keys;
 mod write_numbers;
 
-pub use encode::encode_leaf;
+pub use encode::{encode_entries, encode_leaf};
 pub use laws::{one_leaf, sorted_in_any_order};
 pub use order::{arrange, by_leaf_order};
 pub use size::greatest_leaf;

@@ -1,5 +1,5 @@
 use Rattle.leaf_codec.specs.Dimensions.{sorted_dimension}
-use Rattle.leaf_codec.proofs.order.arrange.Given.{Over}
+use Rattle.leaf_codec.proofs.order.arrange_by.Given.{Over}
 use Rattle.std.proofs.Common.{ℕ, Option, unwrap_or, ◌≡◌, ap, ◌∙◌, rules, subst, is_lt}
 use Rattle.std.specs.List.Sorted.{IsPermutation, IsSorted, IsStrictlySortedBy}
 use Rattle.std.proofs.lemmas.Fn.{always_returns_same}
@@ -10,7 +10,7 @@ use Rattle.point_codec.specs.declared.entries.Entry.{Entry}
 use Rattle.leaf_codec.specs.LeafOrder.{leaf_cmp, item_of}
 use Rattle.leaf_codec.proofs.OrderLemmas.{leaf_total, sorted-map, strictly, NoneTwice-IsPermutation}
 use Rattle.leaf_codec.proofs.Permuted.{sorted_dimension-IsPermutation}
-use Rattle.leaf_codec.proofs.order.arrange.Goals as goal
+use Rattle.leaf_codec.proofs.order.arrange_by.Goals as goal
 
 -- the new items ascend by the dimension that led the old ones, which leads the new ones too
 ascending : (g : Over) (c : goal.After-entries-1 g) → IsSorted (leaf_cmp c.leading_dimension-d.result) (items_of c.sort_unstable_by.new.self)
@@ -26,7 +26,7 @@ moved g c = IsPermutation-map (λ (e : Entry g.row.D). item_of e) c.args.entries
 
 leading : (g : Over) (c : goal.After-entries-1 g) → c.leading_dimension-d.result ≡ unwrap_or (sorted_dimension g.row.D (items_of c.sort_unstable_by.new.self)) 0
 leading g c =
-    c.leading_dimension-d.ensures.value
+    c.leading_dimension-d.ensures.value (items_of c.args.entries.now) c.requires.sorted
     ∙ ap (λ (o : Option ℕ). unwrap_or o 0)
     (sorted_dimension-IsPermutation g.row.D (items_of c.args.entries.now) (items_of c.sort_unstable_by.new.self) (moved g c))
 

@@ -11,8 +11,8 @@ use Rattle.leaf_codec.specs.Leaves.{AreLeaf}
 use Rattle.leaf_codec.specs.Spelling.{numbers, prefixes, sorted_part, rests, spelling}
 use Rattle.leaf_codec.proofs.Items.{length-items}
 use Rattle.leaf_codec.proofs.Lengths.{length-spelling}
-use Rattle.leaf_codec.proofs.encode.encode_leaf.Given.{Over}
-use Rattle.leaf_codec.proofs.encode.encode_leaf.Goals as goal
+use Rattle.leaf_codec.proofs.encode.spell.Given.{Over}
+use Rattle.leaf_codec.proofs.encode.spell.Goals as goal
 
 -- the entries are a leaf's
 are_leaf : (g : Over) (c : goal.After-new g) → AreLeaf g.row.D (items_of c.args.entries.now)
