@@ -12,6 +12,7 @@ ghost use Rattle.inner_pack.specs.Spelled.{IsNodeOf, spelled_part, told_part};
 ghost use Rattle.inner_pack.specs.Heads.{IsNodeHead, SaysSplit};
 
 use crate::fields::{take_byte, take_key, take_place, take_vint};
+use crate::place::PAYLOAD;
 use byte_cursor::cut;
 use point_codec::from_sortable;
 
@@ -134,7 +135,7 @@ fn packed_head<'a, const D: usize>(
     let (pages, rest) = take_vint(rest)?;
     let (offset, rest) = take_vint(rest)?;
     let (left_length, rest) = take_vint(rest)?;
-    if offset > 4064 {
+    if offset > u32::from(PAYLOAD) {
         return None;
     }
     let (left, right) = cut(rest, left_length as usize)?;

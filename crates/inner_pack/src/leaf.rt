@@ -13,7 +13,7 @@ ghost use Rattle.inner_pack.specs.Heads.{IsPackedLeaf, IsOwnCell, IsTableLeaf, I
 
 use crate::fields::{cell_of, is_cell, take_place, take_vint};
 use crate::head::NodeBytes;
-use crate::place::Mark;
+use crate::place::{Mark, PAYLOAD};
 use point_codec::{Cell, all_le};
 
 /// The length of the leaf next behind the mark, where the part is that of one leaf.
@@ -64,7 +64,7 @@ fn table_leaf(part: NodeBytes, behind: Mark) -> Option<u16>
     if place.length < 1 {
         return None;
     }
-    if place.length > 4064 {
+    if place.length > PAYLOAD {
         return None;
     }
     let begin = behind.fit(place.length);
@@ -103,7 +103,7 @@ pub(crate) fn take_length(b: &[u8]) -> Option<(u16, &[u8])>
     if length < 1 {
         return None;
     }
-    if length > 4064 {
+    if length > u32::from(PAYLOAD) {
         return None;
     }
     Some((length as u16, rest))

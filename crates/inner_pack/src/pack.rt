@@ -17,13 +17,10 @@ ghost use Rattle.inner_pack.specs.Packs.{end_at, AppendsReversed, IsSubtree};
 use crate::cells::put_cell;
 use crate::fields::shared_length;
 use crate::index::{Index, keys_of};
-use crate::place::LeafPlace;
+use crate::place::{LeafPlace, PAYLOAD};
 use byte_cursor::{Memory, put_slice, put_u8, put_vint};
 use point_codec::{Cell, sortable};
 use std::alloc::Global;
-
-/// How many bytes of a leaf page hold leaves.
-const PAYLOAD: u16 = 4064;
 
 impl<const D: usize> Index<D> {
     ghost use Rattle.std.specs.Prelude.{◌≡◌, length, IfOk};

@@ -3,6 +3,11 @@
 ghost use Rattle.std.specs.Prelude.{◌≡◌, ◌≤◌, ◌+◌, ◌<◌, ◌^◌};
 ghost use Rattle.inner_pack.specs.Places.{leaf_begin, leaf_end};
 
+use page_file::PAYLOAD_LEN;
+
+/// How many bytes of a leaf page hold leaves.
+pub(crate) const PAYLOAD: u16 = PAYLOAD_LEN as u16;
+
 /// The place of a leaf in the leaf pages of its segment.
 #[derive(Clone, Copy, PartialEq, Eq, Debug)]
 pub struct LeafPlace {
@@ -31,7 +36,7 @@ impl Mark {
         requires page { self.page + 1 < 2 ^ 32 }
         ensures { spot_of result ≡ leaf_begin (spot_of self) length }
     {
-        if self.offset + length <= 4064 {
+        if self.offset + length <= PAYLOAD {
             self
         } else {
             Mark {

@@ -137,8 +137,8 @@ returns-in_err-left_length-clause-only g c form leaves s path d x l r packed roo
     let o = c.in_ok-offset.ensures.only right.offset r4 (omega (arith, n.offset)) v.1 in
     absurd (c.in_err-left_length.ensures.only (length lb) r5 n.left o.1)
 
-pub returns-then-offset-gt4064-clause-only : goal.returns-then-offset-gt4064-clause-only
-returns-then-offset-gt4064-clause-only g c form leaves s path d x l r packed room fits h =
+pub returns-then-offset-from-clause-only : goal.returns-then-offset-from-clause-only
+returns-then-offset-from-clause-only g c form leaves s path d x l r packed room fits h =
     let n = packed_node g.row.D form leaves s path c.args.references.now c.args.part.bytes.now c.args.part.places.now d x l r c.requires.dims packed room h in
     let lower = slice_set c.args.references.now d (key x) in
     let right = right_begin s l r in
@@ -160,7 +160,7 @@ returns-then-offset-gt4064-clause-only g c form leaves s path d x l r packed roo
     let k = c.in_ok-key.ensures.only (key x) r2 (key_long x) same at1 in
     let v = c.in_ok-pages.ensures.only (right.page - s.page) r3 n.pages k.1 in
     let o = c.in_ok-offset.ensures.only right.offset r4 (omega (arith, n.offset)) v.1 in
-    absurd (omega (arith, c.if-offset-gt4064.true, o.0, n.offset))
+    absurd (omega (arith, c.if-offset-from.true, c.from.ensures, o.0, n.offset))
 
 pub returns-in_err-left-clause-only : goal.returns-in_err-left-clause-only
 returns-in_err-left-clause-only g c form leaves s path d x l r packed room fits h =
@@ -193,7 +193,7 @@ returns-clause-found g c form packed =
     let sf : FitsSigned w32 c.from_sortable.result = search rules in
     let code = c.in_ok-code.code in
     let key = c.in_ok-key.key in
-    let few : c.in_ok-offset.offset ≤ 4064 = omega (arith, c.if-offset-gt4064.false) in
+    let few : c.in_ok-offset.offset ≤ 4064 = omega (arith, c.if-offset-from.false, c.from.ensures) in
     let e4 : c.in_ok-left_length.rest.now ≡ c.in_ok-left.left.now ++ c.in_ok-left.right.now = c.in_ok-left.ensures.found.1 in
     let e3 : c.in_ok-offset.rest.now ≡ vint (length c.in_ok-left.left.now) ++ (c.in_ok-left.left.now ++ c.in_ok-left.right.now) =
     c.in_ok-left_length.ensures.found ∙ (λ i. vint (sym c.in_ok-left.ensures.found.0 i) ++ e4 i) in
