@@ -21,7 +21,7 @@ pub struct Tally {
     pub tested: u64,
     /// The leaves whose own cell is not outside.
     pub touched: u64,
-    /// All leaves.
+    /// How many leaves there are.
     pub leaves: u64,
 }
 

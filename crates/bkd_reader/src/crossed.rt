@@ -8,14 +8,15 @@ ghost use Rattle.point_codec.specs.Points.{Item, Region};
 ghost use Rattle.inner_pack.specs.Places.{Spot};
 ghost use Rattle.inner_pack.specs.Trees.{IndexTree, cell_of};
 ghost use Rattle.inner_pack.specs.Nodes.{IsAt};
-ghost use Rattle.page_cache.specs.Cache.{Agrees, IsKept};
+ghost use Rattle.page_cache.specs.Cache.{Agrees};
 ghost use Rattle.page_cache.specs.Evidence.{OnDamage, NotDamaged};
-ghost use Rattle.page_cache.specs.Reading.{ReadsCached, ReadsNothing};
-ghost use Rattle.segment_file.specs.Heads.{count_of, page_of};
+ghost use Rattle.page_cache.specs.Reading.{ReadsCached};
+ghost use Rattle.segment_file.specs.Heads.{count_of};
 ghost use Rattle.segment_file.specs.Segments.{HoldsTree};
 ghost use Rattle.segment_file.specs.Damages.{IsLeafDamage, IsLeafDamageOf};
 ghost use Rattle.bkd_reader.specs.Counts.{tested_entries};
 ghost use Rattle.bkd_reader.specs.Hits.{AreHits, Appends, Begins, hits_in};
+ghost use Rattle.bkd_reader.specs.Unread.{ReadsLeaf};
 
 use cell_relate::Shape;
 use inner_pack::NodeAt;
@@ -49,10 +50,7 @@ pub fn test_leaf<const D: usize, S: Shape<D>, F: Pages>(
         → S.crosses shape.old (cell_of path t) ≡ true
         → S.tests shape.new ≤ S.tests shape.old + tested_entries (S.crosses shape.old) (count_of head.now) first t }
     ensures compares { S.compares shape.new ≡ S.compares shape.old }
-    ensures reads { F.reads folder.new ≤ F.reads folder.old + 1 }
-    ensures kept { (first : ℕ) (s : Spot) (path : Region) (t : IndexTree) → IsAt node.now first s path t
-        → IsKept cache.old head.now.id (page_of head.now s.page)
-        → ReadsNothing (F.reads folder.old) (F.reads folder.new) cache.old cache.new result }
+    ensures reads { ReadsLeaf head.now node.now (F.reads folder.old) (F.reads folder.new) cache.old cache.new result }
     ensures has { S.has shape.new ≡ S.has shape.old }
     ensures crosses { S.crosses shape.new ≡ S.crosses shape.old }
     ensures reading { ReadsCached F.told (λ i. i ≡ head.now.id) (F.files folder.old) (F.files folder.new)

@@ -8,13 +8,13 @@ ghost use Rattle.cell_relate.specs.Relations.{AllAnswer};
 ghost use Rattle.inner_pack.specs.Places.{Spot};
 ghost use Rattle.inner_pack.specs.Trees.{IndexTree, cell_of};
 ghost use Rattle.inner_pack.specs.Nodes.{IsAt};
-ghost use Rattle.page_cache.specs.Cache.{Agrees, IsKept};
+ghost use Rattle.page_cache.specs.Cache.{Agrees};
 ghost use Rattle.page_cache.specs.Evidence.{OnDamage, NotDamaged};
-ghost use Rattle.page_cache.specs.Reading.{ReadsCached, ReadsNothing};
-ghost use Rattle.segment_file.specs.Heads.{page_of};
+ghost use Rattle.page_cache.specs.Reading.{ReadsCached};
 ghost use Rattle.segment_file.specs.Segments.{HoldsTree};
 ghost use Rattle.segment_file.specs.Damages.{IsLeafDamage, IsLeafDamageOf};
 ghost use Rattle.bkd_reader.specs.Hits.{AreHits, Appends, Begins, hits_in};
+ghost use Rattle.bkd_reader.specs.Unread.{ReadsLeaf};
 
 use inner_pack::NodeAt;
 use leaf_codec::LeafView;
@@ -42,10 +42,7 @@ pub fn collect_leaf<const D: usize, F: Pages>(
         → OnOk result
         (Appends hits.old.items hits.new.items
         (AreHits D (bytes_of (F.files folder.old (Segment head.now.id))) head.now has live.now first s t)) }
-    ensures reads { F.reads folder.new ≤ F.reads folder.old + 1 }
-    ensures kept { (first : ℕ) (s : Spot) (path : Region) (t : IndexTree) → IsAt node.now first s path t
-        → IsKept cache.old head.now.id (page_of head.now s.page)
-        → ReadsNothing (F.reads folder.old) (F.reads folder.new) cache.old cache.new result }
+    ensures reads { ReadsLeaf head.now node.now (F.reads folder.old) (F.reads folder.new) cache.old cache.new result }
     ensures reading { ReadsCached F.told (λ i. i ≡ head.now.id) (F.files folder.old) (F.files folder.new)
         cache.old cache.new (F.faults folder.old) (F.faults folder.new) result }
     ensures shown { (first : ℕ) (s : Spot) (path : Region) (t : IndexTree) → IsAt node.now first s path t

@@ -1,4 +1,4 @@
-//! The walk.
+//! The walk: cells outside are left, cells inside are taken whole, and crossed ones are opened.
 
 ghost use Rattle.std.specs.Prelude.{◌≡◌, ◌≤◌, ◌+◌, ◌*◌, ◌++◌, ℕ, List, ℤ, Bool, true, IsTrue, OnOk};
 ghost use Rattle.outer_io.specs.Files.{bytes_of};

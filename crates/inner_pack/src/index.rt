@@ -94,7 +94,7 @@ impl<const D: usize> Index<D> {
         }
     }
 
-    /// The bytes.
+    /// The bytes of the body.
     pub fn body(&self) -> &[u8]
         ensures { result.now ≡ self.now.bytes }
     {
@@ -129,7 +129,7 @@ impl<const D: usize> Index<D> {
         let _form = self.form;
     }
 
-    /// The root.
+    /// The root of the tree, from which a walk begins.
     pub fn walk(&self) -> NodeAt<'_, D>
         ensures { (root : Region) (t : IndexTree) → HasTree D self.now root t → IsAt result 0 front root t }
     {

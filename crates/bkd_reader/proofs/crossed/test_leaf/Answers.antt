@@ -53,25 +53,37 @@ returns-clause-hits g c = λ told agrees first s path t is.
     c.in-Some.ensures.some (g.F.Pages.files c.args.folder.now) first s path len own (c.in_ok-place.ensures.reading.agrees told agrees) at place)
     c.in_ok-push_tested.ensures.hits
 
--- ---- its page is kept
+-- ---- what is read
 
-pub returns-in_err-place-clause-kept : goal.returns-in_err-place-clause-kept
-returns-in_err-place-clause-kept g c = λ first s path t is kept.
-    let hit = c.in_err-place.ensures.hit first s path t is kept in
-    absurd (let no_ok = hit.0 in cc)
+pub returns-in_err-place-clause-reads : goal.returns-in_err-place-clause-reads
+returns-in_err-place-clause-reads g c = record {
+  most = c.in_err-place.ensures.reads;
+  none = λ first s path t is kept.
+      let hit = c.in_err-place.ensures.hit first s path t is kept in
+      absurd (let no_ok = hit.0 in cc);
+}
 
-pub returns-in_default-clause-kept : goal.returns-in_default-clause-kept
-returns-in_default-clause-kept g c = λ first s path t is kept.
-    let hit = c.in_ok-place.ensures.hit first s path t is kept in
-    record { reads = hit.1; kept = tt }
+pub returns-in_default-clause-reads : goal.returns-in_default-clause-reads
+returns-in_default-clause-reads g c = record {
+  most = c.in_ok-place.ensures.reads;
+  none = λ first s path t is kept.
+      let hit = c.in_ok-place.ensures.hit first s path t is kept in
+      record { reads = hit.1; kept = tt };
+}
 
-pub returns-in_err-push_tested-clause-kept : goal.returns-in_err-push_tested-clause-kept
-returns-in_err-push_tested-clause-kept g c = λ first s path t is kept.
-    let hit = c.in_ok-place.ensures.hit first s path t is kept in
-    let p = err_from_is_err_and c.from_residual-in_err-push_tested.result c.from_residual-in_err-push_tested.ensures.1 in
-    reads_failed _ _ _ _ _ _ p.1 hit.1
+pub returns-in_err-push_tested-clause-reads : goal.returns-in_err-push_tested-clause-reads
+returns-in_err-push_tested-clause-reads g c = record {
+  most = c.in_ok-place.ensures.reads;
+  none = λ first s path t is kept.
+      let hit = c.in_ok-place.ensures.hit first s path t is kept in
+      let p = err_from_is_err_and c.from_residual-in_err-push_tested.result c.from_residual-in_err-push_tested.ensures.1 in
+      reads_failed _ _ _ _ _ _ p.1 hit.1;
+}
 
-pub returns-clause-kept : goal.returns-clause-kept
-returns-clause-kept g c = λ first s path t is kept.
-    let hit = c.in_ok-place.ensures.hit first s path t is kept in
-    record { reads = hit.1; kept = hit.2 }
+pub returns-clause-reads : goal.returns-clause-reads
+returns-clause-reads g c = record {
+  most = c.in_ok-place.ensures.reads;
+  none = λ first s path t is kept.
+      let hit = c.in_ok-place.ensures.hit first s path t is kept in
+      record { reads = hit.1; kept = hit.2 };
+}

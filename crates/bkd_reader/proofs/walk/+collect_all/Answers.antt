@@ -1,4 +1,4 @@
-use Rattle.std.proofs.Common.{◌+◌, Err, true, sym, subst}
+use Rattle.std.proofs.Common.{◌+◌, ◌≡◌, Err, true, sym, subst, arith, rules}
 use Rattle.std.proofs.lemmas.Result.{err_from_is_err_and}
 use Rattle.std.specs.Prelude.{OnOk}
 use Rattle.outer_io.specs.Files.{bytes_of}
@@ -74,6 +74,12 @@ returns-in_ok-collect_all-in-Some-clause-whole g t c = λ told agrees first s pa
 pub returns-in-None-clause-hits : goal.returns-in-None-clause-hits
 returns-in-None-clause-hits g t c = λ told agrees first s path t' root has all. c.collect_leaf.ensures.hits told agrees first s path t' root.is has all
 
+pub returns-in-None-clause-reads : goal.returns-in-None-clause-reads
+returns-in-None-clause-reads g t c =
+    let one : c.args.node.now.leaves ≡ 1 = search rules in
+    let most = c.collect_leaf.ensures.reads.most in
+    omega (arith, one, most)
+
 -- ---- all pages are kept
 
 pub returns-in_err-collect_all-in-Some-clause-kept : goal.returns-in_err-collect_all-in-Some-clause-kept
@@ -94,4 +100,4 @@ returns-in_ok-collect_all-in-Some-clause-kept g t c = λ first s path t' is kept
 
 pub returns-in-None-clause-kept : goal.returns-in-None-clause-kept
 returns-in-None-clause-kept g t c = λ first s path t' is kept.
-    c.collect_leaf.ensures.kept first s path t' is (first_kept c.args.cache.now c.args.head.now s t' kept)
+    c.collect_leaf.ensures.reads.none first s path t' is (first_kept c.args.cache.now c.args.head.now s t' kept)

@@ -241,7 +241,7 @@ returns-in-None-clause-reads g t c = λ first s path t' root.
     (count_at c.args.node.now first s path t' root.is ∙ one)
     (λ len own e. crossed_touched (g.S.Shape.has c.args.shape.now) (g.S.Shape.crosses c.args.shape.now) (count_of c.args.head.now) first len own own refl e)
     crossed in
-    let most = c.test_leaf.ensures.reads in
+    let most = c.test_leaf.ensures.reads.most in
     omega (arith, it, most)
 
 -- ---- the pages of all leaves that aren't outside are kept
@@ -291,4 +291,4 @@ returns-in-None-clause-kept g t c = λ first s path t' root kept.
     (count_at c.args.node.now first s path t' root.is ∙ one)
     (λ len own e k. k (is_outside-crosses (g.S.Shape.has c.args.shape.now) (g.S.Shape.crosses c.args.shape.now) own e))
     crossed kept in
-    c.test_leaf.ensures.kept first s path t' root.is here
+    c.test_leaf.ensures.reads.none first s path t' root.is here
