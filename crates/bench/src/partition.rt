@@ -1,9 +1,8 @@
 //! Entries parted into the leaves of a tree.
 
 ghost use Rattle.std.specs.Prelude.{◌≤◌, ◌^◌};
-ghost use Rattle.point_codec.specs.Seen.{items_of, region_of};
-ghost use Rattle.bkd_build.specs.Extents.{LieIn};
-ghost use Rattle.bkd_build.specs.Pieces.{AreEntries};
+ghost use Rattle.point_codec.specs.Seen.{region_of};
+ghost use Rattle.bkd_build.specs.Pieces.{AreEntries, AreEntriesIn};
 
 use crate::builds::drawn;
 use bkd_build::halve;
@@ -17,8 +16,7 @@ const LEAF: usize = 333;
 /// Parts the entries, which lie in the cell, into full leaves, each in leaf order; half of the leaves, rounded up, are
 /// left of a split.
 fn part(entries: &mut [Entry<2>], cell: &Cell<2>)
-    requires entries { AreEntries entries.old }
-    requires inside { LieIn 2 (region_of cell.now) (items_of entries.old) }
+    requires { AreEntriesIn (region_of cell.now) entries.old }
 {
     if entries.len() <= LEAF {
         arrange(entries);

@@ -8,6 +8,7 @@ use Rattle.leaf_codec.specs.LeafOrder.{NoneTwice}
 use Rattle.leaf_codec.specs.Spelling.{spelling}
 use Rattle.inner_pack.specs.Trees.{cuts_of, lengths_of, own_cells}
 use Rattle.bkd_build.specs.declared.parts.BuiltSubtree.{BuiltSubtree}
+use Rattle.bkd_build.specs.Extents.{LieIn}
 use Rattle.bkd_build.specs.Canon.{KdTree, entries_of, leaves_of, index_tree_of, IsCanon}
 
 -- what can be built of: some entries, with numbers of three bytes, none of them twice
@@ -15,6 +16,11 @@ pub record AreEntries {D : ℕ} (entries : List (Entry D)) : Type 0 where
   pub some : 1 ≤ length entries
   pub numbers : All (λ e. e.doc < 2 ^ 24) entries
   pub once : NoneTwice (items_of entries)
+
+-- what a subtree can be built of: such entries, in a cell that is known to hold them
+pub record AreEntriesIn {D : ℕ} (cell : Region) (entries : List (Entry D)) : Type 0 where
+  pub are : AreEntries entries
+  pub inside : LieIn D cell (items_of entries)
 
 -- what a walk over a tree meets: its inner nodes in preorder as the dimension and the value of their split; and of
 -- its leaves from left to right how many bytes spell them, their own cells, and the bytes

@@ -4,8 +4,7 @@ ghost use Rattle.std.specs.Prelude.{◌≡◌, ◌≤◌, ◌<◌, length, take,
 ghost use Rattle.std.specs.List.Sorted.{IsPermutation};
 ghost use Rattle.point_codec.specs.Seen.{items_of, region_of};
 ghost use Rattle.bkd_build.specs.Canon.{left_count, IsCanonSplit};
-ghost use Rattle.bkd_build.specs.Extents.{LieIn};
-ghost use Rattle.bkd_build.specs.Pieces.{AreEntries};
+ghost use Rattle.bkd_build.specs.Pieces.{AreEntriesIn};
 
 use crate::cuts::cut;
 use crate::extents::widest;
@@ -27,17 +26,14 @@ pub fn halve<const D: usize>(entries: &mut [Entry<D>], cell: &Cell<D>, leaf: usi
     requires dims { (1 ≤ D) × (D ≤ 8) }
     requires leaf { 1 ≤ leaf }
     requires many { leaf < length entries.old }
-    requires entries { AreEntries entries.old }
-    requires inside { LieIn D (region_of cell.now) (items_of entries.old) }
+    requires entries { AreEntriesIn (region_of cell.now) entries.old }
     ensures same { IsPermutation entries.old entries.new }
-    ensures lefts { AreEntries (take result.rank entries.new) }
-    ensures rights { AreEntries (drop result.rank entries.new) }
+    ensures lefts { AreEntriesIn (region_of result.low) (take result.rank entries.new) }
+    ensures rights { AreEntriesIn (region_of result.high) (drop result.rank entries.new) }
     ensures split { IsCanonSplit D leaf result.dimension result.at (items_of (take result.rank entries.new))
         (items_of (drop result.rank entries.new)) }
     ensures left { 1 ≤ result.rank }
     ensures right { result.rank < length entries.old }
-    ensures low { LieIn D (region_of result.low) (items_of (take result.rank entries.new)) }
-    ensures high { LieIn D (region_of result.high) (items_of (drop result.rank entries.new)) }
 {
     let mut round = *cell;
     let dimension = widest(entries, &mut round);

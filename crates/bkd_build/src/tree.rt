@@ -6,8 +6,7 @@ ghost use Rattle.std.specs.Thread.{IsSync};
 ghost use Rattle.point_codec.specs.Seen.{items_of, region_of};
 ghost use Rattle.leaf_codec.specs.Leaves.{leaf_limit};
 ghost use Rattle.bkd_build.specs.Canon.{IsCanonSplit};
-ghost use Rattle.bkd_build.specs.Extents.{LieIn};
-ghost use Rattle.bkd_build.specs.Pieces.{AreEntries, AddsPieces, AddsBoth, held_pieces, joined_pieces, no_pieces};
+ghost use Rattle.bkd_build.specs.Pieces.{AreEntriesIn, AddsPieces, AddsBoth, held_pieces, joined_pieces, no_pieces};
 ghost use Rattle.bkd_build.specs.Pieces.{one_node};
 
 use crate::gate::Gate;
@@ -30,8 +29,7 @@ fn grow<const D: usize>(
 ) -> Result<(), Memory>
     requires dims { (1 ≤ D) × (D ≤ 8) }
     requires leaf { (1 ≤ leaf) × (leaf ≤ leaf_limit D) }
-    requires entries { AreEntries entries.old }
-    requires inside { LieIn D (region_of cell.now) (items_of entries.old) }
+    requires entries { AreEntriesIn (region_of cell.now) entries.old }
     ensures same { IsPermutation entries.old entries.new }
     ensures added { OnOk result
         (AddsPieces D leaf (items_of entries.old) (held_pieces part.old) (held_pieces part.new)) }
@@ -58,10 +56,8 @@ fn grow_halves<const D: usize>(
 ) -> Result<(), Memory>
     requires dims { (1 ≤ D) × (D ≤ 8) }
     requires leaf { (1 ≤ leaf) × (leaf ≤ leaf_limit D) }
-    requires left { AreEntries left.old }
-    requires right { AreEntries right.old }
-    requires low { LieIn D (region_of node.now.low) (items_of left.old) }
-    requires high { LieIn D (region_of node.now.high) (items_of right.old) }
+    requires left { AreEntriesIn (region_of node.now.low) left.old }
+    requires right { AreEntriesIn (region_of node.now.high) right.old }
     ensures left_same { IsPermutation left.old left.new }
     ensures right_same { IsPermutation right.old right.new }
     ensures added { OnOk result
@@ -81,8 +77,7 @@ fn grown<const D: usize>(
 ) -> Result<BuiltSubtree<D>, Memory>
     requires dims { (1 ≤ D) × (D ≤ 8) }
     requires leaf { (1 ≤ leaf) × (leaf ≤ leaf_limit D) }
-    requires entries { AreEntries entries.old }
-    requires inside { LieIn D (region_of cell.now) (items_of entries.old) }
+    requires entries { AreEntriesIn (region_of cell.now) entries.old }
     ensures same { IsPermutation entries.old entries.new }
     ensures built { IfOk result (λ part. AddsPieces D leaf (items_of entries.old) no_pieces (held_pieces part)) }
 {
@@ -124,8 +119,7 @@ pub(crate) fn build_part<const D: usize, R: Threads + Sync, G: Gate>(
 ) -> Result<BuiltSubtree<D>, Memory>
     requires dims { (1 ≤ D) × (D ≤ 8) }
     requires leaf { (1 ≤ leaf) × (leaf ≤ leaf_limit D) }
-    requires entries { AreEntries entries.old }
-    requires inside { LieIn D (region_of cell.now) (items_of entries.old) }
+    requires entries { AreEntriesIn (region_of cell.now) entries.old }
     ensures same { IsPermutation entries.old entries.new }
     ensures built { IfOk result (λ part. AddsPieces D leaf (items_of entries.old) no_pieces (held_pieces part)) }
 {
@@ -159,10 +153,8 @@ fn both<const D: usize, R: Threads + Sync, G: Gate>(
     requires dims { (1 ≤ D) × (D ≤ 8) }
     requires leaf { (1 ≤ leaf) × (leaf ≤ leaf_limit D) }
     requires forks { 0 < forks }
-    requires left { AreEntries left.old }
-    requires right { AreEntries right.old }
-    requires low { LieIn D (region_of node.now.low) (items_of left.old) }
-    requires high { LieIn D (region_of node.now.high) (items_of right.old) }
+    requires left { AreEntriesIn (region_of node.now.low) left.old }
+    requires right { AreEntriesIn (region_of node.now.high) right.old }
     ensures left_same { IsPermutation left.old left.new }
     ensures right_same { IsPermutation right.old right.new }
     ensures left_built { IfOk result.0 (λ part. AddsPieces D leaf (items_of left.old) no_pieces (held_pieces part)) }
@@ -170,7 +162,7 @@ fn both<const D: usize, R: Threads + Sync, G: Gate>(
 {
     let mut first = || -> Result<BuiltSubtree<D>, Memory>
         requires { IsSync R.row × IsSync G.row × (0 < forks) × (1 ≤ D) × (D ≤ 8) × (1 ≤ leaf) × (leaf ≤ leaf_limit D)
-            × AreEntries left.now × LieIn D (region_of node.now.low) (items_of left.now) }
+            × AreEntriesIn (region_of node.now.low) left.now }
         ensures same { IsPermutation left.entry.now left.exit.now }
         ensures built { IfOk result (λ part. AddsPieces D leaf (items_of left.entry.now) no_pieces (held_pieces part)) }
     {
@@ -179,7 +171,7 @@ fn both<const D: usize, R: Threads + Sync, G: Gate>(
     };
     let mut second = || -> Result<BuiltSubtree<D>, Memory>
         requires { IsSync R.row × IsSync G.row × (0 < forks) × (1 ≤ D) × (D ≤ 8) × (1 ≤ leaf) × (leaf ≤ leaf_limit D)
-            × AreEntries right.now × LieIn D (region_of node.now.high) (items_of right.now) }
+            × AreEntriesIn (region_of node.now.high) right.now }
         ensures same { IsPermutation right.entry.now right.exit.now }
         ensures built { IfOk result
             (λ part. AddsPieces D leaf (items_of right.entry.now) no_pieces (held_pieces part)) }

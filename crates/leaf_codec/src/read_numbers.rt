@@ -11,6 +11,7 @@ ghost use Rattle.leaf_codec.specs.Views.{AreBounds};
 use crate::words::{mask, word};
 use crate::write_numbers::width;
 use byte_cursor::Cursor;
+use point_codec::MOST_POINTS;
 
 /// The numbers of a leaf in their bytes.
 #[derive(Clone, Copy)]
@@ -61,20 +62,20 @@ impl<'a> Numbers<'a> {
         self.least + self.offset(i)
     }
 
-    /// Whether the numbers have no other spelling and are below 2^24.
+    /// Whether the numbers have no other spelling and are below `MOST_POINTS`.
     pub fn are_canonical(&self) -> bool
         requires numbers { IsNumbers self.now }
         requires some { 1 ≤ self.now.count }
         ensures { IsTrue result ↔ AreCanonNumbers self.now.count (raw_numbers_of self.now) }
     {
         if self.width == 0 {
-            return self.number(self.count - 1) < 1 << 24;
+            return self.number(self.count - 1) < MOST_POINTS;
         }
         let span = self.span();
         if span.row || !span.from_least {
             return false;
         }
-        self.least + span.greatest < 1 << 24 && self.width == width(span.greatest) as usize
+        self.least + span.greatest < MOST_POINTS && self.width == width(span.greatest) as usize
     }
 
     /// The same where the numbers are no row.
@@ -194,7 +195,7 @@ fn form_and_least(bytes: &[u8]) -> Option<(usize, u32, &[u8])>
     let Ok(least) = cursor.take_vint() else {
         return None;
     };
-    if least >= 1 << 24 {
+    if least >= MOST_POINTS {
         return None;
     }
     Some((form as usize, least, cursor.rest()))

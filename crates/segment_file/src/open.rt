@@ -24,7 +24,7 @@ use crate::payloads::{is_blank, joined};
 use byte_cursor::Bytes;
 use inner_pack::Index;
 use outer_io::{FileName, Pages};
-use page_cache::{Damage, FirstPage, PageFault, pages_for, read_payloads};
+use page_cache::{Damage, FirstPage, PAGE_LEN, PageFault, pages_for, read_payloads};
 use std::alloc::Global;
 
 /// Reads the head and the index of a segment, and no leaf page. Damages come in this order: the file is missing; it
@@ -155,7 +155,7 @@ fn check_size(first: &FirstPage, id: u64, fields: HeadFields) -> Result<(), Page
     ensures no_fault { IsErrOf result page.Failed → ⊥ }
 {
     let pages = 1 + u64::from(pages_for(fields.index_length)) + u64::from(fields.leaf_pages);
-    let needed = 4096 * pages;
+    let needed = PAGE_LEN as u64 * pages;
     if first.size() == needed {
         Ok(())
     } else {

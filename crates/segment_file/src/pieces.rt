@@ -13,7 +13,7 @@ use page_cache::{PAGE_LEN, pages_for, put_pages, seal_from};
 use std::alloc::Global;
 
 /// How many bytes are collected before they are handed over: 256 pages.
-const PIECE: usize = 256 * 4096;
+const PIECE: usize = 256 * PAGE_LEN;
 
 /// What of a segment's file isn't handed over yet, and how many pages it has so far. A page that is put together from
 /// parts is open until it is ended.

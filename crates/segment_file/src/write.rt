@@ -19,6 +19,7 @@ use crate::pieces::Pieces;
 use byte_cursor::Bytes;
 use inner_pack::Index;
 use outer_io::{Folder, WriteFault};
+use page_cache::PAYLOAD_LEN;
 use std::alloc::Global;
 
 /// Writes the file of a segment: its head, its index and its leaves, which spell so many entries, a leaf's each. The
@@ -136,7 +137,7 @@ fn make_room<F: Folder>(folder: &mut F, pieces: &mut Pieces, leaf: &[u8]) -> Res
     ensures reads { F.reads folder.new ≡ F.reads folder.old }
     ensures cause { HasWriteCause (F.faults folder.old) (F.faults folder.new) result }
 {
-    if pieces.open_len() + leaf.len() <= 4064 {
+    if pieces.open_len() + leaf.len() <= PAYLOAD_LEN {
         return Ok(());
     }
     pieces.end_page(folder)?;

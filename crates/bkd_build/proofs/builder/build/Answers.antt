@@ -2,7 +2,7 @@ use Rattle.std.proofs.Common.{rules, ◌≡◌, length}
 use Rattle.point_codec.specs.Seen.{items_of, region_of}
 use Rattle.inner_pack.specs.Parts.{AreParts}
 use Rattle.bkd_build.specs.Canon.{index_tree_of}
-use Rattle.bkd_build.specs.Pieces.{held_pieces}
+use Rattle.bkd_build.specs.Pieces.{AreEntriesIn, held_pieces}
 use Rattle.bkd_build.proofs.Sides.{cell_holds}
 use Rattle.bkd_build.proofs.Whole.{parts_lent, whole_built}
 use Rattle.bkd_build.proofs.builder.build.Goals as goal
@@ -12,7 +12,10 @@ build_part-requires-after_bounds g c = λ κs _.
     let root = region_of c.cell_round-root.result in
     let lo : length root.lo ≡ g.row.D = search rules in
     let hi : length root.hi ≡ g.row.D = search rules in
-    let inside = cell_holds g.row.D root (items_of c.args.entries.now) lo hi c.cell_round-root.ensures in
+    let entries : AreEntriesIn root c.args.entries.now = record {
+      are = record { some = c.requires.some; numbers = c.requires.numbers; once = c.requires.once };
+      inside = cell_holds g.row.D root (items_of c.args.entries.now) lo hi c.cell_round-root.ensures;
+    } in
     search rules
 
 pub pack-requires : goal.pack-requires

@@ -11,15 +11,33 @@ use Rattle.bkd_build.proofs.halves.halve.Goals as goal
 
 pub returns-clause-lefts : goal.returns-clause-lefts
 returns-clause-lefts g c =
-    entries-take c.left_count-rank.result c.cut-at.new.entries c.left_count-rank.ensures.left
-    (entries-IsPermutation c.args.entries.now c.cut-at.new.entries c.cut-at.ensures.same c.requires.entries)
+    let round : to_z w32 (of_z w32 c.cut-at.result) ≡ c.cut-at.result = search rules in
+    let r = region_of c.widest-dimension.new.cell in
+    let d = c.widest-dimension.result in
+    record {
+      are = entries-take c.left_count-rank.result c.cut-at.new.entries c.left_count-rank.ensures.left
+          (entries-IsPermutation c.args.entries.now c.cut-at.new.entries c.cut-at.ensures.same c.requires.entries.are);
+      inside = subst (λ (s : Region). LieIn g.row.D s (items_of (take c.left_count-rank.result c.cut-at.new.entries)))
+          (sym (c.split-low.ensures.left ∙ ap (λ (x : ℤ). left_of r d x) round))
+          (low_lies g.row.D d c.left_count-rank.result c.cut-at.result r c.args.entries.now c.cut-at.new.entries c.cut-at.ensures.same
+          c.widest-dimension.ensures.widest.dimension c.widest-dimension.ensures.inside c.cut-at.ensures.split c.cut-at.ensures.cut);
+    }
 
 pub returns-clause-rights : goal.returns-clause-rights
 returns-clause-rights g c =
-    let inside : c.left_count-rank.result < length c.cut-at.new.entries =
+    let there : c.left_count-rank.result < length c.cut-at.new.entries =
     omega (arith, length_permutation c.args.entries.now c.cut-at.new.entries c.cut-at.ensures.same, c.left_count-rank.ensures.right) in
-    entries-drop c.left_count-rank.result c.cut-at.new.entries inside
-    (entries-IsPermutation c.args.entries.now c.cut-at.new.entries c.cut-at.ensures.same c.requires.entries)
+    let round : to_z w32 (of_z w32 c.cut-at.result) ≡ c.cut-at.result = search rules in
+    let r = region_of c.widest-dimension.new.cell in
+    let d = c.widest-dimension.result in
+    record {
+      are = entries-drop c.left_count-rank.result c.cut-at.new.entries there
+          (entries-IsPermutation c.args.entries.now c.cut-at.new.entries c.cut-at.ensures.same c.requires.entries.are);
+      inside = subst (λ (s : Region). LieIn g.row.D s (items_of (drop c.left_count-rank.result c.cut-at.new.entries)))
+          (sym (c.split-low.ensures.right ∙ ap (λ (x : ℤ). right_of r d x) round))
+          (high_lies g.row.D d c.left_count-rank.result c.cut-at.result r c.args.entries.now c.cut-at.new.entries c.cut-at.ensures.same
+          c.widest-dimension.ensures.widest.dimension c.widest-dimension.ensures.inside c.cut-at.ensures.split);
+    }
 
 pub returns-clause-split : goal.returns-clause-split
 returns-clause-split g c =
@@ -39,23 +57,3 @@ split-low-requires g c =
     let from = at.0 in
     let to = at.1 in
     search rules
-
-pub returns-clause-low : goal.returns-clause-low
-returns-clause-low g c =
-    let round : to_z w32 (of_z w32 c.cut-at.result) ≡ c.cut-at.result = search rules in
-    let r = region_of c.widest-dimension.new.cell in
-    let d = c.widest-dimension.result in
-    subst (λ (s : Region). LieIn g.row.D s (items_of (take c.left_count-rank.result c.cut-at.new.entries)))
-    (sym (c.split-low.ensures.left ∙ ap (λ (x : ℤ). left_of r d x) round))
-    (low_lies g.row.D d c.left_count-rank.result c.cut-at.result r c.args.entries.now c.cut-at.new.entries c.cut-at.ensures.same
-    c.widest-dimension.ensures.widest.dimension c.widest-dimension.ensures.inside c.cut-at.ensures.split c.cut-at.ensures.cut)
-
-pub returns-clause-high : goal.returns-clause-high
-returns-clause-high g c =
-    let round : to_z w32 (of_z w32 c.cut-at.result) ≡ c.cut-at.result = search rules in
-    let r = region_of c.widest-dimension.new.cell in
-    let d = c.widest-dimension.result in
-    subst (λ (s : Region). LieIn g.row.D s (items_of (drop c.left_count-rank.result c.cut-at.new.entries)))
-    (sym (c.split-low.ensures.right ∙ ap (λ (x : ℤ). right_of r d x) round))
-    (high_lies g.row.D d c.left_count-rank.result c.cut-at.result r c.args.entries.now c.cut-at.new.entries c.cut-at.ensures.same
-    c.widest-dimension.ensures.widest.dimension c.widest-dimension.ensures.inside c.cut-at.ensures.split)

@@ -16,11 +16,11 @@ returns-in_default-take_vint-clause-only c form least rest hf hl is =
     absurd (c.in_default-take_vint.not-Ok least
     (c.take_vint.ensures.taken least rest (omega arith) (begins c.take_u8.new.self.bytes.now rest least (omega arith) left)).0)
 
-pub returns-then-least-clause-only : goal.returns-then-least-clause-only
-returns-then-least-clause-only c form least rest hf hl is =
+pub returns-then-least-ge-MOST_POINTS-clause-only : goal.returns-then-least-ge-MOST_POINTS-clause-only
+returns-then-least-ge-MOST_POINTS-clause-only c form least rest hf hl is =
     let left = tail-is c.in-Ok.form form c.take_u8.new.self.bytes.now (vint least ++ rest) (sym c.in-Ok.ensures.ok ∙ c.new-cursor.ensures ∙ is) in
     let took = (c.take_vint.ensures.taken least rest (omega arith) (begins c.take_u8.new.self.bytes.now rest least (omega arith) left)).0 in
-    absurd (omega (arith, ok-is c.in-Ok-take_vint.least least c.take_vint.result c.in-Ok-take_vint.is took, c.if-least.true))
+    absurd (omega (arith, ok-is c.in-Ok-take_vint.least least c.take_vint.result c.in-Ok-take_vint.is took, c.if-least-ge-MOST_POINTS.true))
 
 pub returns-clause-found : goal.returns-clause-found
 returns-clause-found c =

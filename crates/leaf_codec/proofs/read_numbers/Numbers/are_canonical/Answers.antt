@@ -35,23 +35,23 @@ overflow_add-self c =
     let h = c.requires.numbers in
     omega (arith, h.raw.low, span-lt n.count r s.greatest s.from_least s.row h.raw h.few c.span-span.ensures)
 
-pub returns-then-self-span : goal.returns-then-self-span
-returns-then-self-span c =
+pub returns-then-self-span-lt-MOST_POINTS : goal.returns-then-self-span-lt-MOST_POINTS
+returns-then-self-span-lt-MOST_POINTS c =
     let n = c.args.self.now in
     let r = raw_numbers_of n in
     let s = c.span-span.result in
     let found : s.from_least ≡ true = not-false s.from_least c.if-not-span.false in (
-      λ t. takes_width n.count r s.greatest s.from_least s.row c.requires.some c.span-span.ensures found c.if-span.false c.if-self-span.true
+      λ t. takes_width n.count r s.greatest s.from_least s.row c.requires.some c.span-span.ensures found c.if-span.false c.if-self-span-lt-MOST_POINTS.true
           (eqb-true _ _ t ∙ c.width.ensures.value),
       λ h.
           eq-eqb _ _ (width_of n.count r s.greatest s.from_least s.row c.requires.some c.span-span.ensures found c.if-span.false h ∙ sym c.width.ensures.value),
     )
 
-pub returns-else-self-span : goal.returns-else-self-span
-returns-else-self-span c =
+pub returns-else-self-span-lt-MOST_POINTS : goal.returns-else-self-span-lt-MOST_POINTS
+returns-else-self-span-lt-MOST_POINTS c =
     let n = c.args.self.now in
     let r = raw_numbers_of n in
     let s = c.span-span.result in (
-      λ t. absurd (omega (arith, ltb-true _ _ t, c.if-self-span.false)),
-      λ h. absurd (refuses_high n.count r s.greatest s.from_least s.row c.requires.some c.span-span.ensures c.if-self-span.false h),
+      λ t. absurd (omega (arith, ltb-true _ _ t, c.if-self-span-lt-MOST_POINTS.false)),
+      λ h. absurd (refuses_high n.count r s.greatest s.from_least s.row c.requires.some c.span-span.ensures c.if-self-span-lt-MOST_POINTS.false h),
     )
