@@ -14,7 +14,7 @@ use std::alloc::Global;
 pub fn pages_for(len: u32) -> u32
     ensures { result ≡ pages_of_body len }
 {
-    ((u64::from(len) + 4063) / 4064) as u32
+    ((u64::from(len) + (PAYLOAD_LEN as u64 - 1)) / PAYLOAD_LEN as u64) as u32
 }
 
 /// Appends one page with this payload, filled with zeros. The room for it is there.

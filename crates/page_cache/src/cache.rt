@@ -152,10 +152,9 @@ impl PageCache {
         mark_part(&mut self.pages, PageKey { id, number }, part);
     }
 
-    /// Whether a leaf of a page that is kept is known to be dead.
+    /// Whether a leaf is known to be dead: it is of a page that is kept then. This is no use of the page.
     #[tactic(auto, unfolding(crate::specs::Cache::Keeps, crate::specs::Cache::KeepsDead, crate::specs::Cache::IsKept))]
     pub fn is_dead(&self, id: u64, number: u32, offset: u16, length: u16) -> bool
-        requires { IsKept self.now id number }
         ensures { IsTrue result → (bytes : List ℕ) × KeepsDead self.now id number offset length bytes }
     {
         let part = LeafPart { offset, length };

@@ -109,12 +109,14 @@ pub(crate) fn mark_part(pages: &mut KeptPages, key: PageKey, part: LeafPart)
     }
 }
 
-/// Whether a leaf of a page that is kept was told to be dead.
+/// Whether the page is kept and a leaf of it was told to be dead.
 pub(crate) fn has_dead_part(pages: &KeptPages, key: PageKey, part: LeafPart) -> bool
-    requires { HasKey pages.now.entries key }
     ensures { IsTrue result → (bytes : List ℕ) × KeepsDeadIn pages.now.entries key part bytes }
 {
-    kept_page(pages, key).has_dead(&part)
+    match pages.peek(&key) {
+        Some(page) => page.has_dead(&part),
+        None => false,
+    }
 }
 
 /// Takes the last page out where it is of the segment's file, and else puts it first.

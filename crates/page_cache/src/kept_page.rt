@@ -15,8 +15,9 @@ use std::marker::Model;
 #[derive(Drop)]
 pub struct KeptPage {
     page: Box<PageBytes>,
-    notes: [LeafNote; 4],
+    // beside the page's key, since a search among dead leaves looks at nothing else
     dead: [Option<LeafPart>; 8],
+    notes: [LeafNote; 4],
     ghost fit: { ∥ AllFit notes page.value.b ∥₁ },
 }
 
@@ -35,8 +36,8 @@ impl KeptPage {
     {
         KeptPage {
             page,
-            notes: [LeafNote::empty(); 4],
             dead: [None; 8],
+            notes: [LeafNote::empty(); 4],
         }
     }
 
