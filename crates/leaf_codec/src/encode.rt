@@ -74,6 +74,8 @@ fn spell<const D: usize>(
     put_prefixes(&mut out, entries, dimensions)?;
     put_sorted(&mut out, entries, dimensions)?;
     put_rests(&mut out, entries, dimensions)?;
+    // a build keeps all its leaves, and mostly they need less than what was reserved
+    out.shrink_to_fit();
     Ok(Bytes::new(out))
 }
 

@@ -34,6 +34,7 @@ spelled g c =
     let start : c.put_u16.new.out.items ≡ to_be_bytes w16 (length items) =
     c.in_ok-put_u16.ensures.ok ∙ (λ i. c.in_ok-out.ensures.items i ++ to_be_bytes w16 (count i)) in
     c.new.ensures
+    ∙ c.shrink_to_fit.ensures.items
     ∙ c.in_ok-put_rests.ensures.ok
     ∙ ap (λ (t : List ℕ). t ++ rests D items) (c.in_ok-put_sorted.ensures
     ∙ ap (λ (t : List ℕ). t ++ sorted_part (sorted_dimension D items) items) (c.in_ok-put_prefixes.ensures
