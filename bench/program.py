@@ -1,7 +1,8 @@
 #!/usr/bin/env python3
 """Times the program bkd from outside, which has to be built (rt run in crates/bkd), and prints ratios of one run.
 
-usage: bench/program.py add | window | lines | tree | open | load | memory | sqlite | lucene | limits | all [COUNT]
+usage: bench/program.py add | window | lines | tree | dead | open | load | memory | sqlite | lucene | limits | all
+       [COUNT]
 
 add      a script adds COUNT documents (a million where it is left out) of two dimensions, and merges them
 window   a script that deletes a document with each that it adds, so that 16,000 wait in the buffer: the newest, one in
@@ -9,6 +10,8 @@ window   a script that deletes a document with each that it adds, so that 16,000
 lines    small boxes and queries for the ten nearest over those documents, on pages that are kept, a line
 tree     the same queries, and boxes that hold 10 to 100,000 documents, beside a plain k-d tree in flat arrays
          (bench/tree.rs, which wants rustc): the same lines in, the same text out, which is compared
+dead     the ten nearest where a box took 99 % of the documents out and none was merged since, to points in that box,
+         beside the same tree over the points that are left; the distances are compared
 open     a run without a line over them
 load     the same points loaded from a CSV file, for several levels of forks
 memory   what loading takes at most beside its input
@@ -93,31 +96,61 @@ def box_of(data, wanted):
 def tree(data):
     """Each kind of query: what a line takes here and in the plain tree, in one run,
     as the difference of three rounds and one."""
-    plain, points = data.path("plain"), write(data.path("plain_points"), ["%d %d" % p for p in data.points])
-    subprocess.run(["rustc", "-O", "-o", plain, os.path.join(HERE, "tree.rs")], check=True)
+    plain, points = plain_tree(data), write(data.path("plain_points"), ["%d %d" % p for p in data.points])
     folder = data.merged()
     print("tree: over %d documents in one segment, pages kept, beside a plain tree; a line, its answer written"
           % data.count)
 
-    def lines_of(count, rounds, ask):
-        return write(data.path("tree_lines_%d" % rounds), [ask(x, y) for x, y in data.centres[:count]] * rounds)
-
-    def each(words, count, ask):
-        spent = [best(lambda: Run(words, lines_of(count, rounds, ask)), 3).processor for rounds in (1, 3)]
-        return (spent[1] - spent[0]) / (2 * count)
-
     def boxes(half):
         return lambda x, y: "box %d %d %d %d" % (x - half, y - half, x + half, y + half)
 
-    kinds = [("the %d nearest  " % NEAREST, QUERIES, lambda x, y: "nearest %d %d %d" % (NEAREST, x, y))]
+    kinds = [("the %d nearest  " % NEAREST, QUERIES, nearest_line)]
     for wanted in (10, 1_000, 100_000):
         kinds.append(("a box of %6d" % wanted, max(50, min(QUERIES, 2_000_000 // wanted)), boxes(box_of(data, wanted))))
-    ours, theirs = [PROGRAM, folder, "run", "--cache", "65536"], [plain, points]
     for name, count, ask in kinds:
-        asked = lines_of(min(count, COMPARED), 1, ask)
-        compare(Run(ours, asked, True).done().text, Run(theirs, asked, True).done().text)
-        mine, least = each(ours, count, ask), each(theirs, count, ask)
-        print("  %s: bkd %9.2f us, the tree %9.2f us, ratio %5.2f" % (name, mine * 1e6, least * 1e6, mine / least))
+        asked = [ask(x, y) for x, y in data.centres[:count]]
+        beside(data, name, asked, [PROGRAM, folder, "run", "--cache", "65536"], [plain, points], lambda text: text)
+
+
+def plain_tree(data):
+    plain = data.path("plain")
+    if not os.path.exists(plain):
+        subprocess.run(["rustc", "-O", "-o", plain, os.path.join(HERE, "tree.rs")], check=True)
+    return plain
+
+
+def nearest_line(x, y):
+    return "nearest %d %d %d" % (NEAREST, x, y)
+
+
+def beside(data, name, asked, ours, theirs, seen):
+    """What a line takes of both programs, as the difference of three rounds and one; `seen` is what is compared."""
+    def each(words):
+        sources = [write(data.path("asked_%d" % rounds), asked * rounds) for rounds in (1, 3)]
+        spent = [best(lambda: Run(words, source), 3).processor for source in sources]
+        return (spent[1] - spent[0]) / (2 * len(asked))
+
+    few = write(data.path("asked"), asked[:COMPARED])
+    compare(seen(Run(ours, few, True).done().text), seen(Run(theirs, few, True).done().text))
+    mine, least = each(ours), each(theirs)
+    print("  %s: bkd %9.2f us, the tree %9.2f us, ratio %5.2f" % (name, mine * 1e6, least * 1e6, mine / least))
+
+
+def dead(data):
+    plain, side, edge = plain_tree(data), round(100_000 * 0.99 ** 0.5), round(200_000 * 0.99) - 100_000
+    print("dead: the %d nearest over %d documents in one segment, 99 %% of which a box took out, to points in that box"
+          % (NEAREST, data.count))
+    for name, box in (("a box in the middle    ", (-side, -side, side, side)),
+                      ("a box but for one side ", (-100_000, -100_000, edge, 100_000))):
+        def is_inside(p):
+            return box[0] <= p[0] <= box[2] and box[1] <= p[1] <= box[3]
+
+        folder = data.empty("dead")
+        subprocess.run("cp %s/* %s" % (data.merged(), folder), shell=True, check=True)
+        bkd(folder, "run", source=write(data.path("delete"), ["delete box %d %d %d %d" % box])).done()
+        live = write(data.path("live_points"), ["%d %d" % p for p in data.points if not is_inside(p)])
+        asked = [nearest_line(*p) for p in data.centres if is_inside(p)][:QUERIES // 100]
+        beside(data, name, asked, [PROGRAM, folder, "run", "--cache", "65536"], [plain, live], distances)
 
 
 def opening(data):
@@ -251,8 +284,8 @@ def limits(data):
                 sys.exit("wanted status %d and an empty folder" % status)
 
 
-KINDS = {"add": add, "window": window, "lines": lines, "tree": tree, "open": opening, "load": load, "memory": memory,
-         "sqlite": sqlite, "lucene": lucene, "limits": limits}
+KINDS = {"add": add, "window": window, "lines": lines, "tree": tree, "dead": dead, "open": opening, "load": load,
+         "memory": memory, "sqlite": sqlite, "lucene": lucene, "limits": limits}
 
 
 if __name__ == "__main__":
