@@ -1,13 +1,14 @@
 #!/usr/bin/env python3
 """Times the program bkd from outside, which has to be built (rt run in crates/bkd), and prints ratios of one run.
 
-usage: bench/program.py add | window | lines | tree | dead | open | load | memory | sqlite | lucene | limits | all
-       [COUNT]
+usage: bench/program.py add|window|lines|loaded|tree|dead|open|load|memory|sqlite|lucene|limits|all [COUNT]
 
 add      a script adds COUNT documents (a million where it is left out) of two dimensions, and merges them
 window   a script that deletes a document with each that it adds, so that 16,000 wait in the buffer: the newest, one in
          the middle, the oldest; and a script that deletes them all by a box whenever they are so many
 lines    small boxes and queries for the ten nearest over those documents, on pages that are kept, a line
+loaded   the same queries over the segments that loading leaves, with the pages that are kept where nothing is said, and
+         with all pages kept
 tree     the same queries, and boxes that hold 10 to 100,000 documents, beside a plain k-d tree in flat arrays
          (bench/tree.rs, which wants rustc): the same lines in, the same text out, which is compared
 dead     the ten nearest where a box took 99 % of the documents out and none was merged since, to points in that box,
@@ -73,11 +74,15 @@ def window(data):
     print("  all by a box        %s, ratio %5.2f" % (milliseconds(spent.wall), spent.wall / least))
 
 
-def each_line(data, write_lines):
-    """The time of a line on kept pages: what two further rounds of the same lines take more."""
-    folder = data.merged()
-    once = best(lambda: bkd(folder, "run", "--cache", "65536", source=write_lines(rounds=1)))
-    thrice = best(lambda: bkd(folder, "run", "--cache", "65536", source=write_lines(rounds=3)))
+KEPT = ("--cache", "65536")
+
+
+def each_line(data, write_lines, folder=None, options=KEPT):
+    """The time of a line, on kept pages of one segment if nothing else is said: what two further rounds of the same
+    lines take more."""
+    folder = folder or data.merged()
+    once = best(lambda: bkd(folder, "run", *options, source=write_lines(rounds=1)))
+    thrice = best(lambda: bkd(folder, "run", *options, source=write_lines(rounds=3)))
     return (thrice.wall - once.wall) / (2 * QUERIES)
 
 
@@ -86,6 +91,17 @@ def lines(data):
           % data.count)
     print("  a box of a width of %d  %7.2f us" % (2 * HALF, each_line(data, data.box_lines) * 1e6))
     print("  the %d nearest          %7.2f us" % (NEAREST, each_line(data, data.near_lines) * 1e6))
+
+
+def loaded(data):
+    folder = data.empty("as_loaded")
+    bkd(folder, "load", "--columns", "x,y", source=data.csv()).done()
+    segments = len(glob.glob(os.path.join(folder, "seg-*")))
+    print("loaded: over %d documents as loading leaves them, in %d segments; a line" % (data.count, segments))
+    for name, options in (("1,024 pages kept", ()), ("all pages kept  ", KEPT)):
+        print("  %s: a box of a width of %d %7.2f us, the %d nearest %7.2f us" % (
+            name, 2 * HALF, each_line(data, data.box_lines, folder, options) * 1e6, NEAREST,
+            each_line(data, data.near_lines, folder, options) * 1e6))
 
 
 def box_of(data, wanted):
@@ -284,8 +300,8 @@ def limits(data):
                 sys.exit("wanted status %d and an empty folder" % status)
 
 
-KINDS = {"add": add, "window": window, "lines": lines, "tree": tree, "dead": dead, "open": opening, "load": load,
-         "memory": memory, "sqlite": sqlite, "lucene": lucene, "limits": limits}
+KINDS = {"add": add, "window": window, "lines": lines, "loaded": loaded, "tree": tree, "dead": dead, "open": opening,
+         "load": load, "memory": memory, "sqlite": sqlite, "lucene": lucene, "limits": limits}
 
 
 if __name__ == "__main__":

@@ -42,6 +42,7 @@ pub mod Doubted
 pub mod Lively
 pub mod Crowds
 pub mod Evident
+pub mod Losing
 pub mod Faithful
 pub mod Viewing
 pub mod Trusted

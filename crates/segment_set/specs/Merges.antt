@@ -1,5 +1,6 @@
 -- What is built of entries, and how it takes the place of segments.
-use Rattle.std.specs.Prelude.{◌≡◌, ◌≤◌, ℕ, true, false, List, [], ◌∷◌, length, filter, All, Option, None, Some}
+use Rattle.std.specs.Prelude.{◌≡◌, ◌≤◌, ◌⊎◌, ℕ, Bool, true, false, List, [], ◌∷◌, length, filter, All, Contains}
+use Rattle.std.specs.Prelude.{Option, None, Some}
 use Rattle.outer_io.specs.declared.file_name.FileName.TheVariants.{Segment}
 use Rattle.outer_io.specs.Files.{Files, bytes_of}
 use Rattle.point_codec.specs.Points.{Item}
@@ -12,8 +13,9 @@ use Rattle.segment_view.specs.LiveSegments.{live_in_parts, has_live}
 use Rattle.segment_view.specs.LiveSegments.{IsPlaced}
 use Rattle.segment_build.specs.NewSegments.{NewSegmentData, HasEntries}
 use Rattle.file_names.specs.Names.{NameList, is_named}
-use Rattle.segment_set.specs.Sets.{HasUncrowded}
+use Rattle.segment_set.specs.Sets.{BegunMerge, HasUncrowded}
 use Rattle.segment_set.specs.Given.{IsNextName}
+use Rattle.segment_set.specs.Faithful.{HasFileHead}
 
 -- the live ones of the entries that the segment was built of are these, and each live number is that of one of them
 pub record HoldsLive (D : ℕ) (entries : List Item) (n : NewSegmentData) : Type 0 where
@@ -69,6 +71,38 @@ pub record IsGathered (D leaf : ℕ) (inputs : List LiveSegment) (n : NewSegment
   pub all : ∥ HasLiveEntries D n ∥₁
   pub within : (number : ℕ) → is_live n.live number ≡ true → has_live number inputs ≡ true
 
+-- the number is live in what was built
+abbrev pub is_built_live : ℕ → Option NewSegmentData → Bool
+is_built_live number None = false
+is_built_live number (Some n) = is_live n.live number
+
+-- one of the segments has the number live, though its file holds entries of which none has it
+pub record HasNoEntry (D : ℕ) (files : Files) (inputs : List LiveSegment) (number : ℕ) : Type 0 where
+  pub part : LiveSegment
+  pub there : Contains inputs part
+  pub live : is_live part.live number ≡ true
+  pub items : List Item
+  pub held : IsSegment D (bytes_of (files (Segment part.head.id))) part.head items
+  pub none : has_entry number items ≡ false
+
+-- No document is lost, whatever the files hold: each number that is live in the inputs is so in what was built, but
+-- where no entry has it.
+abbrev pub KeepsNumbers : (D : ℕ) (files : Files) (inputs : List LiveSegment) → Option NewSegmentData → Type 0
+KeepsNumbers D files inputs built = (number : ℕ) → has_live number inputs ≡ true
+    → (is_built_live number built ≡ true) ⊎ ∥ HasNoEntry D files inputs number ∥₁
+
+-- so it is where the heads of these segments, some of which are inputs, are those of their files
+abbrev pub LosesNone : (D : ℕ) (told : Type 0) (files : Files) (ids : List ℕ) (parts : List LiveSegment)
+    → Option NewSegmentData → Type 0
+LosesNone D told files ids parts built =
+    told → All (HasFileHead D files) parts → KeepsNumbers D files (parts_among ids parts) built
+
+-- what is built of the inputs of a merge that is begun: no entry of it is dead, and no document is lost
+pub record Collects (D leaf : ℕ) (told : Type 0) (files : Files) (parts : List LiveSegment) (b : BegunMerge)
+    : Type 0 where
+  pub gathered : (n : NewSegmentData) → b.built ≡ Some n → IsGathered D leaf (parts_among b.inputs parts) n
+  pub loses : LosesNone D told files b.inputs parts b.built
+
 -- The live entries of the segments of these ids were read and a segment was built of them, which took their place;
 -- where there were none, the segments only went.
 pub record IsMerged (D : ℕ) (told : Type 0) (leaf : ℕ) (before after : NameList) (files new_files : Files)
@@ -79,6 +113,7 @@ pub record IsMerged (D : ℕ) (told : Type 0) (leaf : ℕ) (before after : NameL
   pub gathered : (n : NewSegmentData) → built ≡ Some n → IsGathered D leaf (parts_among ids old) n
   pub makes : told → (c : Contents) → AreRead D files c old
       → MakesLive D (live_in_parts c (parts_among ids old)) built
+  pub loses : LosesNone D told files ids old built
 
 -- what was built, where any number of it is live
 abbrev pub with_live : List ℕ → NewSegmentData → Option NewSegmentData

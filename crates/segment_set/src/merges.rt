@@ -6,7 +6,6 @@ ghost use Rattle.live_bits.specs.LiveSet.{is_live};
 ghost use Rattle.page_cache.specs.Causes.{HasPageCause};
 ghost use Rattle.page_cache.specs.Evidence.{OnDamage};
 ghost use Rattle.index_model.specs.State.{Index};
-ghost use Rattle.segment_build.specs.NewSegments.{NewSegmentData};
 ghost use Rattle.segment_view.specs.LiveSegments.{Contents, ids_of, parts_among};
 
 use crate::build_plan::BuildPlan;
@@ -30,7 +29,7 @@ impl<const D: usize> SegmentSet<D> {
     ghost use Rattle.segment_set.specs.Kept.{StaysButMerge, StaysButParts};
     ghost use Rattle.segment_set.specs.Merged.{IsApart, IsTidy, IsWhole, KeepsEntries, Rearranges, chosen_ids};
     ghost use Rattle.segment_set.specs.Merged.{free_ids, free_parts};
-    ghost use Rattle.segment_set.specs.Merges.{IsGathered, IsMerged};
+    ghost use Rattle.segment_set.specs.Merges.{Collects, IsMerged};
     ghost use Rattle.segment_set.specs.Settles.{MergesParts, moment};
     ghost use Rattle.segment_set.specs.Faithful.{IsFaithful};
     ghost use Rattle.segment_set.specs.declared.faults.BeginFault.TheVariants as begin;
@@ -98,9 +97,9 @@ impl<const D: usize> SegmentSet<D> {
         ensures inputs { OnOk result
             ((b : BegunMerge) × (self.new.begun ≡ Some b)
             × (b.inputs ≡ chosen_ids which.now (ids_of self.old.parts))) }
-        // what is built has no dead entry
-        ensures built { OnOk result ((b : BegunMerge) (n : NewSegmentData) → self.new.begun ≡ Some b → b.built ≡ Some n
-            → IsGathered D self.old.leaf (parts_among b.inputs self.old.parts) n) }
+        // what is built has no dead entry, and no document is lost
+        ensures built { OnOk result ((b : BegunMerge) → self.new.begun ≡ Some b
+            → Collects D self.old.leaf (IsTrue F.told) (F.files folder.old) self.old.parts b) }
         // what stays
         ensures files { IsTrue F.told → F.files folder.new ≡ F.files folder.old }
         ensures cache { self.new.cache ≡ self.old.cache }

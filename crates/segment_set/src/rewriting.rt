@@ -19,7 +19,8 @@ ghost use Rattle.segment_build.specs.NewSegments.{NewSegmentData, HasEntries};
 ghost use Rattle.file_names.specs.Names.{NameList, is_named};
 ghost use Rattle.segment_set.specs.Sets.{AreAlone, IsNamed};
 ghost use Rattle.segment_set.specs.Kept.{KeepsNamed};
-ghost use Rattle.segment_set.specs.Merges.{IsGathered, IsMerged, Swaps, IsSpilled, MakesLive, Replaces, living};
+ghost use Rattle.segment_set.specs.Merges.{IsGathered, IsMerged, Swaps, IsSpilled, LosesNone, MakesLive};
+ghost use Rattle.segment_set.specs.Merges.{Replaces, living};
 ghost use Rattle.segment_set.specs.Damages.{IsDoubt, IsMergeDamage, IsMergeDamageOf};
 ghost use Rattle.index_opening.specs.Evidence.{IsEvidentIn};
 ghost use Rattle.segment_set.specs.Faithful.{HasFileHead};
@@ -108,6 +109,7 @@ pub(crate) fn gathered<const D: usize, R: Threads + Sync, F: Pages, G: Gate>(
         (λ o. (n : NewSegmentData) → o ≡ Some n → IsGathered D plan.now.leaf (parts_among ids.now segments.now) n) }
     ensures makes { IsTrue F.told → (c : Contents) → AreRead D (F.files folder.old) c segments.now
         → IfOk result (MakesLive D (live_in_parts c (parts_among ids.now segments.now))) }
+    ensures loses { IfOk result (LosesNone D (IsTrue F.told) (F.files folder.old) ids.now segments.now) }
     ensures files { IsTrue F.told → F.files folder.new ≡ F.files folder.old }
     ensures cause { HasPageCause (F.faults folder.old) (F.faults folder.new) result }
     ensures whole { IsTrue F.told → (c : Contents) → AreRead D (F.files folder.old) c segments.now

@@ -1,4 +1,4 @@
-use Rattle.std.proofs.Common.{◌≡◌, ◌≤◌, ◌<◌, ◌^◌, List, length, All, true, Err, IsTrue, refl, ap, sym, subst, ◌∙◌, inl, inr, lit<, arith}
+use Rattle.std.proofs.Common.{◌≡◌, ◌≤◌, ◌<◌, ◌^◌, ℕ, Bool, List, length, All, true, None, Some, Err, IsTrue, refl, ap, sym, subst, ◌∙◌, inl, inr, lit<, arith}
 use Rattle.std.proofs.lemmas.List.{nil_from_length}
 use Rattle.std.proofs.lemmas.Bool.Decides.{nat_tests}
 use Rattle.std.proofs.lemmas.List.Elements.{All-filter}
@@ -7,7 +7,7 @@ use Rattle.outer_io.specs.Files.{Files}
 use Rattle.point_codec.specs.Points.{Item}
 use Rattle.point_codec.specs.Seen.{items_of}
 use Rattle.point_codec.specs.declared.entries.Entry.{Entry}
-use Rattle.documents.specs.Entries.{MakeDocs, is_among}
+use Rattle.documents.specs.Entries.{MakeDocs, has_entry, is_among}
 use Rattle.page_cache.specs.declared.faults.PageFault.{PageFault}
 use Rattle.page_cache.specs.declared.faults.PageFault.TheVariants as page
 use Rattle.segment_file.specs.Damages.{IsLeafDamageOf}
@@ -24,6 +24,7 @@ use Rattle.segment_set.proofs.Doubted.{doubt_among, part_shown, whole_shows}
 use Rattle.index_opening.proofs.Evident.{on_evident_at, on_part_evident}
 use Rattle.segment_set.proofs.Evident.{doubt_evident, gathered_of_files}
 use Rattle.segment_set.proofs.Fresh.{gathered_of, holds_live, items_length}
+use Rattle.segment_set.proofs.Losing.{loses_none}
 use Rattle.segment_set.proofs.Refused.{memory_caused, memory_damage, never_value, same_cause}
 use Rattle.segment_set.proofs.Saving.{done_cause}
 use Rattle.segment_set.proofs.Sizes.{built_fits}
@@ -38,6 +39,9 @@ returns-in_err-once-clause-gathered g c = never_value _ c.from_residual.result c
 
 pub returns-in_err-once-clause-makes : goal.returns-in_err-once-clause-makes
 returns-in_err-once-clause-makes g c = λ told contents reads. never_value _ c.from_residual.result c.from_residual.ensures.1 _
+
+pub returns-in_err-once-clause-loses : goal.returns-in_err-once-clause-loses
+returns-in_err-once-clause-loses g c = never_value _ c.from_residual.result c.from_residual.ensures.1 _
 
 pub returns-in_err-once-clause-files : goal.returns-in_err-once-clause-files
 returns-in_err-once-clause-files g c = λ told. refl
@@ -125,6 +129,31 @@ returns-clause-makes g c = λ told contents reads.
     (ap items_of c.as_mut_slice.ensures.value
     ∙ c.in_ok-entries.ensures.entries told (c.in_ok-once.ensures.agrees (g.F.Pages.files c.args.folder.now)) contents reads)
     (holds_live g.row.D (items_of c.as_mut_slice.result.now) has.0 c.in_ok-build_of.field-0 has.1 has.2 c.in_ok-build_of.ensures.live.1)
+
+-- no document is lost
+
+pub returns-in_err-entries-clause-loses : goal.returns-in_err-entries-clause-loses
+returns-in_err-entries-clause-loses g c = never_value _ c.from_residual-in_err-entries.result c.from_residual-in_err-entries.ensures.1 _
+
+pub returns-in_err-build_of-clause-loses : goal.returns-in_err-build_of-clause-loses
+returns-in_err-build_of-clause-loses g c = never_value _ c.from_residual-in_err-build_of.result c.from_residual-in_err-build_of.ensures.1 _
+
+pub returns-then-is_empty-clause-loses : goal.returns-then-is_empty-clause-loses
+returns-then-is_empty-clause-loses g c =
+    let files = g.F.Pages.files c.args.folder.now in
+    let none : length c.in_ok-entries.entries.items ≡ 0 = grind (arith, nat_tests, c.in_ok-entries.entries.ok.0, c.is_empty.ensures, c.if-is_empty.true) in
+    loses_none g.row.D (IsTrue g.F.Pages.told) files c.args.ids.now c.args.segments.now (items_of c.in_ok-entries.entries.items) None
+    (λ told. c.in_ok-entries.ensures.held told (c.in_ok-once.ensures.agrees files))
+    (λ number. sym (ap (λ (es : List (Entry g.row.D)). has_entry number (items_of es)) (nil_from_length c.in_ok-entries.entries.items none)))
+
+pub returns-clause-loses : goal.returns-clause-loses
+returns-clause-loses g c =
+    let files = g.F.Pages.files c.args.folder.now in
+    loses_none g.row.D (IsTrue g.F.Pages.told) files c.args.ids.now c.args.segments.now (items_of c.in_ok-entries.entries.items)
+    (Some c.in_ok-build_of.field-0)
+    (λ told. c.in_ok-entries.ensures.held told (c.in_ok-once.ensures.agrees files))
+    (λ number. ap (λ (f : ℕ → Bool). f number) c.in_ok-build_of.ensures.live.1
+    ∙ ap (λ (es : List (Entry g.row.D)). has_entry number (items_of es)) c.as_mut_slice.ensures.value)
 
 pub returns-in_err-entries-clause-cause : goal.returns-in_err-entries-clause-cause
 returns-in_err-entries-clause-cause g c =

@@ -33,6 +33,7 @@ returns-clause-merged g c =
       unnamed = λ none. r.1 (same ∙ none);
       gathered = c.in_ok-built.ensures.gathered;
       makes = c.in_ok-built.ensures.makes;
+      loses = c.in_ok-built.ensures.loses;
     })
     (both_ok (Replaces g.row.D (IsTrue g.F.Pages.told) c.args.names.now c.replace.new.names (g.F.Pages.files c.replace.new.folder) c.args.ids.now built
     c.args.segments.now c.replace.new.segments)

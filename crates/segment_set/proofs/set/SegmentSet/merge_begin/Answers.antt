@@ -12,7 +12,7 @@ use Rattle.segment_set.specs.Seen.{Sees}
 use Rattle.segment_set.specs.Faithful.{IsFaithful}
 use Rattle.segment_set.specs.Damages.{IsDoubt, IsMergeDamage, IsMergeDamageOf}
 use Rattle.segment_set.specs.Merged.{chosen_ids, each_once}
-use Rattle.segment_set.specs.Merges.{IsGathered, MakesLive}
+use Rattle.segment_set.specs.Merges.{Collects, IsGathered, LosesNone, MakesLive}
 use Rattle.index_opening.specs.Evidence.{IsEvidentIn}
 use Rattle.segment_set.proofs.Faulted.{begun_cause, begun_damage, begun_memory}
 use Rattle.segment_set.proofs.Moved.{moved}
@@ -199,8 +199,13 @@ pub returns-clause-cache : goal.returns-clause-cache
 returns-clause-cache g c = ap (λ (s : SetData). s.cache) c.self.view_is
 
 pub returns-clause-built : goal.returns-clause-built
-returns-clause-built g c = λ b n is has.
+returns-clause-built g c = λ b is.
+    let files = g.F.Pages.files c.args.folder.now in
     let same : merge_of g c ≡ b = some_is (merge_of g c) b is in
-    subst (λ (m : BegunMerge). IsGathered g.row.D c.args.self.now.leaf (parts_among m.inputs c.args.self.now.parts) n) same
-    (subst (λ (s : SetData). IsGathered g.row.D s.leaf (parts_among c.in_ok-inputs.inputs.items s.parts) n) c.self.view_is
-    (gathered_here g c n (ap (λ (m : BegunMerge). m.built) same ∙ has)))
+    subst (Collects g.row.D c.args.self.now.leaf (IsTrue g.F.Pages.told) files c.args.self.now.parts) same
+    (subst (λ (s : SetData). Collects g.row.D s.leaf (IsTrue g.F.Pages.told) files s.parts (merge_of g c)) c.self.view_is
+    (record {
+      gathered = gathered_here g c;
+      loses = subst (λ (ns : List ℕ). LosesNone g.row.D (IsTrue g.F.Pages.told) files ns c.self.inside.segments c.in_ok-built.built)
+          c.as_slice-2.ensures.value c.in_ok-built.ensures.loses;
+    }))
