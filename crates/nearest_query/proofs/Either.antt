@@ -1,9 +1,8 @@
 -- Candidates in the one vector or in the tree.
-use Rattle.std.proofs.Common.{◌≡◌, ℕ, ◌≤◌, ◌<◌, ◌-◌, cond, List, [], length, get_or, nat_le, Result, sym, ap, subst, ◌∙◌, inl, inr, ⊎_elim, arith, true, false}
-use Rattle.std.proofs.lemmas.Bool.{cases_lt, le-leb}
+use Rattle.std.proofs.Common.{◌≡◌, ℕ, ◌≤◌, ◌<◌, ◌-◌, cond, List, [], length, get_or, nat_le, sym, ap, subst, ◌∙◌, ⊎_elim, arith, true, false}
+use Rattle.std.proofs.lemmas.Bool.{cases_lt}
 use Rattle.std.proofs.lemmas.Bool.Decides.{nat_tests}
 use Rattle.std.proofs.lemmas.List.Elements.{All-contains_itself, All-weaker}
-use Rattle.std.specs.Prelude.{OnOk}
 use Rattle.std.specs.List.{All, Contains}
 use Rattle.point_codec.specs.declared.entries.Near.{Near}
 use Rattle.nearest_query.specs.declared.candidates.Candidates.{Candidates}

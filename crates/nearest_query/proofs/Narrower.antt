@@ -1,12 +1,12 @@
 -- A cell within another is at least as far, so below a node that is too far no leaf is near.
-use Rattle.std.proofs.Common.{◌≡◌, ℕ, ◌+◌, ◌≤◌, true, false, List, [], ◌∷◌, Option, Some, None}
+use Rattle.std.proofs.Common.{◌≡◌, ℕ, ◌≤◌, true, false, List, [], ◌∷◌, Option, Some, None}
 use Rattle.std.proofs.Common.{ℤ, ◌-ℤ◌, int_le, unsigned_abs, refl, arith}
 use Rattle.std.proofs.Math.Nat.{mul-le-mul}
 use Rattle.std.proofs.lemmas.Int.{ints}
 use Rattle.std.proofs.lemmas.Bool.Decides.{nat_tests}
 use Rattle.std.specs.Int.{int_max, int_min}
 use Rattle.point_codec.specs.Points.{Region, all_le, dist2}
-use Rattle.point_codec.specs.Cells.{left_of, right_of, moved_between, nearest_in, within}
+use Rattle.point_codec.specs.Cells.{left_of, right_of, moved_between, within}
 use Rattle.point_codec.proofs.Corners.{both_true}
 use Rattle.point_codec.proofs.Distances.{between_here, closer_here}
 use Rattle.point_codec.proofs.Halves.{left_within, right_within, within_self, within_trans}

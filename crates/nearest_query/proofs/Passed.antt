@@ -5,6 +5,7 @@ use Rattle.std.proofs.lemmas.Bool.{cases_lt}
 use Rattle.std.proofs.lemmas.List.{get_or-map, length-map}
 use Rattle.std.proofs.lemmas.List.Elements.{filter_more}
 use Rattle.std.proofs.lemmas.List.Kept.{AllPairs-from_increasing}
+use Rattle.std.specs.Prelude.{IsTrue}
 use Rattle.std.specs.List.Sorted.{IsStrictlyIncreasing}
 use Rattle.outer_io.specs.Files.{Files, bytes_of}
 use Rattle.outer_io.specs.declared.file_name.FileName.TheVariants.{Segment}
@@ -28,7 +29,7 @@ use Rattle.nearest_query.specs.declared.candidates.Candidates.{Candidates}
 use Rattle.nearest_query.specs.Best.{AreBest, AreAdded}
 use Rattle.nearest_query.specs.Segments.{live_items, no_head}
 use Rattle.nearest_query.specs.Search.{no_live}
-use Rattle.nearest_query.specs.Dead.{IsLeafDead, HidesNone, HideNone, MarksOf}
+use Rattle.nearest_query.specs.Dead.{IsLeafDead, HidesNone, HideNone, MayPass, MarksDead, MarksOf}
 use Rattle.nearest_query.proofs.Added.{added_none, added_same}
 
 -- fewer marks hide no more
@@ -96,6 +97,20 @@ one_place heads up i j in_i in_j same = elim (cases_lt i j) [
     | inr at_most ↦ omega (arith, at_least, at_most)
   ]
 ]
+
+-- nothing was marked
+pub marks_same : (D : ℕ) (watched : Bool) (heads : List Head) (lives : List LiveSet) (cache : PageCache) → (IsTrue watched → MayPass D cache heads lives)
+    → MarksDead D watched heads lives cache cache
+marks_same D watched heads lives cache passes =
+    record { hides = λ on. (passes on).hides; go = λ off i number offset len page known. known }
+
+-- calls one after another
+pub marks_then : (D : ℕ) (watched : Bool) (heads : List Head) (lives : List LiveSet) (old mid new : PageCache) → MarksDead D watched heads lives old mid
+    → MarksDead D watched heads lives mid new → MarksDead D watched heads lives old new
+marks_then D watched heads lives old mid new first second = record {
+  hides = second.hides;
+  go = λ off i number offset len page known. first.go off i number offset len page (second.go off i number offset len page known);
+}
 
 -- what holds of all of them holds of the one at k
 pub hides_own : (D : ℕ) (heads : List Head) (lives : List LiveSet) (k : ℕ) (h : Head) (live : LiveSet) (cache : PageCache) → k < length heads

@@ -1,15 +1,24 @@
 //! Leaves without a live entry, which the cache remembers as dead.
 
-ghost use Rattle.std.specs.Prelude.{◌≡◌, ◌≤◌, ◌<◌, ◌+◌, ◌⊎◌, ◌↔◌, ℕ, List, [], IsTrue};
-ghost use Rattle.page_cache.specs.Cache.{Keeps, IsKept, KeepsDead};
+ghost use Rattle.std.specs.Prelude.{◌≡◌, ◌<◌, ◌⊎◌, ◌↔◌, ℕ, List, [], IsTrue};
+ghost use Rattle.page_cache.specs.Cache.{Keeps, KeepsDead};
 ghost use Rattle.segment_file.specs.Heads.{page_of};
+ghost use Rattle.nearest_query.specs.Dead.{IsKnownDead};
 ghost use Rattle.nearest_query.specs.Segments.{live_items};
 
-use inner_pack::LeafPlace;
+use inner_pack::{LeafPlace, NodeAt};
 use leaf_codec::LeafView;
 use live_bits::LiveBits;
 use page_cache::PageCache;
 use segment_file::SegmentHead;
+
+/// Whether the live set is watched over, and leaves of the segment may be dead: not while each entry has a live number
+/// of its own.
+pub fn may_be_dead<const D: usize>(head: &SegmentHead<D>, live: &LiveBits, watched: bool) -> bool
+    ensures { IsTrue result → IsTrue watched }
+{
+    watched && live.live_count() < head.entries()
+}
 
 /// Whether the live set is watched over, and no entry of the leaf is live.
 pub fn has_none_live<const D: usize>(view: &LeafView<'_, D>, live: &LiveBits, watched: bool) -> bool
@@ -26,21 +35,22 @@ pub fn has_none_live<const D: usize>(view: &LeafView<'_, D>, live: &LiveBits, wa
     true
 }
 
-/// Whether the live set is watched over, and the leaf at the place, in a page that is kept, is known to be dead.
+/// Whether the live set is watched over, and the leaf of the node is known to be dead. Its page isn't used by that.
 pub fn is_known_dead<const D: usize>(
     cache: &PageCache,
     head: &SegmentHead<D>,
-    place: LeafPlace,
+    node: &NodeAt<'_, D>,
     watched: bool,
 ) -> bool
-    requires small { place.page < 8388608 }
-    requires kept { IsKept cache.now head.now.id (page_of head.now place.page) }
-    ensures { IsTrue result → IsTrue watched × (page : List ℕ)
-        × KeepsDead cache.now head.now.id (page_of head.now place.page) place.offset place.length page }
+    requires { node.now.leaves ≡ 1 }
+    ensures { IsTrue result → IsTrue watched × IsKnownDead cache.now head.now node.now }
 {
     if !watched {
         return false;
     }
+    let Some(place) = node.leaf_place() else {
+        unreachable!()
+    };
     cache.is_dead(head.id(), head.page_of(place), place.offset, place.length)
 }
 

@@ -21,7 +21,7 @@ ghost use Rattle.nearest_query.specs.Dead.{HidesNone, MarksOf};
 ghost use Rattle.nearest_query.specs.Segments.{live_items};
 
 use crate::candidates::Candidates;
-use crate::dead::{has_none_live, is_known_dead, remember};
+use crate::dead::{has_none_live, is_known_dead, may_be_dead, remember};
 use crate::outwards::{offer_above, offer_below};
 use inner_pack::NodeAt;
 use leaf_codec::LeafView;
@@ -71,15 +71,16 @@ pub fn open_leaf<const D: usize, F: Pages>(
         → HoldsLeaf D (bytes_of (F.files folder.old (Segment head.now.id))) head.now first s len own items
         → NotDamaged result }
 {
-    let place = load_leaf(alloc, folder, cache, head, node)?;
-    if is_known_dead(cache, head, place, watched) {
+    let watch = may_be_dead(head, live, watched);
+    if is_known_dead(cache, head, node, watch) {
         return Ok(());
     }
+    let place = load_leaf(alloc, folder, cache, head, node)?;
     let Some(view) = leaf_in(cache, head, node, place) else {
         return Err(bad_leaf(cache, head, node, place));
     };
     offer_leaf(&view, live, at, found)?;
-    let dead = has_none_live(&view, live, watched);
+    let dead = has_none_live(&view, live, watch);
     remember(cache, head, place, dead);
     Ok(())
 }

@@ -1,20 +1,19 @@
 //! The nearest documents of segments and a buffer.
 
 ghost use Rattle.std.specs.Prelude.{◌≡◌, ◌≤◌, ◌<◌, ◌+◌, ◌++◌, ℕ, List, [], length, All, IsTrue, OnOk, IfOk};
-ghost use Rattle.std.specs.Prelude.{sum_by, map, false};
+ghost use Rattle.std.specs.Prelude.{sum_by};
 ghost use Rattle.std.specs.List.{range_with_len};
-ghost use Rattle.std.specs.List.Sorted.{IsStrictlyIncreasing};
 ghost use Rattle.point_codec.specs.Points.{Item, Region};
 ghost use Rattle.point_codec.specs.Seen.{items_of};
 ghost use Rattle.point_codec.specs.declared.entries.Near.{Near};
 ghost use Rattle.inner_pack.specs.Trees.{IndexTree};
 ghost use Rattle.inner_pack.specs.Bodies.{HasTree};
-ghost use Rattle.page_cache.specs.Cache.{MarksGo, Agrees};
+ghost use Rattle.page_cache.specs.Cache.{Agrees};
 ghost use Rattle.page_cache.specs.Evidence.{OnDamage, NotDamaged};
 ghost use Rattle.page_cache.specs.Reading.{ReadsMarking};
 ghost use Rattle.segment_file.specs.Damages.{IsLeafDamageOf};
 ghost use Rattle.documents.specs.NearestEntries.{IsNearest, nears_of};
-ghost use Rattle.nearest_query.specs.Dead.{HideNone};
+ghost use Rattle.nearest_query.specs.Dead.{MayPass, MarksDead};
 ghost use Rattle.nearest_query.specs.Segments.{AreLeavesKept, AreSegments, AreNearLeaves, HasId, HaveTrees};
 ghost use Rattle.nearest_query.specs.Segments.{IsSegmentDamage, bound_of, live_in};
 ghost use Rattle.nearest_query.specs.Fronts.{Front, leaf_sum, sum_below};
@@ -55,11 +54,9 @@ pub fn nearest<const D: usize, F: Pages>(
     requires lives { length lives.now ≡ length heads.now }
     requires some { 1 ≤ k }
     requires few { k ≤ 10000 }
-    // where the live sets are watched over: no leaf that the cache knows to be dead has an entry that is live
-    requires apart { IsTrue watched → IsStrictlyIncreasing (map (λ h. h.id) heads.now) }
-    requires hides { IsTrue watched → HideNone D cache.old heads.now lives.now }
-    ensures hides { IsTrue watched → HideNone D cache.new heads.now lives.now }
-    ensures marks { watched ≡ false → MarksGo cache.old cache.new }
+    // no leaf that the cache knows to be dead has an entry that is live
+    requires passes { IsTrue watched → MayPass D cache.old heads.now lives.now }
+    ensures marks { MarksDead D watched heads.now lives.now cache.old cache.new }
     ensures answer { IsTrue F.told → Agrees (F.files folder.old) cache.old → (contents : ℕ → List Item)
         → AreSegments D (F.files folder.old) contents heads.now
         → IfOk result

@@ -1,20 +1,19 @@
 //! The search, best first.
 
 ghost use Rattle.std.specs.Prelude.{◌≡◌, ◌≤◌, ◌<◌, ◌+◌, ℕ, List, [], ◌∷◌, length, All, IsTrue, true, OnOk, sum_by};
-ghost use Rattle.std.specs.Prelude.{Option, map, false};
-ghost use Rattle.std.specs.List.Sorted.{IsStrictlyIncreasing};
+ghost use Rattle.std.specs.Prelude.{Option};
 ghost use Rattle.point_codec.specs.Points.{Region};
 ghost use Rattle.point_codec.specs.declared.entries.Near.{Near};
 ghost use Rattle.inner_pack.specs.Places.{Spot};
 ghost use Rattle.inner_pack.specs.Trees.{IndexTree, leaf_count};
 ghost use Rattle.inner_pack.specs.Nodes.{IsAt};
-ghost use Rattle.page_cache.specs.Cache.{MarksGo, Agrees};
+ghost use Rattle.page_cache.specs.Cache.{Agrees};
 ghost use Rattle.page_cache.specs.Evidence.{OnDamage, NotDamaged};
 ghost use Rattle.page_cache.specs.Reading.{ReadsMarking, ReadsNothing};
 ghost use Rattle.segment_file.specs.Damages.{IsLeafDamageOf};
 ghost use Rattle.documents.specs.NearestEntries.{IsNearest};
 ghost use Rattle.nearest_query.specs.Best.{found_of};
-ghost use Rattle.nearest_query.specs.Dead.{HideNone};
+ghost use Rattle.nearest_query.specs.Dead.{MayPass, MarksDead};
 ghost use Rattle.nearest_query.specs.Segments.{AreLeavesKept, HasId, IsSegmentDamage, is_within, bound_of};
 ghost use Rattle.nearest_query.specs.Fronts.{Front, IsWaiting, leaf_sum, sum_below, work};
 ghost use Rattle.nearest_query.specs.Search.{World, IsOver, IsInside, IsNodeBelow, IsNode, IsSought, one_within};
@@ -67,11 +66,9 @@ fn open<'a, const D: usize, F: Pages>(
     watched: bool,
 ) -> Result<(), PageFault>
     requires lives { length lives.now ≡ length heads.now }
-    requires apart { IsTrue watched → IsStrictlyIncreasing (map (λ h. h.id) heads.now) }
-    requires hides { IsTrue watched → HideNone D cache.old heads.now lives.now }
+    requires passes { IsTrue watched → MayPass D cache.old heads.now lives.now }
     requires inside { IsInside (length heads.now) frontier.old.nodes next }
-    ensures hides { IsTrue watched → HideNone D cache.new heads.now lives.now }
-    ensures marks { watched ≡ false → MarksGo cache.old cache.new }
+    ensures marks { MarksDead D watched heads.now lives.now cache.old cache.new }
     ensures reading { ReadsMarking F.told (HasId heads.now) (F.files folder.old) (F.files folder.new)
         cache.old cache.new (F.faults folder.old) (F.faults folder.new) result }
     ensures room { found.new.many.room ≡ found.old.many.room }
@@ -130,11 +127,9 @@ pub fn search<'a, const D: usize, F: Pages>(
     watched: bool,
 ) -> Result<(), PageFault>
     requires lives { length lives.now ≡ length heads.now }
-    requires apart { IsTrue watched → IsStrictlyIncreasing (map (λ h. h.id) heads.now) }
-    requires hides { IsTrue watched → HideNone D cache.old heads.now lives.now }
+    requires passes { IsTrue watched → MayPass D cache.old heads.now lives.now }
     requires inside { All (IsInside (length heads.now) frontier.old.nodes) frontier.old.turns }
-    ensures hides { IsTrue watched → HideNone D cache.new heads.now lives.now }
-    ensures marks { watched ≡ false → MarksGo cache.old cache.new }
+    ensures marks { MarksDead D watched heads.now lives.now cache.old cache.new }
     ensures reading { ReadsMarking F.told (HasId heads.now) (F.files folder.old) (F.files folder.new)
         cache.old cache.new (F.faults folder.old) (F.faults folder.new) result }
     ensures answer { IsTrue F.told → Agrees (F.files folder.old) cache.old → (w : World) (all : List Near)

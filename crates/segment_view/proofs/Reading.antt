@@ -5,8 +5,10 @@ use Rattle.std.specs.List.{Contains}
 use Rattle.outer_io.specs.Files.{Files}
 use Rattle.page_cache.specs.declared.cache.PageCache.{PageCache}
 use Rattle.page_cache.specs.declared.faults.PageFault.{PageFault}
-use Rattle.page_cache.specs.Cache.{KeepsFile, Agrees}
+use Rattle.page_cache.specs.Cache.{KeepsFile, MarksGo, Agrees}
+use Rattle.page_cache.specs.Causes.{HasPageCause}
 use Rattle.page_cache.specs.Evidence.{OnDamage}
+use Rattle.page_cache.specs.Reading.{ReadsCached, ReadsMarking}
 use Rattle.segment_file.specs.Heads.{Head}
 use Rattle.documents.specs.Entries.{is_among}
 use Rattle.documents.proofs.Lists.{cons_cases, cons_head, in_filter, in_map, nil_none, of_filter}
@@ -34,6 +36,21 @@ pub calm_more : (told : Bool) (old new : Files) (before after : PageCache) (ids 
     → IsCalm told old new before after more
 calm_more told old new before after ids more f a =
     record { files = a.files; agrees = a.agrees; others = λ id h. ⊎_elim (λ k. inl k) (λ k. inr (f id k)) (a.others id h) }
+
+-- a calm call, said as the floors below say it
+pub cached_calm : {T : Type 0} (told : Bool) (old new : Files) (before after : PageCache) (ids : List ℕ) (m n : ℕ) (r : Result T PageFault)
+    → IsCalm told old new before after ids → MarksGo before after → HasPageCause m n r
+    → ReadsCached told (Contains ids) old new before after m n r
+cached_calm told old new before after ids m n r calm marks cause =
+    record { files = calm.files; others = calm.others; agrees = calm.agrees; cause = cause; marks = marks }
+
+pub calm_cached : {T : Type 0} (told : Bool) (old new : Files) (before after : PageCache) (ids : List ℕ) (m n : ℕ) (r : Result T PageFault)
+    → ReadsCached told (Contains ids) old new before after m n r → IsCalm told old new before after ids
+calm_cached told old new before after ids m n r reads = record { files = reads.files; agrees = reads.agrees; others = reads.others }
+
+pub calm_marking : {T : Type 0} (told : Bool) (old new : Files) (before after : PageCache) (ids : List ℕ) (m n : ℕ) (r : Result T PageFault)
+    → ReadsMarking told (Contains ids) old new before after m n r → IsCalm told old new before after ids
+calm_marking told old new before after ids m n r reads = record { files = reads.files; agrees = reads.agrees; others = reads.others }
 
 -- the cache agrees with the files that a calm call left
 pub agrees_after : (told : Bool) (old new : Files) (before after : PageCache) (ids : List ℕ) → IsCalm told old new before after ids → IsTrue told

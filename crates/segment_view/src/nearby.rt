@@ -1,19 +1,18 @@
 //! The documents nearest to a point.
 
-ghost use Rattle.std.specs.Prelude.{◌≡◌, ◌≤◌, ◌+◌, ◌++◌, ℕ, List, All, IsTrue, IfOk, false};
+ghost use Rattle.std.specs.Prelude.{◌≡◌, ◌≤◌, ◌+◌, ◌++◌, ℕ, List, All, Contains, IsTrue, IfOk};
 ghost use Rattle.point_codec.specs.declared.entries.Near.{Near};
 ghost use Rattle.point_codec.specs.Seen.{items_of};
 ghost use Rattle.inner_pack.specs.Trees.{IndexTree};
-ghost use Rattle.page_cache.specs.Cache.{MarksGo, Agrees};
-ghost use Rattle.page_cache.specs.Causes.{HasPageCause};
+ghost use Rattle.page_cache.specs.Cache.{Agrees};
 ghost use Rattle.page_cache.specs.Evidence.{OnDamage, NotDamaged};
+ghost use Rattle.page_cache.specs.Reading.{ReadsMarking};
 ghost use Rattle.segment_file.specs.Heads.{IsHead};
 ghost use Rattle.segment_file.specs.Damages.{IsLeafDamageOf};
 ghost use Rattle.documents.specs.NearestEntries.{IsNearest, nears_of};
 ghost use Rattle.nearest_query.specs.Segments.{AreLeavesKept, AreNearLeaves, HaveTrees, bound_of};
 ghost use Rattle.segment_view.specs.LiveSegments.{Contents, AreRead, heads_of, ids_of, live_in_parts};
-ghost use Rattle.segment_view.specs.Calm.{IsCalm};
-ghost use Rattle.segment_view.specs.Unhidden.{HidesNoneOf};
+ghost use Rattle.segment_view.specs.Unhidden.{HidesNoneOf, MarksDeadOf};
 ghost use Rattle.segment_view.specs.Damages.{IsPartDamage};
 
 use crate::segments::Segments;
@@ -44,10 +43,9 @@ pub fn nearest<const D: usize, F: Pages>(
 ) -> Result<Vec<Near>, PageFault>
     requires some { 1 ≤ k }
     requires few { k ≤ 10000 }
-    // where the live sets are watched over: no leaf that the cache knows to be dead has an entry that is live
+    // no leaf that the cache knows to be dead has an entry that is live
     requires hides { IsTrue watched → All (HidesNoneOf D cache.old) segments.now }
-    ensures hides { IsTrue watched → All (HidesNoneOf D cache.new) segments.now }
-    ensures marks { watched ≡ false → MarksGo cache.old cache.new }
+    ensures marks { MarksDeadOf D watched segments.now cache.old cache.new }
     ensures answer { IsTrue F.told → Agrees (F.files folder.old) cache.old → (c : Contents)
         → AreRead D (F.files folder.old) c segments.now
         → IfOk result
@@ -61,9 +59,9 @@ pub fn nearest<const D: usize, F: Pages>(
     // where the page of each leaf is kept nothing is read
     ensures kept { (trees : ℕ → IndexTree) → HaveTrees D (heads_of segments.now) trees
         → AreLeavesKept cache.old (heads_of segments.now) trees → F.reads folder.new ≡ F.reads folder.old }
-    ensures calm { IsCalm F.told (F.files folder.old) (F.files folder.new) cache.old cache.new (ids_of segments.now) }
-    // What an error says.
-    ensures cause { HasPageCause (F.faults folder.old) (F.faults folder.new) result }
+    ensures reading { ReadsMarking F.told (Contains (ids_of segments.now)) (F.files folder.old) (F.files folder.new)
+        cache.old cache.new (F.faults folder.old) (F.faults folder.new) result }
+    // What a damage says.
     ensures shown { OnDamage result (IsPartDamage D segments.now) }
     ensures damage { IsTrue F.told → Agrees (F.files folder.old) cache.old
         → OnDamage result (IsLeafDamageOf (F.files folder.old)) }

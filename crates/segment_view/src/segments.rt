@@ -5,6 +5,7 @@ use crate::pairs::{
     sizes_of,
 };
 use live_bits::LiveBits;
+use point_codec::MOST_POINTS;
 use segment_file::SegmentHead;
 use std::alloc::{AllocError, Global};
 use std::marker::Model;
@@ -12,9 +13,9 @@ use std::marker::Model;
 /// Want of memory.
 pub type Memory = AllocError;
 
-/// The greatest number of segments. An index has fewer, since each segment has an entry of its own, and no more than
-/// 16,777,216 points are ever given.
-const MOST_SEGMENTS: usize = 1 << 24;
+/// The greatest number of segments. An index has fewer, since each segment has an entry of its own, and no more points
+/// are ever given.
+const MOST_SEGMENTS: usize = MOST_POINTS as usize;
 
 /// Segments with their live bits, in ascending order of their ids. Contracts see a list of both.
 #[derive(Debug, Drop)]
@@ -57,7 +58,7 @@ impl<const D: usize> Segments<D> {
     /// How many segments there are.
     pub fn len(&self) -> usize
         ensures value { result ≡ length self.now }
-        ensures few { result ≤ 16777216 }
+        ensures few { result ≤ MOST_POINTS }
         ensures dims { D ≤ 8 }
     {
         self.heads.len()
@@ -74,7 +75,7 @@ impl<const D: usize> Segments<D> {
     pub fn heads(&self) -> &[SegmentHead<D>]
         ensures value { result.now ≡ heads_of self.now }
         ensures ascend { IsStrictlyIncreasing (ids_of self.now) }
-        ensures few { length result.now ≤ 16777216 }
+        ensures few { length result.now ≤ MOST_POINTS }
     {
         self.heads.as_slice()
     }

@@ -1,6 +1,6 @@
 //! The documents that a shape has.
 
-ghost use Rattle.std.specs.Prelude.{◌≡◌, ◌≤◌, ◌+◌, ◌*◌, ◌++◌, ℕ, [], ◌∷◌, length, IsTrue, IfOk, OnOk};
+ghost use Rattle.std.specs.Prelude.{◌≡◌, ◌≤◌, ◌+◌, ◌*◌, ◌++◌, ℕ, [], ◌∷◌, length, Contains, IsTrue, IfOk, OnOk};
 ghost use Rattle.std.specs.List.Sorted.{IsStrictlyIncreasing};
 ghost use Rattle.point_codec.specs.Points.{Region};
 ghost use Rattle.point_codec.specs.Seen.{items_of};
@@ -10,7 +10,7 @@ ghost use Rattle.inner_pack.specs.Bodies.{HasTree};
 ghost use Rattle.page_cache.specs.Cache.{MarksGo, Agrees};
 ghost use Rattle.page_cache.specs.Causes.{HasPageCause};
 ghost use Rattle.page_cache.specs.Evidence.{OnDamage, NotDamaged};
-ghost use Rattle.page_cache.specs.Reading.{ReadsNothing};
+ghost use Rattle.page_cache.specs.Reading.{ReadsCached, ReadsNothing};
 ghost use Rattle.segment_file.specs.Damages.{IsLeafDamageOf};
 ghost use Rattle.bkd_reader.specs.Unread.{AreKept, IsTouched};
 ghost use Rattle.documents.specs.Entries.{numbers_found};
@@ -59,10 +59,9 @@ pub fn visit<const D: usize, S: Shape<D>, F: Pages>(
     // What stays.
     ensures has { S.has shape.new ≡ S.has shape.old }
     ensures crosses { S.crosses shape.new ≡ S.crosses shape.old }
-    ensures marks { MarksGo cache.old cache.new }
-    ensures calm { IsCalm F.told (F.files folder.old) (F.files folder.new) cache.old cache.new (ids_of segments.now) }
-    // What an error says.
-    ensures cause { HasPageCause (F.faults folder.old) (F.faults folder.new) result }
+    ensures reading { ReadsCached F.told (Contains (ids_of segments.now)) (F.files folder.old) (F.files folder.new)
+        cache.old cache.new (F.faults folder.old) (F.faults folder.new) result }
+    // What a damage says.
     ensures shown { OnDamage result (IsPartDamage D segments.now) }
     ensures damage { IsTrue F.told → Agrees (F.files folder.old) cache.old
         → OnDamage result (IsLeafDamageOf (F.files folder.old)) }

@@ -1,5 +1,5 @@
 use Rattle.std.proofs.lemmas.Result.{err_from_is_err_and}
-use Rattle.std.proofs.Common.{subst, inl, inr, rules}
+use Rattle.std.proofs.Common.{subst, refl, inl, inr, rules}
 use Rattle.segment_file.specs.Heads.{page_of}
 use Rattle.inner_pack.specs.Trees.{Leaf}
 use Rattle.documents.specs.NearestEntries.{nears_of}
@@ -8,7 +8,7 @@ use Rattle.nearest_query.specs.Segments.{live_items}
 use Rattle.nearest_query.proofs.Placed.{one_holding, holding_page}
 use Rattle.page_cache.proofs.Unread.{reads_failed}
 use Rattle.page_cache.proofs.Agreement.{pages_alike, file_alike, agrees_alike}
-use Rattle.nearest_query.proofs.Passed.{hides_still, dead_added, passed_dead, seen_dead}
+use Rattle.nearest_query.proofs.Passed.{dead_added, passed_dead, seen_dead}
 use Rattle.nearest_query.proofs.leaves.open_leaf.Goals as goal
 
 -- ---- it is known to be dead
@@ -16,16 +16,13 @@ use Rattle.nearest_query.proofs.leaves.open_leaf.Goals as goal
 pub returns-then-is_known_dead-clause-found : goal.returns-then-is_known_dead-clause-found
 returns-then-is_known_dead-clause-found g c = λ told agrees first s path len own items seen is holds best.
     let known = c.is_known_dead.ensures c.if-is_known_dead.true in
-    let hides = hides_still g.row.D c.args.cache.now c.load_leaf.new.cache c.args.head.now.id c.args.live.now c.in_ok-place.ensures.reading.marks
-    (c.requires.hides known.0) in
+    let dead = known.1 in
     dead_added c.args.at.now.c c.args.live.now items seen c.args.found.now
-    (passed_dead g.row.D (g.F.Pages.files c.args.folder.now) c.load_leaf.new.cache c.args.head.now first s len own items c.args.live.now c.in_ok-place.place
-    known.1 (c.in_ok-place.ensures.reading.agrees told agrees) hides (c.in_ok-place.ensures.place first s path (Leaf len own) is) known.2 holds) best
+    (passed_dead g.row.D (g.F.Pages.files c.args.folder.now) c.args.cache.now c.args.head.now first s len own items c.args.live.now dead.place dead.page agrees
+    (c.requires.hides (c.may_be_dead-watch.ensures known.0)) (dead.stands first s path (Leaf len own) is) dead.known holds) best
 
 pub returns-then-is_known_dead-clause-kept : goal.returns-then-is_known_dead-clause-kept
-returns-then-is_known_dead-clause-kept g c = λ first s path t is kept.
-    let hit = c.in_ok-place.ensures.hit first s path t is kept in
-    record { reads = hit.1; kept = hit.2 }
+returns-then-is_known_dead-clause-kept g c = λ first s path t is kept. record { reads = refl; kept = λ i n k. k }
 
 -- ---- what is known to be dead afterwards
 
@@ -35,7 +32,7 @@ returns-clause-marks g c = λ i number offset len page known. elim (c.remember.e
   | inr this ↦
       let dead = c.has_none_live-dead.ensures this.0 in
       inr (
-        dead.0,
+        c.may_be_dead-watch.ensures dead.0,
         this.2,
         seen_dead g.row.D c.load_leaf.new.cache c.args.head.now.id (page_of c.args.head.now c.in_ok-place.place.page) c.in_ok-place.place.offset
             c.in_ok-place.place.length c.in-Some.view c.args.live.now c.in-Some.ensures.spelled dead.1 i number offset len page this.1 this.2 this.3 this.4

@@ -8,6 +8,7 @@ use Rattle.nearest_query.specs.Segments.{live_in, bound_of}
 use Rattle.nearest_query.specs.Search.{one_within}
 use Rattle.nearest_query.specs.Fronts.{sum_below}
 use Rattle.nearest_query.proofs.Start.{world, roots, start, start_near}
+use Rattle.nearest_query.proofs.Passed.{marks_same}
 use Rattle.nearest_query.proofs.query.nearest.Goals as goal
 
 pub returns-clause-answer : goal.returns-clause-answer
@@ -152,3 +153,13 @@ returns-in_err-found-clause-kept g c = λ trees have kept. (c.in_ok-search.ensur
 
 pub returns-clause-kept : goal.returns-clause-kept
 returns-clause-kept g c = λ trees have kept. (c.in_ok-search.ensures.kept trees (c.in_ok-push_roots.ensures.parts trees have) kept).reads
+
+-- ---- what is known to be dead
+
+pub returns-in_err-offer_all-clause-marks : goal.returns-in_err-offer_all-clause-marks
+returns-in_err-offer_all-clause-marks g c =
+    marks_same g.row.D c.args.watched c.args.heads.now c.args.lives.now c.args.cache.now c.requires.passes
+
+pub returns-in_err-push_roots-clause-marks : goal.returns-in_err-push_roots-clause-marks
+returns-in_err-push_roots-clause-marks g c =
+    marks_same g.row.D c.args.watched c.args.heads.now c.args.lives.now c.args.cache.now c.requires.passes

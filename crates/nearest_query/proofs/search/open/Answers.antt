@@ -19,7 +19,7 @@ use Rattle.page_cache.specs.Cache.{IsKept}
 use Rattle.page_cache.proofs.Unread.{reads_failed}
 use Rattle.segment_file.specs.Heads.{Head, page_of}
 use Rattle.nearest_query.proofs.Unread.{leaf_kept}
-use Rattle.nearest_query.proofs.Passed.{hides_own, hide_one, marks_none}
+use Rattle.nearest_query.proofs.Passed.{hides_own, hide_one, marks_none, marks_same}
 use Rattle.nearest_query.proofs.search.open.Goals as goal
 
 -- ---- leaves that are known to be dead
@@ -42,24 +42,32 @@ open_leaf-requires g c = (
             (read_any c.args.heads.now c.args.next.segment c.index-heads-next.result no_head c.requires.inside.inside c.index-heads-next.is)
             (read_any c.args.lives.now c.args.next.segment c.index-lives-next.result no_live (omega (arith, c.requires.lives, c.requires.inside.inside))
             c.index-lives-next.is)
-            (c.requires.hides watched),
+            (c.requires.passes watched).hides,
       ),
     ),
   ),
 )
 
-pub returns-in-None-clause-hides : goal.returns-in-None-clause-hides
-returns-in-None-clause-hides g c = λ watched.
-    hide_one g.row.D c.args.watched c.args.heads.now c.args.lives.now c.args.next.segment c.index-heads-next.result c.index-lives-next.result c.args.cache.now
-    c.open_leaf.new.cache c.requires.inside.inside
-    (read_any c.args.heads.now c.args.next.segment c.index-heads-next.result no_head c.requires.inside.inside c.index-heads-next.is)
-    (read_any c.args.lives.now c.args.next.segment c.index-lives-next.result no_live (omega (arith, c.requires.lives, c.requires.inside.inside))
-    c.index-lives-next.is)
-    (c.requires.apart watched) c.open_leaf.ensures.marks (c.requires.hides watched)
-
 pub returns-in-None-clause-marks : goal.returns-in-None-clause-marks
-returns-in-None-clause-marks g c =
-    marks_none g.row.D c.args.watched c.index-heads-next.result.id c.index-lives-next.result c.args.cache.now c.open_leaf.new.cache c.open_leaf.ensures.marks
+returns-in-None-clause-marks g c = record {
+  hides = λ watched.
+      hide_one g.row.D c.args.watched c.args.heads.now c.args.lives.now c.args.next.segment c.index-heads-next.result c.index-lives-next.result
+      c.args.cache.now c.open_leaf.new.cache c.requires.inside.inside
+      (read_any c.args.heads.now c.args.next.segment c.index-heads-next.result no_head c.requires.inside.inside c.index-heads-next.is)
+      (read_any c.args.lives.now c.args.next.segment c.index-lives-next.result no_live (omega (arith, c.requires.lives, c.requires.inside.inside))
+      c.index-lives-next.is)
+      (c.requires.passes watched).ascend c.open_leaf.ensures.marks (c.requires.passes watched).hides;
+  go = marks_none g.row.D c.args.watched c.index-heads-next.result.id c.index-lives-next.result c.args.cache.now c.open_leaf.new.cache
+      c.open_leaf.ensures.marks;
+}
+
+pub returns-in_err-fork-in-Some-clause-marks : goal.returns-in_err-fork-in-Some-clause-marks
+returns-in_err-fork-in-Some-clause-marks g c =
+    marks_same g.row.D c.args.watched c.args.heads.now c.args.lives.now c.args.cache.now c.requires.passes
+
+pub returns-in_ok-fork-in-Some-clause-marks : goal.returns-in_ok-fork-in-Some-clause-marks
+returns-in_ok-fork-in-Some-clause-marks g c =
+    marks_same g.row.D c.args.watched c.args.heads.now c.args.lives.now c.args.cache.now c.requires.passes
 
 -- ---- the search
 

@@ -14,6 +14,7 @@ use Rattle.nearest_query.proofs.Steps.{sought_moved}
 use Rattle.nearest_query.proofs.Ends.{stop_nearest, end_nearest, next_node, next_within}
 use Rattle.page_cache.proofs.Unread.{reads_failed}
 use Rattle.nearest_query.proofs.Unread.{leaves_still}
+use Rattle.nearest_query.proofs.Passed.{marks_same, marks_then}
 use Rattle.nearest_query.proofs.search.search.Goals as goal
 
 pub returns-then-ends_before-clause-answer : goal.returns-then-ends_before-clause-answer
@@ -42,15 +43,12 @@ open-requires g c = (
       (
         c.requires.lives,
         (
-          c.requires.apart,
-          (
-            c.loop-next.invariant.hides,
-            subst (λ ns. IsInside (length c.args.heads.now) ns c.in-Some.next) (sym c.in-Some.ensures.nodes)
-                (All-head (IsInside (length c.args.heads.now) c.loop-next.frontier.nodes) c.in-Some.next c.pop.new.self.turns
-                (All-permutation (IsInside (length c.args.heads.now) c.loop-next.frontier.nodes) c.loop-next.frontier.turns
-                (c.in-Some.next ∷ c.pop.new.self.turns)
-                c.in-Some.ensures.some c.loop-next.invariant.inside)),
-          ),
+          λ on. record { ascend = (c.requires.passes on).ascend; hides = c.loop-next.invariant.marks.hides on },
+          subst (λ ns. IsInside (length c.args.heads.now) ns c.in-Some.next) (sym c.in-Some.ensures.nodes)
+              (All-head (IsInside (length c.args.heads.now) c.loop-next.frontier.nodes) c.in-Some.next c.pop.new.self.turns
+              (All-permutation (IsInside (length c.args.heads.now) c.loop-next.frontier.nodes) c.loop-next.frontier.turns
+              (c.in-Some.next ∷ c.pop.new.self.turns)
+              c.in-Some.ensures.some c.loop-next.invariant.inside)),
         ),
       ),
     ),
@@ -64,8 +62,7 @@ loop-next-init g c = record {
   faults = refl;
   others = λ i h. inl h;
   agrees = λ told a. a;
-  hides = c.requires.hides;
-  marks = λ off i n offset len page known. known;
+  marks = marks_same g.row.D c.args.watched c.args.heads.now c.args.lives.now c.args.cache.now c.requires.passes;
   inside = c.requires.inside;
   parts = λ trees all. all;
   kept = λ trees all kept. (refl, λ i m k. k);
@@ -88,9 +85,8 @@ loop-next-preserved g c = record {
   agrees = λ told a. subst (λ f. Agrees f c.open.new.cache) (c.loop-next.invariant.files told)
       (c.in_ok-open.ensures.reading.agrees told
       (subst (λ f. Agrees f c.loop-next.cache) (sym (c.loop-next.invariant.files told)) (c.loop-next.invariant.agrees told a)));
-  hides = c.in_ok-open.ensures.hides;
-  marks = λ off i n offset len page known.
-      c.loop-next.invariant.marks off i n offset len page (c.in_ok-open.ensures.marks off i n offset len page known);
+  marks = marks_then g.row.D c.args.watched c.args.heads.now c.args.lives.now c.args.cache.now c.loop-next.cache c.open.new.cache
+      c.loop-next.invariant.marks c.in_ok-open.ensures.marks;
   inside = c.in_ok-open.ensures.inside
       (subst (λ ns. All (IsInside (length c.args.heads.now) ns) c.pop.new.self.turns) (sym c.in-Some.ensures.nodes)
       (All-tail (IsInside (length c.args.heads.now) c.loop-next.frontier.nodes) c.in-Some.next c.pop.new.self.turns
@@ -137,8 +133,9 @@ loop-next-preserved g c = record {
 }
 
 pub returns-in_err-open-clause-marks : goal.returns-in_err-open-clause-marks
-returns-in_err-open-clause-marks g c = λ off i n offset len page known.
-    c.loop-next.invariant.marks off i n offset len page (c.in_err-open.ensures.marks off i n offset len page known)
+returns-in_err-open-clause-marks g c =
+    marks_then g.row.D c.args.watched c.args.heads.now c.args.lives.now c.args.cache.now c.loop-next.cache c.open.new.cache
+    c.loop-next.invariant.marks c.in_err-open.ensures.marks
 
 pub returns-in_err-open-clause-reading : goal.returns-in_err-open-clause-reading
 returns-in_err-open-clause-reading g c =

@@ -1,10 +1,10 @@
-use Rattle.std.proofs.Common.{◌≡◌, ◌≤◌, ◌+◌, ◌⊎◌, ℕ, List, length, false}
+use Rattle.std.proofs.Common.{◌≡◌, ◌≤◌, ◌+◌, ◌⊎◌, ℕ, List, length}
 use Rattle.std.specs.Prelude.{IsTrue, All, sum_by}
 use Rattle.point_codec.specs.declared.entries.Near.{Near}
 use Rattle.inner_pack.specs.Trees.{IndexTree}
-use Rattle.page_cache.specs.Cache.{KeepsFile, KeepsPages, MarksGo, Agrees}
+use Rattle.page_cache.specs.Cache.{KeepsFile, KeepsPages, Agrees}
 use Rattle.documents.specs.NearestEntries.{IsNearest}
-use Rattle.nearest_query.specs.Dead.{HideNone}
+use Rattle.nearest_query.specs.Dead.{MarksDead}
 use Rattle.nearest_query.specs.Segments.{AreLeavesKept, HasId, bound_of}
 use Rattle.nearest_query.specs.Fronts.{sum_below, work}
 use Rattle.nearest_query.specs.Search.{World, IsOver, IsInside, IsNodeBelow, IsSought, one_within}
@@ -17,8 +17,7 @@ invariant-loop-next g l = record {
   faults : g.F.Pages.faults l.folder ≡ g.F.Pages.faults l.initial.folder;
   others : (i : ℕ) → KeepsFile l.cache i → KeepsFile l.initial.cache i ⊎ HasId l.heads i;
   agrees : IsTrue g.F.Pages.told → Agrees (g.F.Pages.files l.initial.folder) l.initial.cache → Agrees (g.F.Pages.files l.initial.folder) l.cache;
-  hides : IsTrue l.watched → HideNone g.row.D l.cache l.heads l.lives;
-  marks : l.watched ≡ false → MarksGo l.initial.cache l.cache;
+  marks : MarksDead g.row.D l.watched l.heads l.lives l.initial.cache l.cache;
   inside : All (IsInside (length l.heads) l.frontier.nodes) l.frontier.turns;
   parts : (trees : ℕ → IndexTree) → All (IsNodeBelow l.heads trees l.initial.frontier.nodes) l.initial.frontier.turns
       → All (IsNodeBelow l.heads trees l.frontier.nodes) l.frontier.turns;

@@ -50,12 +50,11 @@ nearest-requires g c = (
           c.requires.some,
           (
             c.requires.few,
-            (
-              λ watched. ids_of_these c.args.segments.now c.heads-2.result.now c.heads-2.ensures.value c.heads-2.ensures.ascend,
-              λ watched.
-                  hide_these g.row.D c.args.cache.now c.args.segments.now c.heads-2.result.now c.lives.result.now c.heads-2.ensures.value c.lives.ensures
-                  (c.requires.hides watched),
-            ),
+            λ watched. record {
+              ascend = ids_of_these c.args.segments.now c.heads-2.result.now c.heads-2.ensures.value c.heads-2.ensures.ascend;
+              hides = hide_these g.row.D c.args.cache.now c.args.segments.now c.heads-2.result.now c.lives.result.now c.heads-2.ensures.value
+                  c.lives.ensures (c.requires.hides watched);
+            },
           ),
         ),
       ),
@@ -63,20 +62,21 @@ nearest-requires g c = (
   ),
 )
 
-pub returns-clause-hides : goal.returns-clause-hides
-returns-clause-hides g c = λ watched.
-    these_hide g.row.D c.nearest.new.cache c.args.segments.now c.heads-2.result.now c.lives.result.now c.heads-2.ensures.value c.lives.ensures
-    (c.nearest.ensures.hides watched)
-
 pub returns-clause-marks : goal.returns-clause-marks
-returns-clause-marks g c = c.nearest.ensures.marks
+returns-clause-marks g c = record {
+  hides = λ watched.
+      these_hide g.row.D c.nearest.new.cache c.args.segments.now c.heads-2.result.now c.lives.result.now c.heads-2.ensures.value c.lives.ensures
+      (c.nearest.ensures.marks.hides watched);
+  go = c.nearest.ensures.marks.go;
+}
 
-pub returns-clause-calm : goal.returns-clause-calm
-returns-clause-calm g c = record {
+pub returns-clause-reading : goal.returns-clause-reading
+returns-clause-reading g c = record {
   files = c.nearest.ensures.reading.files;
   agrees = c.nearest.ensures.reading.agrees;
   others = λ id h. ⊎_elim (λ k. inl k) (λ k. inr (id_of c.args.segments.now id (subst (λ (hs : List Head). HasId hs id) c.heads-2.ensures.value k)))
       (c.nearest.ensures.reading.others id h);
+  cause = c.nearest.ensures.reading.cause;
 }
 
 pub returns-clause-shown : goal.returns-clause-shown

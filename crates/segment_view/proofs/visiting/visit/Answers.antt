@@ -1,9 +1,10 @@
-use Rattle.std.proofs.Common.{◌++◌, ℕ, List, ap, sym, ◌∙◌}
+use Rattle.std.proofs.Common.{◌++◌, ℕ, List, ap, sym, ◌∙◌, rules}
 use Rattle.point_codec.specs.Seen.{items_of}
 use Rattle.documents.specs.Entries.{numbers_found}
 use Rattle.documents.proofs.HitNumbers.{found_append}
 use Rattle.segment_view.specs.LiveSegments.{live_in_parts}
 use Rattle.segment_view.proofs.Hits.{ordered_found}
+use Rattle.segment_view.proofs.Reading.{cached_calm}
 use Rattle.segment_view.proofs.visiting.visit.Goals as goal
 
 pub returns-clause-found : goal.returns-clause-found
@@ -30,3 +31,15 @@ returns-in_err-ascending-clause-reads g c = record { most = c.visit_segments.ens
 
 pub returns-clause-reads : goal.returns-clause-reads
 returns-clause-reads g c = record { most = c.visit_segments.ensures.reads; none = λ all. (c.visit_segments.ensures.kept all).reads }
+
+pub returns-in_err-visit_segments-clause-reading : goal.returns-in_err-visit_segments-clause-reading
+returns-in_err-visit_segments-clause-reading g c = cached_calm _ _ _ _ _ _ _ _ _ c.visit_segments.ensures.calm c.visit_segments.ensures.marks (search rules)
+
+pub returns-in_err-visit_buffer-clause-reading : goal.returns-in_err-visit_buffer-clause-reading
+returns-in_err-visit_buffer-clause-reading g c = cached_calm _ _ _ _ _ _ _ _ _ c.visit_segments.ensures.calm c.visit_segments.ensures.marks (search rules)
+
+pub returns-in_err-ascending-clause-reading : goal.returns-in_err-ascending-clause-reading
+returns-in_err-ascending-clause-reading g c = cached_calm _ _ _ _ _ _ _ _ _ c.visit_segments.ensures.calm c.visit_segments.ensures.marks (search rules)
+
+pub returns-clause-reading : goal.returns-clause-reading
+returns-clause-reading g c = cached_calm _ _ _ _ _ _ _ _ _ c.visit_segments.ensures.calm c.visit_segments.ensures.marks (search rules)

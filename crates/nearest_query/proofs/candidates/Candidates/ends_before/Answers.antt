@@ -1,4 +1,4 @@
-use Rattle.std.proofs.Common.{ℕ, ◌<◌, ◌-◌, List, length, get_or, sym, subst}
+use Rattle.std.proofs.Common.{◌<◌, ◌-◌, List, length, get_or, sym, subst}
 use Rattle.std.specs.List.{All}
 use Rattle.point_codec.specs.declared.entries.Near.{Near}
 use Rattle.nearest_query.proofs.Either.{few_is, nearest_few, all_nearer}

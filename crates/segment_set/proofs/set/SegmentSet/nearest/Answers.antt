@@ -7,8 +7,10 @@ use Rattle.page_cache.specs.Evidence.{OnDamage}
 use Rattle.documents.specs.NearestEntries.{IsNearest, nears_of}
 use Rattle.nearest_query.specs.Segments.{AreNearLeaves, bound_of}
 use Rattle.script_lang.specs.Seen.{view_name}
-use Rattle.segment_view.specs.LiveSegments.{AreRead, LiveSegment, heads_of}
+use Rattle.segment_view.specs.LiveSegments.{AreRead, LiveSegment, heads_of, ids_of}
+use Rattle.segment_view.specs.Calm.{IsCalm}
 use Rattle.segment_view.specs.Damages.{IsPartDamage}
+use Rattle.segment_view.proofs.Reading.{calm_marking}
 use Rattle.index_model.specs.State.{Index}
 use Rattle.segment_set.specs.Sets.{IsWell, SetData, buffer_at, parts_at, viewed_buffer, viewed_parts}
 use Rattle.segment_set.specs.Seen.{Sees, entries_seen}
@@ -61,6 +63,11 @@ buffer_is g c =
     ∙ ap (λ xs. buffer_at (view_name c.args.view.now) xs c.as_slice.result.now) c.settle_for.ensures.items
     ∙ ap (buffer_at (view_name c.args.view.now) c.self.inside.buffer.items) c.as_slice.ensures.value)
 
+calm : (g : given.Over) (c : goal.After-nearest g)
+    → IsCalm g.F.Pages.told (g.F.Pages.files c.args.folder.now) (g.F.Pages.files c.nearest.new.folder) c.self.inside.cache c.nearest.new.cache
+    (ids_of c.view_of.result.0.now)
+calm g c = calm_marking _ _ _ _ _ _ _ _ _ c.nearest.ensures.reading
+
 agreed : (g : given.Over) (c : goal.After-nearest g) (i : Index) → Sees g.row.D (g.F.Pages.files c.args.folder.now) c.args.self.now i
     → Agrees (g.F.Pages.files c.args.folder.now) c.self.inside.cache
 agreed g c i seen = subst (λ (u : SetData). Agrees (g.F.Pages.files c.args.folder.now) u.cache) (sym c.self.view_is) seen.stands.agrees
@@ -68,9 +75,9 @@ agreed g c i seen = subst (λ (u : SetData). Agrees (g.F.Pages.files c.args.fold
 pub invariant_of-self : goal.invariant_of-self
 invariant_of-self g c =
     subst (IsWell g.row.D) (sym (same g c))
-    (looked_well _ _ _ _ (was g c) (view_name c.args.view.now) _ _ c.self.invariant (here g c) c.nearest.ensures.calm
+    (looked_well _ _ _ _ (was g c) (view_name c.args.view.now) _ _ c.self.invariant (here g c) (calm g c)
     (looked_unhidden g.row.D c.is_of_now-watched.result (was g c) (view_name c.args.view.now) c.view_of.result.0.now c.nearest.new.cache (here g c)
-    c.is_of_now-watched.ensures c.nearest.ensures.hides c.nearest.ensures.marks c.self.invariant.unhidden))
+    c.is_of_now-watched.ensures c.nearest.ensures.marks.hides c.nearest.ensures.marks.go c.self.invariant.unhidden))
 
 pub nearest-requires : goal.nearest-requires
 nearest-requires g c =
@@ -103,7 +110,7 @@ returns-clause-found g c told i seen docs is =
 pub returns-clause-seen : goal.returns-clause-seen
 returns-clause-seen g c told i seen =
     subst (λ (s : SetData). Sees g.row.D (g.F.Pages.files c.nearest.new.folder) s i) (sym (same g c))
-    (looked_sees _ _ _ _ (was g c) _ _ _ c.self.view_is c.nearest.ensures.calm told i seen)
+    (looked_sees _ _ _ _ (was g c) _ _ _ c.self.view_is (calm g c) told i seen)
 
 pub returns-clause-alone : goal.returns-clause-alone
 returns-clause-alone g c = record { is = same g c ∙ (λ i. record (c.self.view_is i) { cache = c.nearest.new.cache }) }
@@ -124,7 +131,7 @@ returns-clause-reads g c told contents stands found is leaves are =
 pub returns-clause-faithful : goal.returns-clause-faithful
 returns-clause-faithful g c told keeps =
     subst (IsFaithful g.row.D (g.F.Pages.files c.nearest.new.folder)) (sym (same g c))
-    (looked_faithful g.row.D _ _ _ (was g c) _ _ _ c.self.view_is c.nearest.ensures.calm told keeps)
+    (looked_faithful g.row.D _ _ _ (was g c) _ _ _ c.self.view_is (calm g c) told keeps)
 
 pub returns-clause-damaged : goal.returns-clause-damaged
 returns-clause-damaged g c = record {
@@ -133,5 +140,5 @@ returns-clause-damaged g c = record {
   damage = λ told agrees.
       c.nearest.ensures.damage told (subst (λ (u : SetData). Agrees (g.F.Pages.files c.args.folder.now) u.cache) (sym c.self.view_is) agrees);
   evident = looked_evident g.row.D _ _ _ _ _ (view_name c.args.view.now) c.view_of.result.0.now _ _ c.nearest.result c.self.view_is (parts_are g c)
-      c.nearest.ensures.calm c.nearest.ensures.shown c.nearest.ensures.damage;
+      (calm g c) c.nearest.ensures.shown c.nearest.ensures.damage;
 }

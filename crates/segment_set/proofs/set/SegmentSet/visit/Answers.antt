@@ -5,9 +5,11 @@ use Rattle.point_codec.specs.Seen.{items_of}
 use Rattle.page_cache.specs.Cache.{Agrees}
 use Rattle.page_cache.specs.Evidence.{OnDamage}
 use Rattle.script_lang.specs.Seen.{view_name}
-use Rattle.segment_view.specs.LiveSegments.{LiveSegment, heads_of}
+use Rattle.segment_view.specs.LiveSegments.{LiveSegment, heads_of, ids_of}
 use Rattle.segment_view.specs.Costs.{AreTested, AreTouched, leaves_in}
+use Rattle.segment_view.specs.Calm.{IsCalm}
 use Rattle.segment_view.specs.Damages.{IsPartDamage}
+use Rattle.segment_view.proofs.Reading.{calm_cached}
 use Rattle.index_model.specs.State.{Index}
 use Rattle.segment_set.specs.Sets.{IsWell, SetData, buffer_at, parts_at, viewed_buffer, viewed_parts}
 use Rattle.segment_set.specs.Seen.{Sees}
@@ -58,6 +60,11 @@ buffer_is g c =
     ∙ ap (λ xs. buffer_at (view_name c.args.view.now) xs c.as_slice.result.now) c.settle_for.ensures.items
     ∙ ap (buffer_at (view_name c.args.view.now) c.self.inside.buffer.items) c.as_slice.ensures.value)
 
+calm : (g : given.Over) (c : goal.After-visit g)
+    → IsCalm g.F.Pages.told (g.F.Pages.files c.args.folder.now) (g.F.Pages.files c.visit.new.folder) c.self.inside.cache c.visit.new.cache
+    (ids_of c.view_of.result.0.now)
+calm g c = calm_cached _ _ _ _ _ _ _ _ _ c.visit.ensures.reading
+
 agreed : (g : given.Over) (c : goal.After-visit g) (i : Index) → Sees g.row.D (g.F.Pages.files c.args.folder.now) c.args.self.now i
     → Agrees (g.F.Pages.files c.args.folder.now) c.self.inside.cache
 agreed g c i seen = subst (λ (u : SetData). Agrees (g.F.Pages.files c.args.folder.now) u.cache) (sym c.self.view_is) seen.stands.agrees
@@ -65,8 +72,8 @@ agreed g c i seen = subst (λ (u : SetData). Agrees (g.F.Pages.files c.args.fold
 pub invariant_of-self : goal.invariant_of-self
 invariant_of-self g c =
     subst (IsWell g.row.D) (sym (same g c))
-    (looked_well _ _ _ _ (was g c) (view_name c.args.view.now) _ _ c.self.invariant (here g c) c.visit.ensures.calm
-    (unhidden_still g.row.D c.self.inside.cache c.visit.new.cache c.self.inside.segments c.visit.ensures.marks c.self.invariant.unhidden))
+    (looked_well _ _ _ _ (was g c) (view_name c.args.view.now) _ _ c.self.invariant (here g c) (calm g c)
+    (unhidden_still g.row.D c.self.inside.cache c.visit.new.cache c.self.inside.segments c.visit.ensures.reading.marks c.self.invariant.unhidden))
 
 pub returns-clause-found : goal.returns-clause-found
 returns-clause-found g c told i seen docs is =
@@ -76,7 +83,7 @@ returns-clause-found g c told i seen docs is =
 pub returns-clause-seen : goal.returns-clause-seen
 returns-clause-seen g c told i seen =
     subst (λ (s : SetData). Sees g.row.D (g.F.Pages.files c.visit.new.folder) s i) (sym (same g c))
-    (looked_sees _ _ _ _ (was g c) _ _ _ c.self.view_is c.visit.ensures.calm told i seen)
+    (looked_sees _ _ _ _ (was g c) _ _ _ c.self.view_is (calm g c) told i seen)
 
 pub returns-clause-alone : goal.returns-clause-alone
 returns-clause-alone g c = record { is = same g c ∙ (λ i. record (c.self.view_is i) { cache = c.visit.new.cache }) }
@@ -104,7 +111,7 @@ returns-clause-reads g c n are =
 pub returns-clause-faithful : goal.returns-clause-faithful
 returns-clause-faithful g c told keeps =
     subst (IsFaithful g.row.D (g.F.Pages.files c.visit.new.folder)) (sym (same g c))
-    (looked_faithful g.row.D _ _ _ (was g c) _ _ _ c.self.view_is c.visit.ensures.calm told keeps)
+    (looked_faithful g.row.D _ _ _ (was g c) _ _ _ c.self.view_is (calm g c) told keeps)
 
 pub returns-clause-damaged : goal.returns-clause-damaged
 returns-clause-damaged g c = record {
@@ -113,5 +120,5 @@ returns-clause-damaged g c = record {
   damage = λ told agrees.
       c.visit.ensures.damage told (subst (λ (u : SetData). Agrees (g.F.Pages.files c.args.folder.now) u.cache) (sym c.self.view_is) agrees);
   evident = looked_evident g.row.D _ _ _ _ _ (view_name c.args.view.now) c.view_of.result.0.now _ _ c.visit.result c.self.view_is (parts_are g c)
-      c.visit.ensures.calm c.visit.ensures.shown c.visit.ensures.damage;
+      (calm g c) c.visit.ensures.shown c.visit.ensures.damage;
 }
