@@ -29,7 +29,7 @@ impl<const D: usize> SegmentSet<D> {
     ghost use Rattle.segment_set.specs.Sets.{HasView, viewed_buffer, viewed_parts};
     ghost use Rattle.segment_set.specs.Effects.{ShowsLeafDamage};
     ghost use Rattle.segment_set.specs.Seen.{Sees, StandsOver, entries_seen};
-    ghost use Rattle.segment_set.specs.Kept.{StaysButCache};
+    ghost use Rattle.segment_set.specs.Kept.{KeepsShape, StaysButCache};
     ghost use Rattle.segment_set.specs.Faithful.{IsFaithful};
 
     /// The numbers of the view's documents that the shape has, ascending. Only leaves whose own cell is not outside
@@ -52,8 +52,8 @@ impl<const D: usize> SegmentSet<D> {
         ensures faithful { IsTrue F.told → IsFaithful D (F.files folder.old) self.old
             → IsFaithful D (F.files folder.new) self.new }
         ensures files { IsTrue F.told → F.files folder.new ≡ F.files folder.old }
-        ensures has { S.has shape.new ≡ S.has shape.old }
-        ensures crosses { S.crosses shape.new ≡ S.crosses shape.old }
+        ensures shape { KeepsShape (S.has shape.old) (S.has shape.new)
+            (S.crosses shape.old) (S.crosses shape.new) }
         // what it costs, over every folder
         ensures tests { (n : ℕ)
             → AreTested D (S.crosses shape.old) (heads_of (viewed_parts (view_name view.now) self.old)) n

@@ -88,6 +88,9 @@ returns-clause-seen g c told i seen =
 pub returns-clause-alone : goal.returns-clause-alone
 returns-clause-alone g c = record { is = same g c ∙ (λ i. record (c.self.view_is i) { cache = c.visit.new.cache }) }
 
+pub returns-clause-shape : goal.returns-clause-shape
+returns-clause-shape g c = record { points = c.visit.ensures.has; cells = c.visit.ensures.crosses }
+
 pub returns-clause-tests : goal.returns-clause-tests
 returns-clause-tests g c n are =
     let most = c.visit.ensures.tests n
