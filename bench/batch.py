@@ -13,7 +13,7 @@ import os
 import random
 import subprocess
 
-from program import jars
+from peers import jars
 from runs import COUNT, HERE, Data, Run, bkd, compare, write
 
 FORKS = (0, 1, 2)

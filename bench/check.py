@@ -23,7 +23,7 @@ import subprocess
 import sys
 import time
 
-from program import java, jars, rtree
+from peers import jars, java, rtree
 from runs import COUNT, PROGRAM, Data, Run, bkd, milliseconds, write
 
 TURNS = 5

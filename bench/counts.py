@@ -15,7 +15,7 @@ import os
 import shutil
 import subprocess
 
-from program import rtree
+from peers import rtree
 from runs import COUNT, HERE, Data, Run, bkd, compare, write
 
 # half the side of a square, and how many lines of each kind are timed

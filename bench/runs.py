@@ -135,3 +135,20 @@ def compare(ours, theirs):
     if ours != theirs:
         at = next((i for i, (a, b) in enumerate(zip(ours, theirs)) if a != b), "the length")
         sys.exit("the answers differ at %s" % at)
+
+
+KEPT = ("--cache", "65536")
+
+
+def each_line(data, write_lines, folder=None, options=KEPT):
+    """The time of a line, on kept pages of one segment if nothing else is said: what two further rounds of the same
+    lines take more."""
+    folder = folder or data.merged()
+    once = best(lambda: bkd(folder, "run", *options, source=write_lines(rounds=1)))
+    thrice = best(lambda: bkd(folder, "run", *options, source=write_lines(rounds=3)))
+    return (thrice.wall - once.wall) / (2 * QUERIES)
+
+
+def distances(text):
+    """The distances of each answer to a query for the nearest, in order; of equally near ones another may be found."""
+    return [line if line.startswith("near ") else line.split()[1] for line in text.splitlines()]
