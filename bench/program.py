@@ -28,8 +28,8 @@ import subprocess
 import sys
 
 from peers import lucene, sqlite
-from runs import (COMPARED, COUNT, HALF, HERE, KEPT, NEAREST, PROGRAM, QUERIES, Data, Run, best, bkd, compare, distances,
-                  each_line, milliseconds, write)
+from runs import (COMPARED, COUNT, HALF, HERE, KEPT, NEAREST, PROGRAM, QUERIES, Data, Run, best, bkd, compare,
+                  distances, each_line, milliseconds, write)
 
 LIMIT = 536_870_912
 
