@@ -1,6 +1,6 @@
 #!/usr/bin/env python3
-"""Draws the tables of docs/BENCHMARKS.md as bars into docs/images/benchmarks.png, and those of docs/SCALE.md as curves
-into docs/images/scale.png; wants matplotlib.
+"""Draws the tables of docs/BENCHMARKS.md and docs/PARTS.md as bars into docs/images/benchmarks.png, and those of
+docs/SCALE.md as curves into docs/images/scale.png; wants matplotlib.
 
 usage: bench/plots.py [FOLDER]     where the two images go, if not there
 
@@ -97,7 +97,7 @@ def found_in(page):
 
 
 def draw_bars(path):
-    found = found_in("BENCHMARKS.md")
+    found = found_in("BENCHMARKS.md") + found_in("PARTS.md")
     heights = [0.9 + 0.28 * len(names) * max(1, len(columns) * 0.7) for _, _, names, columns in found]
     figure = Figure(figsize=(10, sum(heights)), layout="constrained")
     for axes, one in zip(figure.subplots(len(found), height_ratios=heights, squeeze=False)[:, 0], found):
