@@ -97,7 +97,7 @@ fn find<const D: usize, S: Shape<D>>(
     let _parts = segments.len();
     let found = visit(alloc, segments, &[], cache, pages, shape);
     let found = of_whole(found)?;
-    Ok(Reply::Hits(Docs::new(found)))
+    Ok(Reply::Hits(Docs::new(found.docs)))
 }
 
 /// The documents that are nearest to a point.
@@ -121,7 +121,7 @@ fn find_near<const D: usize>(
     docs_nearest();
     let found = nearest(alloc, segments, &[], cache, pages, at, k, false);
     let found = of_whole(found)?;
-    Ok(Reply::Near(Nears::new(found)))
+    Ok(Reply::Near(Nears::new(found.docs)))
 }
 
 /// What was found in pages that are whole and can't fail, so that memory alone may be wanting.

@@ -1,10 +1,8 @@
 -- What is told of a line, by what the calls on the set answered.
-use Rattle.std.proofs.Common.{◌≡◌, ◌≤◌, ◌+◌, ◌-◌, ◌++◌, ℕ, zero, suc, slice_get, Bool, true, false, cond, nat_lt, List, [], ◌∷◌}
+use Rattle.std.proofs.Common.{◌≡◌, ◌≤◌, ◌+◌, ◌++◌, ℕ, Bool, true, false, cond, nat_lt, List, [], ◌∷◌}
 use Rattle.std.proofs.Common.{length, Some, None, Result, Ok, Err, OnErr, IfOk, IsErrOf, ◌≢◌, refl, sym, ap, subst, ◌∙◌, arith, ℤ}
 use Rattle.std.specs.List.{last_or}
-use Rattle.std.proofs.lemmas.Bool.Decides.{nat_tests}
 use Rattle.outer_io.specs.Files.{Files}
-use Rattle.point_codec.specs.Points.{Region}
 use Rattle.page_cache.specs.declared.faults.PageFault.{PageFault}
 use Rattle.page_cache.specs.declared.faults.PageFault.TheVariants as page
 use Rattle.page_cache.specs.Causes.{HasPageCause}
@@ -15,7 +13,6 @@ use Rattle.nearest_query.specs.Segments.{bound_of, last_of}
 use Rattle.std.proofs.lemmas.List.{length-map}
 use Rattle.point_codec.specs.declared.entries.Near.{Near}
 use Rattle.segment_file.specs.Heads.{Head}
-use Rattle.segment_view.specs.Costs.{AreTouched}
 use Rattle.segment_view.specs.LiveSegments.{heads_of}
 use Rattle.index_model.specs.State.{Index, State}
 use Rattle.std.specs.Option.{option_map}
@@ -260,28 +257,3 @@ reach_is k found = by (nat_lt (length (found_of found)) k) (nat_lt (length found
     by false false e = last_is found
     by true false e = absurd cc
     by false true e = absurd cc
-
--- the last of those found
-last_at : (found : List Near) (i : ℕ) (last : Near) → length found ≡ i + 1 → slice_get found i ≡ Some last → last_of found ≡ Some last.dist2
-last_at [] i last long is = absurd (omega (arith, long))
-last_at (n ∷ []) zero last long is = ap (λ (m : Near). Some m.dist2) (some_inj n last is)
-last_at (n ∷ []) (suc i) last long is = absurd (omega (arith, long))
-last_at (n ∷ (m ∷ ns)) zero last long is = absurd (omega (arith, long))
-last_at (n ∷ (m ∷ ns)) (suc i) last long is = last_at (m ∷ ns) i last (omega (arith, long)) is
-
--- where as many are found as are asked for, a query goes as far as the last
-pub reach_last : (k : ℕ) (found : List Near) (last : Near) → 1 ≤ length found → k ≤ length found → slice_get found (length found - 1) ≡ Some last
-    → Some last.dist2 ≡ reach k (found_of found)
-reach_last k found last some enough is =
-    let at : last_of found ≡ Some last.dist2 = last_at found (length found - 1) last (omega (arith, some)) is in
-    let far : bound_of k found ≡ last_of found = ap (λ (b : Bool). cond b None (last_of found)) (not_less (length found) k enough) in
-    sym (reach_is k found ∙ far ∙ at)
-  where
-    not_less : (m n : ℕ) → n ≤ m → nat_lt m n ≡ false
-    not_less m n le = grind (arith, nat_tests)
-
--- a shape that answers as another one did
-pub touched_as : (D : ℕ) (has other : List ℤ → Bool) (crosses others : Region → Bool) (heads : List Head) (n : ℕ) → other ≡ has → others ≡ crosses
-    → AreTouched D has crosses heads n → AreTouched D other others heads n
-touched_as D has other crosses others heads n same crossed is =
-    subst (λ (f : List ℤ → Bool). AreTouched D f others heads n) (sym same) (subst (λ (f : Region → Bool). AreTouched D has f heads n) (sym crossed) is)

@@ -41,20 +41,20 @@ module _ (D k : ℕ) (files : Files) (set : SetData) (at : List ℤ) (s : Scope)
       (subst (λ (o : Option ℕ). AreNearLeaves D at o s.heads t.touched) bound
       (subst (λ n. AreNearLeaves n at (reach k (nearest k at i.docs)) s.heads t.touched) (ap (λ (j : Index). j.dims) same ∙ e.seen.dims) tells.touches))
 
-  -- it is told as the survey and the query answer
-  pub near_told : (bound : Option ℕ) (heads : List Head) (found : List Near) (touched count : ℕ) (before after : List ℕ)
-      → AreNearLeaves D at bound heads touched → heads ≡ heads_of set.parts → bound ≡ reach k (found_of found)
+  -- it is told as the query answers
+  pub near_told : (found : List Near) (touched count : ℕ) (before after : List ℕ)
+      → AreNearLeaves D at (bound_of k found) (heads_of set.parts) touched
       → found_of found ≡ nearest k at e.index.docs → count ≡ length (found_of found) → after ≡ before ++ near_text touched count
       → IsTold (tells_near k at s) before after false
-  near_told bound heads found touched count before after leaves same is_bound found_is long grew = record {
+  near_told found touched count before after leaves found_is long grew = record {
     told = record { text = near_text touched count; refused = 0; touched = touched };
     tells = (
       e.index,
       e.state,
       record {
         touches = subst (λ n. AreNearLeaves n at (reach k (nearest k at e.index.docs)) s.heads touched) (sym e.seen.dims)
-            (subst (λ (hs : List Head). AreNearLeaves D at (reach k (nearest k at e.index.docs)) hs touched) (same ∙ e.heads)
-            (subst (λ (o : Option ℕ). AreNearLeaves D at o heads touched) (is_bound ∙ ap (reach k) found_is) leaves));
+            (subst (λ (hs : List Head). AreNearLeaves D at (reach k (nearest k at e.index.docs)) hs touched) e.heads
+            (subst (λ (o : Option ℕ). AreNearLeaves D at o (heads_of set.parts) touched) (sym (reach_is k found) ∙ ap (reach k) found_is) leaves));
         text = ap (near_text touched) (long ∙ ap length found_is);
         done = refl;
       },

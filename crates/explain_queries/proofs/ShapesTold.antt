@@ -27,7 +27,7 @@ shape_touches D files set has crosses s t e (i, is, tells) =
     subst (λ (hs : List Head). AreTouched D has crosses hs t.touched) (sym e.heads)
     (subst (λ n. AreTouched n has crosses s.heads t.touched) (ap (λ (j : Index). j.dims) (some_inj i e.index (sym is ∙ e.state)) ∙ e.seen.dims) tells.touches)
 
--- it is told as the survey and the visit answer
+-- it is told as the visit answers
 pub shape_told : (D : ℕ) (files : Files) (set : SetData) (has : List ℤ → Bool) (crosses : Region → Bool) (tested touched found : ℕ) (before after : List ℕ)
     (s : Scope) (e : IsExplaining D files set s)
     → AreTested D crosses (heads_of set.parts) tested → AreTouched D has crosses (heads_of set.parts) touched → found ≡ length (hits has e.index.docs)

@@ -3,11 +3,10 @@
 ghost use Rattle.std.specs.Prelude.{◌≡◌, ◌≢◌, ◌≤◌, ◌++◌, true, IsTrue, IfOk, OnErr, IsErrOf};
 ghost use Rattle.script_lang.specs.Replies.{line_fault_text, refused_text};
 ghost use Rattle.script_lang.specs.Seen.{IsWithinLimits, request_of};
-ghost use Rattle.documents.specs.Nearest.{found_of};
 ghost use Rattle.ring_parity.specs.Rings.{all_edges};
 ghost use Rattle.polygon_query.specs.Shape as polygons;
 ghost use Rattle.index_model.specs.Step.{in_plane_polygon};
-ghost use Rattle.explain_queries.specs.Explained.{Tells, TellsLine, TellsNear, TellsShape, bare, reach};
+ghost use Rattle.explain_queries.specs.Explained.{Tells, TellsLine, TellsNear, TellsShape, bare};
 ghost use Rattle.explain_queries.specs.Explains.{Explains, InScope};
 ghost use Rattle.run_status.specs.Told.{IsTold};
 
@@ -15,7 +14,7 @@ use crate::texts::{put_near, put_shape};
 use cell_relate::{BoxShape, Shape};
 use outer_io::Folder;
 use page_cache::PageFault;
-use point_codec::{Near, Point, View};
+use point_codec::{Point, View};
 use polygon_query::PolygonShape;
 use ring_parity::Rings;
 use script_lang::{
@@ -211,9 +210,8 @@ fn tell_shape<const D: usize, S: Shape<D>, F: Folder>(
           text = reply.new.items;
         }) result }
 {
-    let tally = set.survey(&View::Now, shape);
-    let hits = set.visit(alloc, folder, &View::Now, shape)?;
-    put_shape(reply, &tally, hits.len())?;
+    let found = set.visit(alloc, folder, &View::Now, shape)?;
+    put_shape(reply, &found.tally, found.docs.len())?;
     Ok(false)
 }
 
@@ -245,17 +243,6 @@ fn tell_near<const D: usize, F: Folder>(
         }) result }
 {
     let found = set.nearest(alloc, folder, &View::Now, at, k)?;
-    let touched = set.survey_near(&View::Now, at, reach(k, found.as_slice()));
-    put_near(reply, touched, found.len())?;
+    put_near(reply, found.touched, found.docs.len())?;
     Ok(false)
-}
-
-/// How far a query for so many goes that finds these: as far as the last, and over all where there are fewer.
-fn reach(k: u16, found: &[Near]) -> Option<u128>
-    ensures { result ≡ reach k (found_of found.now) }
-{
-    match found.last() {
-        Some(last) if found.len() >= usize::from(k) => Some(last.dist2),
-        _ => None,
-    }
 }

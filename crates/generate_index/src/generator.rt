@@ -241,7 +241,7 @@ fn ask_boxes<R: Threads + Sync, F: Folder, G: Gate>(
         let (lo, hi) = draws.corners();
         let mut shape = BoxShape::new(lo, hi);
         let found = session.hits_of(work.alloc, folder, &mut shape)?;
-        hits = hits.saturating_add(found.len() as u64);
+        hits = hits.saturating_add(found.docs.len() as u64);
         boxes += 1;
     }
     Ok(hits)
@@ -268,7 +268,7 @@ fn ask_nearest<R: Threads + Sync, F: Folder, G: Gate>(
     'queries: while queries < QUERIES {
         let at = draws.point();
         let found = session.nearest_to(work.alloc, folder, &at, NEAREST)?;
-        near = near.saturating_add(distances_of(found.as_slice()));
+        near = near.saturating_add(distances_of(found.docs.as_slice()));
         queries += 1;
     }
     Ok(near)

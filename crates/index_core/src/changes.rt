@@ -128,11 +128,11 @@ impl<const D: usize> Session<D> {
     {
         let mut shape = BoxShape::new(*lo, *hi);
         let hits = self.set.visit(alloc, folder, &View::Now, &mut shape)?;
-        let Ok(count) = u32::try_from(hits.len()) else {
+        let Ok(count) = u32::try_from(hits.docs.len()) else {
             return Err(PageFault::Memory);
         };
         put_deleted(out, count)?;
-        self.set.delete_all(hits.as_slice());
+        self.set.delete_all(hits.docs.as_slice());
         // its segments are all named
         let _leaf = self.set.leaf();
         Ok(Applied::Done)

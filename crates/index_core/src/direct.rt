@@ -20,8 +20,9 @@ use bkd_build::Gate;
 use cell_relate::Shape;
 use outer_io::Folder;
 use page_cache::PageFault;
-use point_codec::{Near, Point, Points, View};
+use point_codec::{Point, Points, View};
 use segment_set::AddFault;
+use segment_view::{Nearest, Visit};
 use std::alloc::Global;
 use std::marker::Sync;
 use std::thread::Threads;
@@ -170,9 +171,9 @@ impl<const D: usize> Session<D> {
         alloc: Global,
         folder: &mut F,
         shape: &mut S,
-    ) -> Result<Vec<u32>, PageFault>
+    ) -> Result<Visit, PageFault>
         ensures found { IsTrue F.told → (i : Index) → Sees D (F.files folder.old) self.old.set i
-            → IfOk result (λ v. v.items ≡ hits (S.has shape.old) i.docs) }
+            → IfOk result (λ v. v.docs.items ≡ hits (S.has shape.old) i.docs) }
         ensures seen { IsTrue F.told → (i : Index) → Sees D (F.files folder.old) self.old.set i
             → Sees D (F.files folder.new) self.new.set i }
         ensures guards { IsTrue F.told → Guards D (F.files folder.old) self.old
@@ -196,11 +197,11 @@ impl<const D: usize> Session<D> {
         folder: &mut F,
         at: &Point<D>,
         k: u16,
-    ) -> Result<Vec<Near>, PageFault>
+    ) -> Result<Nearest, PageFault>
         requires some { 1 ≤ k }
         requires few { k ≤ 10000 }
         ensures found { IsTrue F.told → (i : Index) → Sees D (F.files folder.old) self.old.set i
-            → IfOk result (λ v. found_of v.items ≡ nearest k at.now.c i.docs) }
+            → IfOk result (λ v. found_of v.docs.items ≡ nearest k at.now.c i.docs) }
         ensures seen { IsTrue F.told → (i : Index) → Sees D (F.files folder.old) self.old.set i
             → Sees D (F.files folder.new) self.new.set i }
         ensures guards { IsTrue F.told → Guards D (F.files folder.old) self.old

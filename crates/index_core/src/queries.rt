@@ -73,7 +73,7 @@ impl<const D: usize> Session<D> {
             return Ok(Applied::Refused(Refusal::UnknownSnapshot));
         }
         let hits = self.set.visit(alloc, folder, view, shape)?;
-        put_hits(out, hits.as_slice())?;
+        put_hits(out, hits.docs.as_slice())?;
         Ok(Applied::Done)
     }
 
@@ -154,7 +154,7 @@ impl<const D: usize> Session<D> {
             return Ok(Applied::Refused(Refusal::UnknownSnapshot));
         }
         let found = self.set.nearest(alloc, folder, view, at, k)?;
-        put_near(out, found.as_slice())?;
+        put_near(out, found.docs.as_slice())?;
         Ok(Applied::Done)
     }
 }

@@ -77,10 +77,10 @@ impl<const D: usize> SegmentSet<D> {
     {
         let mut shape = BoxShape::new(*lo, *hi);
         let hits = self.visit(alloc, folder, &View::Now, &mut shape)?;
-        let Ok(count) = u32::try_from(hits.len()) else {
+        let Ok(count) = u32::try_from(hits.docs.len()) else {
             return Err(PageFault::Memory);
         };
-        self.delete_all(hits.as_slice());
+        self.delete_all(hits.docs.as_slice());
         Ok(count)
     }
 

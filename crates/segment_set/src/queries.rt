@@ -3,6 +3,7 @@
 ghost use Rattle.std.specs.Prelude.{◌≡◌, ◌≤◌, ◌+◌, ◌*◌, ℕ, List, None, Some, length, IsTrue, IfOk};
 ghost use Rattle.point_codec.specs.Seen.{items_of};
 ghost use Rattle.point_codec.specs.declared.entries.Near.{Near};
+ghost use Rattle.cell_relate.specs.Relations.{KeepsShape};
 ghost use Rattle.page_cache.specs.Causes.{HasPageCause};
 ghost use Rattle.page_cache.specs.Evidence.{OnDamage};
 ghost use Rattle.documents.specs.Documents.{Document, hits};
@@ -12,24 +13,23 @@ ghost use Rattle.nearest_query.specs.Segments.{AreNearLeaves, bound_of};
 ghost use Rattle.script_lang.specs.Seen.{view_name};
 ghost use Rattle.index_model.specs.State.{Index, viewed_docs};
 ghost use Rattle.segment_view.specs.LiveSegments.{Contents, heads_of};
-ghost use Rattle.segment_view.specs.Costs.{AreTested, AreTouched, leaves_in};
+ghost use Rattle.segment_view.specs.Costs.{AreTested, AreTouched, IsTallyOf, leaves_in};
 
 use crate::buffer::Buffer;
 use crate::set::SegmentSet;
 use crate::snapshots::{Snapshot, snapshot_named};
-use bkd_reader::Tally;
 use cell_relate::Shape;
 use outer_io::Folder;
 use page_cache::PageFault;
-use point_codec::{Entry, Near, Point, View};
-use segment_view::Segments;
+use point_codec::{Entry, Point, View};
+use segment_view::{Nearest, Segments, Visit};
 use std::alloc::Global;
 
 impl<const D: usize> SegmentSet<D> {
     ghost use Rattle.segment_set.specs.Sets.{HasView, viewed_buffer, viewed_parts};
     ghost use Rattle.segment_set.specs.Effects.{ShowsLeafDamage};
     ghost use Rattle.segment_set.specs.Seen.{Sees, StandsOver, entries_seen};
-    ghost use Rattle.segment_set.specs.Kept.{KeepsShape, StaysButCache};
+    ghost use Rattle.segment_set.specs.Kept.{StaysButCache};
     ghost use Rattle.segment_set.specs.Faithful.{IsFaithful};
 
     /// The numbers of the view's documents that the shape has, ascending. Only leaves whose own cell is not outside
@@ -40,11 +40,13 @@ impl<const D: usize> SegmentSet<D> {
         folder: &mut F,
         view: &View,
         shape: &mut S,
-    ) -> Result<Vec<u32>, PageFault>
+    ) -> Result<Visit, PageFault>
         requires { HasView (view_name view.now) self.old }
         ensures found { IsTrue F.told → (i : Index) → Sees D (F.files folder.old) self.old i → (docs : List Document)
             → viewed_docs (view_name view.now) i ≡ Some docs
-            → IfOk result (λ v. v.items ≡ hits (S.has shape.old) docs) }
+            → IfOk result (λ v. v.docs.items ≡ hits (S.has shape.old) docs) }
+        ensures counts { IfOk result (λ v. IsTallyOf D (S.has shape.old) (S.crosses shape.old)
+            (heads_of (viewed_parts (view_name view.now) self.old)) v.tally) }
         // what stays
         ensures seen { IsTrue F.told → (i : Index) → Sees D (F.files folder.old) self.old i
             → Sees D (F.files folder.new) self.new i }
@@ -88,13 +90,16 @@ impl<const D: usize> SegmentSet<D> {
         view: &View,
         at: &Point<D>,
         k: u16,
-    ) -> Result<Vec<Near>, PageFault>
+    ) -> Result<Nearest, PageFault>
         requires view { HasView (view_name view.now) self.old }
         requires some { 1 ≤ k }
         requires few { k ≤ 10000 }
         ensures found { IsTrue F.told → (i : Index) → Sees D (F.files folder.old) self.old i → (docs : List Document)
             → viewed_docs (view_name view.now) i ≡ Some docs
-            → IfOk result (λ v. found_of v.items ≡ nearest k at.now.c docs) }
+            → IfOk result (λ v. found_of v.docs.items ≡ nearest k at.now.c docs) }
+        ensures touches { IsTrue F.told → (i : Index) → Sees D (F.files folder.old) self.old i
+            → IfOk result (λ v. AreNearLeaves D at.now.c (bound_of k v.docs.items)
+            (heads_of (viewed_parts (view_name view.now) self.old)) v.touched) }
         // what stays
         ensures seen { IsTrue F.told → (i : Index) → Sees D (F.files folder.old) self.old i
             → Sees D (F.files folder.new) self.new i }
@@ -135,55 +140,6 @@ impl<const D: usize> SegmentSet<D> {
             k,
             watched,
         )
-    }
-
-    /// What a visit of the view costs at most for this shape. It reads nothing and takes no memory.
-    pub fn survey<S: Shape<D>>(&self, view: &View, shape: &mut S) -> Tally
-        requires { HasView (view_name view.now) self.now }
-        ensures tested { AreTested D (S.crosses shape.old)
-            (heads_of (viewed_parts (view_name view.now) self.now)) result.tested }
-        ensures touched { AreTouched D (S.has shape.old) (S.crosses shape.old)
-            (heads_of (viewed_parts (view_name view.now) self.now)) result.touched }
-        ensures leaves { result.leaves ≡ leaves_in (heads_of (viewed_parts (view_name view.now) self.now)) }
-        ensures tests { S.tests shape.new ≡ S.tests shape.old }
-        ensures compares { S.compares shape.new ≤ S.compares shape.old + 2 * leaves_in
-            (heads_of (viewed_parts (view_name view.now) self.now)) }
-        ensures has { S.has shape.new ≡ S.has shape.old }
-        ensures crosses { S.crosses shape.new ≡ S.crosses shape.old }
-    {
-        let segments = segments_of(&self.segments, self.snapshots.as_slice(), view);
-        segment_view::survey(segments, shape)
-    }
-
-    /// How many leaves of the view have a cell whose least squared distance from the point is at most the bound; all,
-    /// where there is none.
-    /// It reads nothing and takes no memory.
-    pub fn survey_near(&self, view: &View, at: &Point<D>, bound: Option<u128>) -> u64
-        requires { HasView (view_name view.now) self.now }
-        ensures { AreNearLeaves D at.now.c bound (heads_of (viewed_parts (view_name view.now) self.now)) result }
-    {
-        let segments = segments_of(&self.segments, self.snapshots.as_slice(), view);
-        segment_view::survey_near(segments, at, bound)
-    }
-}
-
-ghost use Rattle.segment_set.specs.Sets.{IsThere, parts_at, buffer_at};
-
-/// The segments of a view: those of now, or those of a snapshot.
-fn segments_of<'a, const D: usize>(
-    segments: &'a Segments<D>,
-    snapshots: &'a [Snapshot<D>],
-    view: &View,
-) -> &'a Segments<D>
-    requires { IsThere (view_name view.now) snapshots.now }
-    ensures { result.now ≡ parts_at (view_name view.now) segments.now snapshots.now }
-{
-    match view {
-        View::Now => segments,
-        View::Named(name) => {
-            let snapshot = snapshot_named(snapshots, name);
-            &snapshot.segments
-        }
     }
 }
 

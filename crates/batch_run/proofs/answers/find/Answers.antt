@@ -24,8 +24,8 @@ of_whole-requires-clause-whole g c =
 pub returns-clause-reply : goal.returns-clause-reply
 returns-clause-reply g c = λ docs h.
     let live : List Item = live_in_parts h.contents c.args.segments.now in
-    let found : AreFound (g.S.Shape.has c.args.shape.now) (live ++ []) c.in_ok-found.found.items =
+    let found : AreFound (g.S.Shape.has c.args.shape.now) (live ++ []) c.in_ok-found.found.docs.items =
     rw c.in_ok-found.ensures at (c.visit-found.ensures.found refl c.requires.agrees h.contents h.read) in
     let are : AreDocs h.next (live ++ []) docs = subst (λ (xs : List Item). AreDocs h.next xs docs) (sym (append-nil live)) h.are_docs in
     ap (λ (numbers : List ℕ). Hits numbers)
-    (c.new.ensures ∙ c.docs_hits.ensures h.next (live ++ []) docs (g.S.Shape.has c.args.shape.now) c.in_ok-found.found.items are found.rises found.each)
+    (c.new.ensures ∙ c.docs_hits.ensures h.next (live ++ []) docs (g.S.Shape.has c.args.shape.now) c.in_ok-found.found.docs.items are found.rises found.each)

@@ -4,10 +4,6 @@ use Rattle.std.proofs.lemmas.List.{length-map}
 use Rattle.std.proofs.lemmas.Result.{err_from_is_err_and}
 use Rattle.page_cache.specs.declared.faults.PageFault.{PageFault}
 use Rattle.point_codec.specs.declared.entries.Near.{Near}
-use Rattle.documents.specs.Nearest.{found_of}
-use Rattle.segment_view.specs.LiveSegments.{heads_of}
-use Rattle.segment_set.specs.Sets.{SetData}
-use Rattle.explain_queries.specs.Explained.{reach}
 use Rattle.explain_queries.proofs.Explaining.{explains_done, explains_fault, explains_unsaid}
 use Rattle.explain_queries.proofs.Nearby.{near_told, near_touches, nearby, nearby_is}
 use Rattle.explain_queries.proofs.explain.tell_near.Goals as goal
@@ -58,8 +54,6 @@ returns g c =
       faithful = c.nearest.ensures.faithful;
       evident = c.in_ok-found.ensures.damaged.evident;
     })
-    (λ told s e. near_told g.row.D c.args.k _ _ c.args.at.now.c s e _ _ c.in_ok-found.found.items c.survey_near-touched.result c.len.result
-    _ _ c.survey_near-touched.ensures
-    (ap (λ (u : SetData). heads_of u.parts) c.nearest.ensures.alone.is) (c.reach.ensures ∙ ap (λ ns. reach c.args.k (found_of ns)) c.as_slice.ensures.value)
-    (c.in_ok-found.ensures.found told e.index e.seen e.index.docs refl)
-    (c.len.ensures ∙ c.in_ok-found.found.ok.0 ∙ sym (length-map c.in_ok-found.found.items (λ (n : Near). (n.dist2, n.doc)))) c.in_ok-put_near.ensures)
+    (λ told s e. near_told g.row.D c.args.k _ _ c.args.at.now.c s e c.in_ok-found.found.docs.items c.in_ok-found.found.touched c.len.result _ _
+    (c.in_ok-found.ensures.touches told e.index e.seen) (c.in_ok-found.ensures.found told e.index e.seen e.index.docs refl)
+    (c.len.ensures ∙ c.in_ok-found.found.docs.ok.0 ∙ sym (length-map c.in_ok-found.found.docs.items (λ (n : Near). (n.dist2, n.doc)))) c.in_ok-put_near.ensures)

@@ -32,7 +32,7 @@ boxes-preserved g c = record {
       let sees = (c.boxes.invariant.makes seed n).made told before in
       let few : n ≤ 2 ^ 24 = omega (arith, before.given, c.given-given.ensures.most) in
       let count : c.len.result ≡ length (hits (in_box c.new-shape.result.bounds) (made_docs seed n)) =
-      c.len.ensures ∙ (c.in_ok-found.found.ok.0 ∙ ap length (c.in_ok-found.ensures.found told (drawn_index seed n n) sees)) in
+      c.len.ensures ∙ (c.in_ok-found.found.docs.ok.0 ∙ ap length (c.in_ok-found.ensures.found told (drawn_index seed n n) sees)) in
       c.saturating_add-hits.ensures
       ∙ hits_more seed n c.boxes.boxes _ _ _ _ _ (ap (λ (a : CountedBox). a.bounds) c.new-shape.ensures) (c.corners.ensures.low seed (n + c.boxes.boxes) at)
       (c.corners.ensures.high seed (n + c.boxes.boxes) at) few c.boxes-test.true

@@ -71,7 +71,7 @@ returns-clause-applies g c = applies_seen _ _ _ _ _ _ _ _ _ _ _ c.self.view_is
     let docs = view_docs _ _ _ i (view_name c.args.view.now) seen has in
     does_answered _ _ _ i (view_name c.args.view.now) docs.0 _ _ _ docs.1 (c.nearest.ensures.seen told i seen)
     (c.in_ok-put_near.ensures.ok ∙ ap (λ xs. c.args.out.now.items ++ near_text xs)
-    (ap found_of c.as_slice.ensures.value ∙ sym (numbers_first c.in_ok-found.found.items)
+    (ap found_of c.as_slice.ensures.value ∙ sym (numbers_first c.in_ok-found.found.docs.items)
     ∙ ap (map (λ found. (found.1, found.0))) (c.in_ok-found.ensures.found told i seen docs.0 docs.1))))
     c.in_ok-put_near.ensures.ok c.in_ok-found.ensures.cause)
 

@@ -1,12 +1,12 @@
 -- What is found are the documents that the view shows.
-use Rattle.std.proofs.Common.{◌≡◌, ◌+◌, ◌*◌, ◌≤◌, List, length, sym, ap, subst, ◌∙◌, arith}
+use Rattle.std.proofs.Common.{◌≡◌, ◌+◌, ◌*◌, ◌≤◌, List, length, IfOk, sym, ap, subst, ◌∙◌, arith}
 use Rattle.std.proofs.lemmas.List.{length-map}
 use Rattle.point_codec.specs.Seen.{items_of}
 use Rattle.page_cache.specs.Cache.{Agrees}
 use Rattle.page_cache.specs.Evidence.{OnDamage}
 use Rattle.script_lang.specs.Seen.{view_name}
 use Rattle.segment_view.specs.LiveSegments.{LiveSegment, heads_of, ids_of}
-use Rattle.segment_view.specs.Costs.{AreTested, AreTouched, leaves_in}
+use Rattle.segment_view.specs.Costs.{AreTested, AreTouched, IsTallyOf, leaves_in}
 use Rattle.segment_view.specs.Calm.{IsCalm}
 use Rattle.segment_view.specs.Damages.{IsPartDamage}
 use Rattle.segment_view.proofs.Reading.{calm_cached}
@@ -77,7 +77,7 @@ invariant_of-self g c =
 
 pub returns-clause-found : goal.returns-clause-found
 returns-clause-found g c told i seen docs is =
-    looked_found (λ v. v.items) _ _ _ i (view_name c.args.view.now) _ _ _ docs (parts_are g c) (buffer_is g c) seen is _
+    looked_found (λ v. v.docs.items) _ _ _ i (view_name c.args.view.now) _ _ _ docs (parts_are g c) (buffer_is g c) seen is _
     (c.visit.ensures.found told (agreed g c i seen) seen.contents (looked_read _ _ _ i _ _ (parts_are g c) seen))
 
 pub returns-clause-seen : goal.returns-clause-seen
@@ -88,8 +88,11 @@ returns-clause-seen g c told i seen =
 pub returns-clause-alone : goal.returns-clause-alone
 returns-clause-alone g c = record { is = same g c ∙ (λ i. record (c.self.view_is i) { cache = c.visit.new.cache }) }
 
-pub returns-clause-shape : goal.returns-clause-shape
-returns-clause-shape g c = record { points = c.visit.ensures.has; cells = c.visit.ensures.crosses }
+pub returns-clause-counts : goal.returns-clause-counts
+returns-clause-counts g c =
+    subst (λ (ps : List LiveSegment).
+    IfOk c.visit.result (λ v. IsTallyOf g.row.D (g.S.Shape.has c.args.shape.now) (g.S.Shape.crosses c.args.shape.now) (heads_of ps) v.tally)) (parts_are g c)
+    c.visit.ensures.counts
 
 pub returns-clause-tests : goal.returns-clause-tests
 returns-clause-tests g c n are =
