@@ -18,6 +18,7 @@ ghost use Rattle.segment_view.specs.Costs.{AreTested, AreTouched, IsTallyOf, lea
 use crate::buffer::Buffer;
 use crate::set::SegmentSet;
 use crate::snapshots::{Snapshot, snapshot_named};
+use bkd_reader::Tally;
 use cell_relate::Shape;
 use outer_io::Folder;
 use page_cache::PageFault;
@@ -140,6 +141,55 @@ impl<const D: usize> SegmentSet<D> {
             k,
             watched,
         )
+    }
+
+    /// What a visit of the view costs at most for this shape. It reads nothing and takes no memory.
+    pub fn survey<S: Shape<D>>(&self, view: &View, shape: &mut S) -> Tally
+        requires { HasView (view_name view.now) self.now }
+        ensures tested { AreTested D (S.crosses shape.old)
+            (heads_of (viewed_parts (view_name view.now) self.now)) result.tested }
+        ensures touched { AreTouched D (S.has shape.old) (S.crosses shape.old)
+            (heads_of (viewed_parts (view_name view.now) self.now)) result.touched }
+        ensures leaves { result.leaves ≡ leaves_in (heads_of (viewed_parts (view_name view.now) self.now)) }
+        ensures tests { S.tests shape.new ≡ S.tests shape.old }
+        ensures compares { S.compares shape.new ≤ S.compares shape.old + 2 * leaves_in
+            (heads_of (viewed_parts (view_name view.now) self.now)) }
+        ensures has { S.has shape.new ≡ S.has shape.old }
+        ensures crosses { S.crosses shape.new ≡ S.crosses shape.old }
+    {
+        let segments = segments_of(&self.segments, self.snapshots.as_slice(), view);
+        segment_view::survey(segments, shape)
+    }
+
+    /// How many leaves of the view have a cell whose least squared distance from the point is at most the bound; all,
+    /// where there is none.
+    /// It reads nothing and takes no memory.
+    pub fn survey_near(&self, view: &View, at: &Point<D>, bound: Option<u128>) -> u64
+        requires { HasView (view_name view.now) self.now }
+        ensures { AreNearLeaves D at.now.c bound (heads_of (viewed_parts (view_name view.now) self.now)) result }
+    {
+        let segments = segments_of(&self.segments, self.snapshots.as_slice(), view);
+        segment_view::survey_near(segments, at, bound)
+    }
+}
+
+ghost use Rattle.segment_set.specs.Sets.{IsThere, parts_at, buffer_at};
+
+/// The segments of a view: those of now, or those of a snapshot.
+fn segments_of<'a, const D: usize>(
+    segments: &'a Segments<D>,
+    snapshots: &'a [Snapshot<D>],
+    view: &View,
+) -> &'a Segments<D>
+    requires { IsThere (view_name view.now) snapshots.now }
+    ensures { result.now ≡ parts_at (view_name view.now) segments.now snapshots.now }
+{
+    match view {
+        View::Now => segments,
+        View::Named(name) => {
+            let snapshot = snapshot_named(snapshots, name);
+            &snapshot.segments
+        }
     }
 }
 
