@@ -14,5 +14,5 @@ pub use both::beside;
 pub use merging::run_merging_batch;
 pub use run::run_batch;
 
-/// Want of memory.
+/// The error of a call for which no memory could be had.
 pub(crate) type Memory = std::alloc::AllocError;

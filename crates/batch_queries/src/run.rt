@@ -1,4 +1,4 @@
-//! The command `batch`.
+//! The command `batch`: all queries of the input are answered from a copy of the index, and then all is written.
 
 ghost use Rattle.std.specs.Prelude.{◌≡◌, ◌≤◌, ◌^◌, ℕ, Bool, List, length, IsTrue, IfOk, OnOk, IsOk};
 ghost use Rattle.outer_io.specs.Faults.{Rose};

@@ -33,7 +33,7 @@ pub(crate) struct Text {
 #[derive(Clone, Copy)]
 struct Line {
     refused: bool,
-    /// It is replied.
+    /// Whether it asks a query of the documents live now, whose reply is told.
     asks: bool,
 }
 
@@ -132,7 +132,7 @@ fn tell<const D: usize>(
     }
 }
 
-/// Appends a reply.
+/// Appends the text of a reply. Its line asks a query, and isn't refused.
 fn put_reply(reply: &Reply, text: &mut Vec<u8>) -> Result<Line, Memory>
     ensures text { OnOk result (text.new.items ≡ text.old.items ++ text_of_reply reply.now) }
     ensures line { IfOk result (λ l. (l.refused ≡ false) × (l.asks ≡ true)) }

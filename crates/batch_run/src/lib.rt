@@ -17,5 +17,5 @@ pub use batches::batch;
 pub use queries::{Docs, Nears, Query, Reply};
 pub use resident::Resident;
 
-/// Want of memory.
+/// The error of a call for which no memory could be had.
 pub type Memory = std::alloc::AllocError;

@@ -15,7 +15,7 @@ pub enum Query<const D: usize> {
     Nearest { k: u16, at: Point<D> },
 }
 
-/// Numbers of documents.
+/// A list of numbers of documents. Contracts see the numbers in their order.
 #[derive(Debug, Drop)]
 pub struct Docs {
     list: Vec<u32>,

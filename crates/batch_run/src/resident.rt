@@ -19,7 +19,7 @@ pub struct Resident<const D: usize> {
 }
 
 impl<const D: usize> Resident<D> {
-    /// The segments.
+    /// The segments with their live bits, as they were opened from the files.
     pub(crate) fn segments(&self) -> &Segments<D>
         ensures { result.now ≡ self.now.segments }
     {

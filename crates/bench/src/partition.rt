@@ -28,7 +28,7 @@ fn part(entries: &mut [Entry<2>], cell: &Cell<2>)
     part(right, &node.high);
 }
 
-/// Parts all entries.
+/// Parts the entries within the least cell round their points. Where there are none nothing is done.
 #[tactic(auto, using(bkd_build::proofs::Sides::cell_holds))]
 fn part_all(entries: &mut [Entry<2>])
     requires { AreEntries entries.old }

@@ -49,9 +49,9 @@ impl Centres {
 pub enum Walk {
     /// All points of each leaf's cell are in the shape.
     Inside,
-    /// Each entry is tested.
+    /// Each cell counts as crossed, so each entry is tested.
     Tested,
-    /// A drawn box.
+    /// Each walk has a box of its own, round a drawn centre.
     Boxes,
 }
 

@@ -4,7 +4,7 @@ use Rattle.std.specs.Prelude.{ℤ, pos, ◌+ℤ◌, ◌-ℤ◌, ◌≤ℤ◌, un
 use Rattle.std.specs.List.{Contains}
 use Rattle.point_codec.specs.Points.{Item, Region, in_box}
 
--- an item's coordinate d
+-- the coordinate of an item in dimension d, or 0 where it has none
 abbrev pub coordinate : ℕ → Item → ℤ
 coordinate d x = slice_index_or x.at d (pos 0)
 

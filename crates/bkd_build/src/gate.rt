@@ -10,7 +10,7 @@ pub trait Gate: Sync {
     fn pass(&self, piece: u32);
 }
 
-/// Lets everything pass.
+/// A gate that keeps no half waiting.
 #[derive(Clone, Copy, Debug)]
 pub struct OpenGate;
 

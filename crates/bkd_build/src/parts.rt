@@ -46,7 +46,7 @@ impl<const D: usize> BuiltSubtree<D> {
         })
     }
 
-    /// Adds an inner node.
+    /// Adds an inner node, of which the dimension and the value of the split are kept.
     pub(crate) fn push_node(&mut self, node: &Halving<D>) -> Result<(), Memory>
         requires { (1 ≤ D) × (D ≤ 8) }
         ensures { OnOk result

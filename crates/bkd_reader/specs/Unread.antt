@@ -19,7 +19,7 @@ abbrev pub AreKept : PageCache → Head → (such : Region → Type 0) → Spot 
 AreKept cache head such s (Leaf len own) = such own → IsKept cache head.id (page_of head s.page)
 AreKept cache head such s (Split d x l r) = AreKept cache head such s l × AreKept cache head such (right_begin s l r) r
 
--- such is any leaf
+-- any leaf, whatever its own cell
 abbrev pub IsAny : Region → Type 0
 IsAny own = Unit {0}
 

@@ -60,7 +60,7 @@ pub record ExplainCosts (source : Type 0) (lines : List (List ℕ)) (old new : F
   pub files : new ≡ old
   pub reads : source → ReadsFew old lines before now
 
--- nor does counting
+-- `count` changes no file either, and reads few pages where the input is told
 pub record CountCosts (source : Type 0) (lines : List (List ℕ)) (old new : Files) (before now : ℕ) : Type 0 where
   pub files : new ≡ old
   pub reads : source → counts.ReadsFew old lines before now

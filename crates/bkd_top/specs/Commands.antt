@@ -30,7 +30,7 @@ use Rattle.run_status.specs.declared.status.Status.TheVariants as status
 
 -- ---- what is asked
 
--- the input is read
+-- whether the command reads the input
 abbrev pub reads_input : Task → Bool
 reads_input (Run cache forks) = true
 reads_input (Load columns forks) = true
@@ -84,7 +84,7 @@ pub record Cuts (told : Type 0) (b : Before) (a : Answer) (files : Files) (new :
   pub text : told → WritesPart b.written new a.text
   pub stored : IsStored files a.state
 
--- nothing was done
+-- nothing was written, and what is stored is what was stored before
 pub record Rests (told : Type 0) (b : Before) (files : Files) (new : List ℕ) : Type 0 where
   pub text : told → new ≡ b.written
   pub stored : IsStored files b.state

@@ -1,4 +1,4 @@
-//! The command `check`.
+//! The command `check`: how large an index the listed files hold, or which damage comes first.
 
 ghost use Rattle.std.specs.Prelude.{◌≡◌, IsTrue};
 ghost use Rattle.outer_io.specs.Faults.{Rose};

@@ -196,7 +196,7 @@ fn explain_over<const D: usize, F: Folder, K: Sink>(
         (IsEvident (IsTrue F.told × IsCommitFile (bytes_of (F.files folder.old CommitName)) commit)
         (F.files folder.new)) }
 {
-    // nothing is built
+    // no segment is built, so no level forks
     let settings = Settings {
         cache_pages,
         forks: 0,

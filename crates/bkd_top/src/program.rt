@@ -1,4 +1,4 @@
-//! The top call.
+//! The top call, `run`: which command the words ask for, and the contract of the whole program.
 
 ghost use Rattle.std.specs.Prelude.{◌≡◌, ◌≤◌, ◌^◌, ◌⊎◌, [], length, map, Some, true, false, IsTrue, string_bytes};
 ghost use Rattle.index_model.specs.State.{State};

@@ -26,7 +26,7 @@ impl Bytes {
         Bytes { items: v }
     }
 
-    /// The bytes.
+    /// All the bytes in their order, borrowed.
     pub fn as_slice(&self) -> &[u8]
         ensures { result.now ≡ self.now }
     {

@@ -45,7 +45,7 @@ impl<'a> Cursor<'a> {
         self.bytes
     }
 
-    /// Takes one byte.
+    /// Takes the next byte. `Short` exactly where none is left; then nothing is taken.
     pub fn take_u8(&mut self) -> Result<u8, Short>
         ensures ok { IfOk result (λ n. cursor_rest self.old ≡ n ∷ cursor_rest self.new) }
         ensures short { IsErr result ↔ (length (cursor_rest self.old) < 1) }

@@ -1,4 +1,4 @@
-//! Cutting borrowed bytes.
+//! Cuts borrowed bytes in two without a copy, and says where they are too few.
 
 ghost use Rattle.std.specs.Prelude.{◌≡◌, ◌++◌, ℕ, List, length, IfSome, IsSomeAnd};
 

@@ -7,10 +7,10 @@ ghost use Rattle.byte_cursor.specs.Vint.{AppendsVint};
 use byteorder::{BigEndian, ByteOrder};
 use std::alloc::AllocError;
 
-/// Memory is wanting.
+/// The error of a call for which no memory could be had.
 pub type Memory = AllocError;
 
-/// Appends one byte.
+/// Appends one byte. For want of memory the bytes stay as they were.
 pub fn put_u8(out: &mut Vec<u8>, v: u8) -> Result<(), Memory>
     ensures ok { OnOk result (out.new.items ≡ out.old.items ++ v ∷ []) }
     ensures err { OnErr result (out.new.items ≡ out.old.items) }

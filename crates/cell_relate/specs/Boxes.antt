@@ -1,4 +1,4 @@
--- Boxes beside cells.
+-- How boxes lie to cells: whether they have a common point, and whether the box cuts the cell.
 use Rattle.std.specs.Prelude.{ℕ, Bool, not, ◌&&◌}
 use Rattle.point_codec.specs.Points.{Region, all_le}
 use Rattle.point_codec.specs.Cells.{within}

@@ -13,7 +13,7 @@ pub fn same_at<T: PartialEq + Debug + Drop>(rt: &impl Abort, left: T, right: T, 
     assert_eq!(rt; left, right, "at {at:?}");
 }
 
-/// Asserts that it holds.
+/// Fails the test unless `it` is true.
 pub fn holds(rt: &impl Abort, it: bool) {
     assert!(rt; it);
 }

@@ -1,4 +1,4 @@
-//! Values reckoned by hand.
+//! Tests of the widest dimension and of the cut, with values that were reckoned by hand.
 
 use crate::asserts::same;
 use crate::samples::entry;
@@ -17,11 +17,11 @@ fn widest_of(entries: &[Entry<2>]) -> usize {
 #[test]
 fn finds_the_widest_dimension(rt: HostRuntime) {
     let (a, b, c) = (entry(4, [5, 3]), entry(1, [-7, 9]), entry(2, [12, 4]));
-    // 19 and 6
+    // they reach over 19 and 6
     same(&rt, widest_of(&[a, b, c]), 0);
     // 19 and 19: the first one
     same(&rt, widest_of(&[a, b, c, entry(5, [0, -10])]), 0);
-    // 19 and 20
+    // they reach over 19 and 20
     same(&rt, widest_of(&[a, b, c, entry(6, [0, -11])]), 1);
     // the whole range of a coordinate
     same(

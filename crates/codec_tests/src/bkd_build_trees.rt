@@ -223,11 +223,11 @@ impl Gate for Counting {
 /// How many drawn entries, two in a leaf, how many levels are forked, and how many inner nodes stand on these levels:
 /// of each the left half passes once, and the right one once.
 const FORKED: [(u32, u8, u64); 10] = [
-    // one leaf, and two
+    // trees of one leaf and of two
     (2, 3, 0),
     (4, 0, 0),
     (4, 1, 1),
-    // two and two
+    // two leaves on each side of the root
     (8, 1, 1),
     (8, 2, 3),
     (8, 3, 3),

@@ -24,7 +24,7 @@ const VINTS: [(&[u8], Result<u32, VintFault>); 20] = [
     // a group of zero at the end
     (&[0x80, 0x00], Err(VintFault::NotCanonical)),
     (&[0xff, 0x80, 0x00], Err(VintFault::NotCanonical)),
-    // 2^32, and six bytes
+    // 2^32, and a fifth byte that says that more follow
     (
         &[0x80, 0x80, 0x80, 0x80, 0x10],
         Err(VintFault::NotCanonical),
@@ -37,7 +37,7 @@ const VINTS: [(&[u8], Result<u32, VintFault>); 20] = [
         &[0x80, 0x80, 0x80, 0x80, 0x80, 0x01],
         Err(VintFault::NotCanonical),
     ),
-    // no end
+    // no byte that ends the number
     (&[], Err(VintFault::Short)),
     (&[0x80], Err(VintFault::Short)),
     (&[0xff, 0xff, 0xff, 0xff], Err(VintFault::Short)),

@@ -1,4 +1,4 @@
-//! Outside vectors.
+//! Indexes in the three forms with bytes from outside of the code: these are read, and changed ones are refused.
 
 use crate::asserts::{holds_at, same};
 use crate::samples::{OWN, PACKED, TABLE};

@@ -111,7 +111,7 @@ fn cleared_numbers(rt: HostRuntime) -> Result<(), Fail> {
 /// seven numbers that stay.
 type Kept = (&'static [u32], Option<u32>, usize, &'static [u32]);
 
-/// What is asked for.
+/// The seven numbers of which each row says which stay; 3 is there twice.
 const ASKED: [u32; 7] = [5, 3, 8, 3, 4, 6, 7];
 
 const KEPT: [Kept; 10] = [
@@ -126,7 +126,7 @@ const KEPT: [Kept; 10] = [
     (&[3, 4, 5, 6, 7, 8], Some(5), 0, &[3, 8, 3, 4, 6, 7]),
     (&[3, 4, 5, 6, 7, 8], Some(7), 2, &[5, 3, 8, 3, 4, 6]),
     (&[3, 4, 5, 6, 7, 8], Some(3), 2, &[5, 3, 8, 4, 6, 7]),
-    // none is live
+    // of numbers that aren't live only those stay that are passed over
     (&[], None, 0, &[]),
     (&[5], Some(5), 3, &[5, 3, 8]),
 ];

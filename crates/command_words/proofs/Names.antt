@@ -1,4 +1,4 @@
--- Names between commas.
+-- The names between the commas of an option: which texts are a list of names, and that such a list is read as it is.
 use Rattle.std.proofs.Common.{◌≡◌, ◌∙◌, ◌+◌, ◌<◌, ◌≤◌, ◌&&◌, ◌==◌, ap, ap₂, sym, subst, zero, suc, ℕ, Bool, true, false}
 use Rattle.std.proofs.Common.{not, List, [], ◌∷◌, ◌++◌, length, map, take, get_or, arith, nat_le, refl, Some, None, Option}
 use Rattle.std.specs.List.{All, list_all, slice_split}

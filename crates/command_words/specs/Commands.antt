@@ -26,7 +26,7 @@ pub data Task : Type 0 where
 
 -- ---- the options
 
--- `--name TEXT`
+-- an option `--name TEXT`, of any text
 abbrev pub text_option : List ℕ → Rule
 text_option name = record (new_rule name) { long = Some name }
 
@@ -35,7 +35,7 @@ abbrev pub number_option : List ℕ → ℕ → ℕ → Rule
 number_option name least greatest =
     record (text_option name) { parser = Some (parser.Signed (pos least) (pos greatest)) }
 
--- `--name`, without a value
+-- an option `--name` that is there or not, and has no value
 abbrev pub flag : List ℕ → Rule
 flag name = record (text_option name) { action = Some SetTrue }
 
@@ -199,7 +199,7 @@ task_in (folder ∷ []) = None
 task_in (folder ∷ name ∷ options) =
     option_and_then (λ form. task_by form (name ∷ options)) (find (λ form. bytes_eq name form.name) forms)
 
--- what is answered
+-- the task that words that were read stand for
 abbrev pub task_of : Words → Task
 task_of (words.Run cache_pages forks) = Run cache_pages forks
 task_of (words.Load columns forks) = Load columns.items forks

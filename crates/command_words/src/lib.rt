@@ -26,7 +26,7 @@ pub enum Words {
     Load { columns: Vec<Bytes>, forks: u8 },
     /// Counts what queries would touch.
     Explain { cache_pages: u32 },
-    /// Looks at every file.
+    /// Reads every page of the files that the commit lists.
     Check,
     /// Makes an index of 1 to 1,000,000 drawn points, from a seed of 1 to 2,147,483,646.
     Generate { docs: u32, seed: u32, forks: u8 },

@@ -139,7 +139,7 @@ fn are_names(parts: &[&str]) -> bool
     (parts.len() <= MOST_COLUMNS) & parts.iter().all(|part| !part.is_empty())
 }
 
-/// The same texts, owned.
+/// Copies of the texts, in their order. Only want of memory is answered as a fault.
 fn bytes_of(alloc: Global, parts: &[&str]) -> Result<Vec<Bytes>, WordsFault>
     ensures texts { IfOk result (λ texts. texts.items ≡ map (λ part. part.now) parts.now) }
     ensures memory { result ≢ Err WordsFault.Usage }

@@ -48,7 +48,7 @@ pub(crate) fn read_load(alloc: Global, words: &[String]) -> Result<Words, WordsF
     })
 }
 
-/// `explain [--cache N]`
+/// Reads the words `explain [--cache N]`. Where no `N` is given it is `CACHE_PAGES`.
 pub(crate) fn read_explain(alloc: Global, words: &[String]) -> Result<Words, WordsFault>
     ensures words { IfOk result (λ w. task_by explain (map string_bytes words.now) ≡ Some (task_of w)) }
     ensures usage { result ≡ Err WordsFault.Usage → task_by explain (map string_bytes words.now) ≡ None }
@@ -61,7 +61,7 @@ pub(crate) fn read_explain(alloc: Global, words: &[String]) -> Result<Words, Wor
     })
 }
 
-/// `check`
+/// Reads the word `check`, which has no options.
 pub(crate) fn read_check(alloc: Global, words: &[String]) -> Result<Words, WordsFault>
     ensures words { IfOk result (λ w. task_by check (map string_bytes words.now) ≡ Some (task_of w)) }
     ensures usage { result ≡ Err WordsFault.Usage → task_by check (map string_bytes words.now) ≡ None }
@@ -99,7 +99,7 @@ pub(crate) fn read_session(alloc: Global, words: &[String]) -> Result<Words, Wor
     })
 }
 
-/// `count [--cache N]`
+/// Reads the words `count [--cache N]`. Where no `N` is given it is `CACHE_PAGES`.
 pub(crate) fn read_count(alloc: Global, words: &[String]) -> Result<Words, WordsFault>
     ensures words { IfOk result (λ w. task_by count (map string_bytes words.now) ≡ Some (task_of w)) }
     ensures usage { result ≡ Err WordsFault.Usage → task_by count (map string_bytes words.now) ≡ None }
@@ -126,7 +126,7 @@ pub(crate) fn read_ranges(alloc: Global, words: &[String]) -> Result<Words, Word
     })
 }
 
-/// `batch [--forks N] [--merge]`
+/// Reads the words `batch [--forks N] [--merge]`. Where no `N` is given it is `FORK_LEVELS`.
 pub(crate) fn read_batch(alloc: Global, words: &[String]) -> Result<Words, WordsFault>
     ensures words { IfOk result (λ w. task_by batch (map string_bytes words.now) ≡ Some (task_of w)) }
     ensures usage { result ≡ Err WordsFault.Usage → task_by batch (map string_bytes words.now) ≡ None }

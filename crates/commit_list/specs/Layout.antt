@@ -29,7 +29,7 @@ spell_numbers h =
 unfoldable pub spell_head : Head → List ℕ
 spell_head h = magic h.layout ++ spell_numbers h
 
--- a listed segment
+-- the bytes of a listed segment: its id, generation, entries and live entries, 24 in all
 unfoldable pub spell_listed : Listed → List ℕ
 spell_listed s =
     to_be_bytes w64 s.segment ++ (to_be_bytes w64 s.generation ++ (to_be_bytes w32 s.entries ++ to_be_bytes w32 s.live))

@@ -1,4 +1,4 @@
-//! The commit.
+//! What a commit holds: the list of the segments of an index, with the numbers that hold for all of them.
 
 ghost use Rattle.std.specs.Prelude.{◌≡◌};
 ghost use Rattle.commit_list.specs.Commits.{CommitData, IsCommit};
@@ -72,7 +72,7 @@ impl Commit {
         }
     }
 
-    /// The number of dimensions.
+    /// The number of dimensions, 1 to 8.
     pub fn dims(&self) -> u8
         ensures value { result ≡ self.now.dims }
         ensures commit { IsCommit self.now }
@@ -88,7 +88,7 @@ impl Commit {
         self.leaf
     }
 
-    /// The next document number.
+    /// The number of the next document, which is at most the number of points given.
     pub fn next(&self) -> u32
         ensures value { result ≡ self.now.next }
         ensures commit { IsCommit self.now }
@@ -104,7 +104,7 @@ impl Commit {
         self.given
     }
 
-    /// The next segment id.
+    /// The id of the next segment, which is above those of all listed ones.
     pub fn next_segment(&self) -> u64
         ensures value { result ≡ self.now.next_segment }
         ensures commit { IsCommit self.now }

@@ -23,9 +23,9 @@ const MOST_SEGMENTS: u16 = 200;
 /// The two layouts of a body.
 #[derive(Clone, Copy, Debug, PartialEq, Eq)]
 pub(crate) enum Layout {
-    /// Without the points given.
+    /// It has no field for the points given, and is only read.
     First,
-    /// With the points given.
+    /// It has a field for the points given, and is what is written.
     Second,
 }
 

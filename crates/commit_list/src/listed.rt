@@ -11,7 +11,7 @@ use point_codec::MOST_POINTS;
 /// A segment in the list of a commit.
 #[derive(Clone, Copy, Debug, PartialEq, Eq)]
 pub struct Listed {
-    /// The segment's id.
+    /// The id of the segment, by which its files are named.
     pub segment: u64,
     /// The generation of its live bits.
     pub generation: u64,
@@ -55,7 +55,7 @@ pub(crate) fn are_listed(next_segment: u64, listed: &[Listed]) -> bool
     true
 }
 
-/// Takes a listed segment.
+/// Takes the 24 bytes of a listed segment. None only where fewer are left.
 #[tactic(auto, unfolding(crate::specs::Layout::spell_listed))]
 pub(crate) fn take_listed(cursor: &mut Cursor<'_>) -> Option<Listed>
     ensures taken { IfSome result (λ s. cursor_rest cursor.old ≡ spell_listed s ++ cursor_rest cursor.new) }

@@ -1,4 +1,4 @@
-//! Reading a body.
+//! Reads the body of a commit, in either layout, and says by its first bytes how long it is.
 
 ghost use Rattle.std.specs.Prelude.{◌≢◌, ◌*◌, ℕ, length, IfOk, IfSome, IfNone, MatchOption};
 ghost use Rattle.commit_list.specs.Layout.{BeginsBody, SpellsCommit, HasNoCommit, SpellsList};

@@ -1,4 +1,4 @@
-//! Writing a body.
+//! Spells the body of a commit, always in the second layout.
 
 ghost use Rattle.std.specs.Prelude.{◌≡◌, ◌<◌, ◌++◌, ◌^◌, All, IfOk, OnOk};
 ghost use Rattle.std.specs.List.{flat_map};

@@ -11,7 +11,7 @@ use Rattle.script_lang.specs.declared.faults.LineFault.{LineFault}
 use Rattle.script_lang.specs.declared.faults.LineFault.TheVariants as fault
 use Rattle.point_counts.specs.Grids.{Plan, plan_of}
 
--- what a line asks
+-- what a line of the command `count` asks
 pub data Ask : Type 0 where
   -- nothing: a line without words, or a note
   Blank : Ask

@@ -67,7 +67,7 @@ fn behind_verb<const D: usize>(verb: &str, words: Words<'_>) -> Result<Wanted<D>
     Err(LineFault::Unknown)
 }
 
-/// `LO HI`
+/// Reads what stands behind `points`: `LO HI`, the corners of a box.
 #[tactic(auto, unfolding(crate::specs::Asks::read_points))]
 fn points<const D: usize>(words: Words<'_>) -> Result<Wanted<D>, LineFault>
     requires some { 1 ≤ D }

@@ -10,7 +10,7 @@ use denote.Ref.{Bor}
 abbrev pub bytes_left : Reader (Bor (List ℕ)) → List ℕ
 bytes_left reader = unwrap_or (source_of (λ s. Some s.now) reader) []
 
--- the records in them
+-- the records that a reader over a slice has to give of the bytes that are left
 abbrev pub records_left : Reader (Bor (List ℕ)) → List (List (List ℕ))
 records_left reader =
     records_from default_config (length (bytes_left reader) + 1) (reader_state reader) (bytes_left reader)

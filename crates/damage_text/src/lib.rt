@@ -9,7 +9,7 @@ use page_cache::Damage;
 use std::alloc::AllocError;
 use std::fmt::Write;
 
-/// Want of memory.
+/// The error of a call for which no memory could be had.
 pub type Memory = AllocError;
 
 /// Appends what is said of a damage: the name of the file, or the number of the document, and what is wrong with it.

@@ -16,5 +16,5 @@ pub use placing::misplaced;
 use std::alloc::AllocError;
 pub use told::Misplaced;
 
-/// Memory is wanting.
+/// The error of a call for which no memory could be had.
 pub type Memory = AllocError;

@@ -13,7 +13,7 @@ entry_of number at = record { doc = number; at = at }
 abbrev pub entries_of : Document → List Item
 entries_of d = map (entry_of d.number) d.points
 
--- those of each document
+-- the entries of all documents, in their order
 abbrev pub entries_in : List Document → List Item
 entries_in docs = flat_map entries_of docs
 

@@ -1,4 +1,4 @@
-//! A document in memory.
+//! A document in memory, which owns a copy of its points.
 
 ghost use Rattle.std.specs.Prelude.{◌≡◌, ◌≤◌, IfOk};
 ghost use Rattle.point_codec.specs.Points.{ArePoints};
@@ -8,7 +8,7 @@ use point_codec::{Point, Points};
 use std::alloc::{AllocError, Global};
 use std::marker::Model;
 
-/// Want of memory.
+/// The error of a call for which no memory could be had.
 pub type Memory = AllocError;
 
 /// A document that is held in memory: its number and its points.

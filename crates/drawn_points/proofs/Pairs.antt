@@ -1,4 +1,4 @@
--- Two draws a point.
+-- The two draws that make a point, and where the draws stand behind it.
 use Rattle.std.proofs.Common.{◌≡◌, ◌∙◌, ◌+◌, ◌*◌, suc, ap, ap₂, sym, ℕ, List, [], ◌∷◌, arith, add-one}
 use Rattle.drawn_points.specs.Draws.{coordinate, draw, next, point}
 

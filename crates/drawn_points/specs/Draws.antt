@@ -2,7 +2,7 @@
 use Rattle.std.specs.Prelude.{ℕ, zero, suc, ◌+◌, ◌*◌, ◌%◌, List, [], ◌∷◌, map, ℤ, pos, ◌-ℤ◌}
 use Rattle.std.specs.List.{range_with_len}
 
--- the draw after x
+-- the draw that comes after the draw x, or after the seed x
 abbrev pub next : ℕ → ℕ
 next x = 48271 * x % 2147483647
 

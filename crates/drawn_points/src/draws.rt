@@ -1,17 +1,17 @@
-//! The generator.
+//! The generator of drawn points: each draw is a product of the one before, modulo a prime.
 
 use point_codec::Point;
 use std::marker::Model;
 
 const FACTOR: u64 = 48_271;
 
-/// A prime.
+/// The prime 2^31 - 1, modulo which the draws are reckoned.
 const MODULUS: u64 = 2_147_483_647;
 
 /// How many values a coordinate has.
 const VALUES: u32 = 200_001;
 
-/// The greatest coordinate.
+/// The greatest coordinate that is drawn; the least is as far below 0.
 const GREATEST: i32 = 100_000;
 
 /// How far a box reaches from its middle.
@@ -43,7 +43,7 @@ impl Draws {
         Draws { x: seed }
     }
 
-    /// The next draw.
+    /// Makes the next draw, and answers it.
     fn draw(&mut self) -> u32
         ensures value { result ≡ next self.old }
         ensures after { self.new ≡ next self.old }

@@ -20,7 +20,7 @@ pub fn documents_added()
     ensures more { (seed n : ℕ) → documents seed (n + 1) ≡ documents seed n ++ document seed n ∷ [] }
 {}
 
-/// And every tenth goes.
+/// Of ten numbers from a multiple of 10 on only the first one's document goes.
 pub fn documents_deleted()
     ensures none { (seed n : ℕ) → kept_docs 0 (documents seed n) ≡ documents seed n }
     ensures more { (seed n bound : ℕ) → bound % 10 ≡ 0

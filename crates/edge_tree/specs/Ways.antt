@@ -9,7 +9,7 @@ use Rattle.edge_tree.specs.declared.outline.Bounds.{Bounds}
 use Rattle.edge_tree.specs.declared.stretch.Stretch.{Stretch}
 use Rattle.edge_tree.specs.Outlines.{IsBoxed}
 
--- exactly one of two
+-- just one of the two is true
 abbrev pub differ : Bool → Bool → Bool
 differ a b = not (beq a b)
 

@@ -61,7 +61,7 @@ impl Locator {
         })
     }
 
-    /// The edges alone.
+    /// The tree of the edges, without what is known of a cell.
     pub fn tree(&self) -> &EdgeTree
         ensures { result.now ≡ self.now }
     {

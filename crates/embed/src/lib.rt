@@ -50,7 +50,7 @@ pub struct Places {
 }
 
 impl Places {
-    /// No places.
+    /// An index without places. No folder is touched before a line is asked.
     pub fn new(alloc: Global) -> Result<Places, PlacesFault> {
         let Ok(session) = Session::create(alloc, LEAF, SETTINGS) else {
             return Err(PlacesFault::Index(PageFault::Memory));

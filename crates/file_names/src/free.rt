@@ -1,4 +1,4 @@
-//! Which names are free.
+//! How new names are numbered: which segment's id and which generation of live bits are still free.
 
 ghost use Rattle.std.specs.Prelude.{◌≡◌, ◌<◌, ◌≤◌, ◌-◌, ◌^◌, false, length, max};
 ghost use Rattle.std.specs.List.{reduce};

@@ -1,4 +1,4 @@
-//! The list of names.
+//! The list of the names of a set's files: new ones join it at its end, and removed ones leave it.
 
 ghost use Rattle.std.specs.Prelude.{◌≡◌, ◌<◌, ◌≤◌, [], ◌∷◌, ◌++◌, true, false, not, filter, IfOk, OnOk, OnErr};
 ghost use Rattle.std.specs.Fn.{CalledAt};
@@ -13,7 +13,7 @@ use outer_io::FileName;
 use std::alloc::{AllocError, Global};
 use std::marker::Model;
 
-/// Want of memory.
+/// The error of a call for which no memory could be had.
 pub type Memory = AllocError;
 
 /// The names of the files that a set of segments took over from a commit or began to write, and hasn't removed; and

@@ -18,7 +18,7 @@ enum Call {
     Remove(FileName),
 }
 
-/// What a call answers.
+/// What a call answers, in one type for all kinds of calls.
 #[derive(Clone, Copy, PartialEq, Eq, Debug)]
 enum Answer {
     Done,

@@ -72,7 +72,7 @@ pub fn fault_told(fault: &PageFault) -> Told {
     }
 }
 
-/// What an answer tells.
+/// What is told of an answer: `Fine` of any value, and of a fault what `fault_told` says.
 pub fn answer_told<T: Drop>(answer: Result<T, PageFault>) -> Told {
     match answer {
         Ok(_) => Told::Fine,

@@ -1,4 +1,4 @@
-//! The generated index.
+//! Makes an index of drawn documents in a folder that has none, and says what drawn queries find in it.
 
 ghost use Rattle.std.specs.Prelude.{◌≡◌, ◌≤◌, ◌<◌, ◌^◌, ◌+◌, ◌-◌, ◌*◌, ℕ, cond, true, length, None, IsTrue, IfOk, OnOk};
 ghost use Rattle.std.specs.List.{sum_by};

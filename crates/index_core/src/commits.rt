@@ -208,7 +208,7 @@ impl<const D: usize> Session<D> {
         }
     }
 
-    /// Commits, and answers so.
+    /// Does the line `commit`: commits, and appends `ok` to `out` where that is done.
     pub(crate) fn commit_line<R: Threads + Sync, F: Folder, G: Gate>(
         &mut self,
         rt: &R,

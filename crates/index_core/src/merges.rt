@@ -92,7 +92,7 @@ impl<const D: usize> Session<D> {
         begin_answer(self.set.merge_begin(rt, alloc, folder, which, gate))
     }
 
-    /// Ends the begun merge.
+    /// Does the line `merge end`, which is refused where no merge is begun.
     pub(crate) fn merge_end<F: Folder>(
         &mut self,
         alloc: Global,

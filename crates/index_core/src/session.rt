@@ -1,4 +1,4 @@
-//! The session.
+//! The session: an index that is kept in a folder, with the calls that start one and that do a command on it.
 
 ghost use Rattle.std.specs.Prelude.{◌≡◌, ◌≤◌, ◌+◌, List, [], None, Some, false, IsTrue, IfOk};
 ghost use Rattle.outer_io.specs.Files.{Files};

@@ -25,7 +25,7 @@ pub record Index : Type 0 where
 abbrev pub State : Type 0
 State = Option Index
 
--- a new index
+-- an index of so many dimensions and this leaf size, to which nothing was added yet
 abbrev pub new_index : ℕ → ℕ → Index
 new_index dims leaf = record { dims = dims; leaf = leaf; next = 0; given = 0; docs = []; snapshots = []; begun = false }
 

@@ -9,7 +9,7 @@ use Rattle.inner_pack.specs.Bodies.{first_length}
 use Rattle.inner_pack.specs.declared.place.LeafPlace.{LeafPlace}
 use Rattle.inner_pack.specs.Heads.{placed_of}
 
--- where the leaf ends
+-- the leaf page of the leaf, and the offset behind its last byte
 abbrev pub end_at : LeafPlace → Spot
 end_at p = record { page = p.page; offset = p.offset + p.length }
 

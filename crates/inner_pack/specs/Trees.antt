@@ -26,7 +26,7 @@ abbrev pub lengths_of : IndexTree → List ℕ
 lengths_of (Leaf n own) = n ∷ []
 lengths_of (Split d x l r) = lengths_of l ++ lengths_of r
 
--- their own cells
+-- the own cells of the leaves, from left to right
 abbrev pub own_cells : IndexTree → List Region
 own_cells (Leaf n own) = own ∷ []
 own_cells (Split d x l r) = own_cells l ++ own_cells r

@@ -108,7 +108,7 @@ impl<const D: usize> Index<D> {
         self.form
     }
 
-    /// The number of leaves.
+    /// How many leaves the index has a place for.
     pub fn leaves(&self) -> u32
         ensures { result ≡ self.now.leaves }
     {

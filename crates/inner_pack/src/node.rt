@@ -22,7 +22,7 @@ pub struct NodeAt<'a, const D: usize> {
     pub(crate) leaves: u32,
     /// Which of the leaves in order is its first one.
     pub(crate) first: u32,
-    /// Where that leaf begins.
+    /// The leaf page in which that leaf begins, and its offset in the payload.
     pub(crate) page: u32,
     pub(crate) offset: u16,
     /// Of a leaf its own cell, of an inner node the root cell as the splits on the way cut it.

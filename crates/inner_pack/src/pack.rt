@@ -224,7 +224,7 @@ fn put_node<const D: usize>(
     let head = HeadFields {
         dimension,
         at,
-        // The pages ascend.
+        // not below 0, since the pages of leaves in order ascend
         pages: right.places[0].page.saturating_sub(part.places[0].page),
         offset: right.places[0].offset,
         left: (out.len() - before) as u32,

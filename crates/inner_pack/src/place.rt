@@ -1,4 +1,4 @@
-//! Where leaves stand.
+//! Where leaves stand in the leaf pages of a segment, and where the next one fits.
 
 ghost use Rattle.std.specs.Prelude.{◌≡◌, ◌≤◌, ◌+◌, ◌<◌, ◌^◌};
 ghost use Rattle.inner_pack.specs.Places.{leaf_begin, leaf_end};

@@ -5,7 +5,7 @@ use std::alloc::Global;
 use std::fmt::Write;
 use std::test::Fail;
 
-/// Two columns.
+/// The names of two columns that are loaded.
 fn columns(alloc: Global, first: &[u8], second: &[u8]) -> Result<[Bytes; 2], Fail> {
     Ok([
         Bytes::new(first.to_vec(alloc)?),

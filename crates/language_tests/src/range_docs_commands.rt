@@ -30,7 +30,7 @@ fn asked_of_two(alloc: Global, line: &[u8]) -> Result<BoxQuery<4>, Fail> {
     Ok((view, lo, hi))
 }
 
-/// The same of three.
+/// What a line where ranges have three dimensions asks of a box.
 fn asked_of_three(alloc: Global, line: &[u8]) -> Result<BoxQuery<6>, Fail> {
     let Command::InBox { view, lo, hi } = read_range_line(alloc, line)? else {
         return Err("no box")?;

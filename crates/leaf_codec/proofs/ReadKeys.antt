@@ -1,4 +1,4 @@
--- Reading keys from words.
+-- A coordinate that is read from words of four bytes is the one that the parts of its key spell.
 use Rattle.std.proofs.Common.{◌≡◌, ◌<◌, ◌≤◌, ◌+◌, ◌-◌, ◌*◌, ◌^◌, ℕ, zero, suc, Bool, true, false, List, [], ◌∷◌, ◌++◌, length, get_or, take, drop}
 use Rattle.std.proofs.Common.{refl, sym, ap, ◌∙◌, arith, cond, eqb, inl, inr, length-take, length-drop, length-append, mul-le-mul_right, drop-drop}
 use Rattle.std.specs.Prelude.{bit_and, All}

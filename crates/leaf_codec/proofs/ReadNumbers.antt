@@ -1,4 +1,4 @@
--- Reading numbers from words.
+-- An offset that is read from words of four bytes, or as its place in a row, is the one that the bytes spell.
 use Rattle.std.proofs.Common.{◌≡◌, ◌≢◌, ◌<◌, ◌≤◌, ◌+◌, ◌-◌, ◌*◌, ◌^◌, ℕ, zero, suc, min, max, Bool, below_more, ◌⊎◌, true, false, List, [], ◌∷◌, length}
 use Rattle.std.proofs.Common.{get_or, take, drop, refl, sym, ap, ◌∙◌, arith, cond, eqb, inl, inr, length-take, length-drop, mul-le-mul_right, drop-drop}
 use Rattle.std.specs.Prelude.{bit_and, All}

@@ -10,7 +10,7 @@ use Rattle.point_codec.specs.Keys.{key}
 unfoldable pub key_of : ℕ → Item → List ℕ
 key_of d x = key (slice_index_or x.at d (pos 0))
 
--- byte i of it
+-- byte i of the item's key in dimension d
 abbrev pub key_byte : ℕ → ℕ → Item → ℕ
 key_byte d i x = slice_index (key_of d x) i
 

@@ -10,7 +10,7 @@ pub struct ByteSet {
 }
 
 impl ByteSet {
-    /// No value was seen.
+    /// The empty set: none of the 256 values was seen.
     pub fn new() -> ByteSet
         ensures { (v : ℕ) → slice_index_or result.seen v false ≡ false }
     {

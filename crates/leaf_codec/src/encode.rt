@@ -1,4 +1,4 @@
-//! Writing a leaf.
+//! Spells a leaf of entries in bytes, in the one way that there is for them.
 
 ghost use Rattle.std.specs.Prelude.{◌≡◌, ◌≤◌, ◌<◌, ◌^◌, ℕ, length, All, IfOk, map, unwrap_or};
 ghost use Rattle.std.specs.List.{range_with_len};

@@ -47,7 +47,7 @@ pub fn leading<const D: usize>(parts: &Parts) -> usize
     if parts.sorted < D { parts.sorted } else { 0 }
 }
 
-/// Entry `i`.
+/// Entry `i` of the leaf: its document's number and its point.
 fn entry<const D: usize>(numbers: &Numbers, parts: &Parts, slots: &Slots<D>, i: usize) -> Entry<D>
     requires readable { IsReadable D numbers.now parts.now slots.now }
     requires within { i < numbers.now.count }

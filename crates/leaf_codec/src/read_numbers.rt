@@ -16,9 +16,9 @@ use point_codec::MOST_POINTS;
 /// The numbers of a leaf in their bytes.
 #[derive(Clone, Copy)]
 pub struct Numbers<'a> {
-    /// How many numbers.
+    /// How many numbers the leaf has, one for each entry.
     pub count: usize,
-    /// The least number.
+    /// The least of the numbers, which is stored once and less which they are spelled.
     pub least: u32,
     /// How many bytes each number takes, less the least. 0: the numbers are a row.
     pub width: usize,
@@ -28,10 +28,10 @@ pub struct Numbers<'a> {
     pub mask: u32,
 }
 
-/// Numbers less the least.
+/// What is seen of all numbers of a leaf, each less the least.
 #[derive(Drop)]
 struct Span {
-    /// The greatest of them.
+    /// The greatest of the numbers, less the least.
     greatest: u32,
     /// Whether 0 is among them.
     from_least: bool,
@@ -53,7 +53,7 @@ impl<'a> Numbers<'a> {
         self.wide_offset(i)
     }
 
-    /// Number `i`.
+    /// The document's number of entry `i`: the least one and the offset that the bytes give.
     pub fn number(&self, i: usize) -> u32
         requires numbers { IsNumbers self.now }
         requires within { i < self.now.count }

@@ -16,7 +16,7 @@ use point_codec::{Point, from_sortable};
 /// What the bytes of a leaf say of its keys.
 #[derive(Clone, Copy)]
 pub struct Parts<'a> {
-    /// How many entries.
+    /// How many entries the leaf has.
     pub count: usize,
     /// The length of each dimension's shared prefix.
     pub lengths: &'a [u8],

@@ -1,4 +1,4 @@
-//! The greatest leaf.
+//! The greatest number of entries of a leaf, which depends on the number of dimensions.
 
 ghost use Rattle.std.specs.Prelude.{◌≡◌, ◌≤◌};
 ghost use Rattle.leaf_codec.specs.Leaves.{leaf_limit};

@@ -93,7 +93,7 @@ impl<'a, const D: usize> LeafView<'a, D> {
         }
     }
 
-    /// The number of entries.
+    /// How many entries the leaf has.
     pub fn count(&self) -> u16
         ensures { result ≡ length self.now }
     {

@@ -26,7 +26,7 @@ pub fn put_numbers<const D: usize>(out: &mut Vec<u8>, entries: &[Entry<D>]) -> R
     put_offsets(out, entries, least, width)
 }
 
-/// The least number.
+/// The least number of the entries, of which there is at least one.
 fn least<const D: usize>(entries: &[Entry<D>]) -> u32
     requires dims { D ≤ 8 }
     requires some { 1 ≤ length entries.now }
@@ -39,7 +39,7 @@ fn least<const D: usize>(entries: &[Entry<D>]) -> u32
     least
 }
 
-/// The greatest number.
+/// The greatest number of the entries, or 0 where there is none.
 fn greatest<const D: usize>(entries: &[Entry<D>]) -> u32
     requires { D ≤ 8 }
     ensures { result ≡ greatest (docs_of entries.now) }

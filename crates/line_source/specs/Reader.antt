@@ -22,7 +22,7 @@ KnowsEnd r left = r.has_ended ≡ true → left ≡ []
 abbrev pub lines_left : LineReader → List ℕ → List (List ℕ)
 lines_left r left = lines_of (waiting r ++ left)
 
--- nothing was read yet
+-- the reader holds no bytes, and hasn't seen the end
 abbrev pub IsUnread : LineReader → Type 0
 IsUnread r = (waiting r ≡ []) × (r.has_ended ≡ false)
 

@@ -10,7 +10,7 @@ pub enum ReadFault {
     /// The source failed, and counted it.
     #[error("the source failed")]
     Failed,
-    /// Want of memory.
+    /// There was not enough memory for the line.
     #[error("out of memory")]
     Memory,
 }

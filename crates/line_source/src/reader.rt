@@ -1,4 +1,4 @@
-//! The reader.
+//! The reader that gives the lines of a source, and holds one piece of it at most.
 
 ghost use Rattle.std.specs.List.{position_or_len};
 ghost use Rattle.std.specs.Prelude.{◌≡◌, ◌==◌, ◌≤◌, ◌<◌, ◌+◌, ◌^◌, ◌++◌, ℕ, List, length, take, vec_len, IfOk, OnOk};

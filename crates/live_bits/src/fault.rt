@@ -6,7 +6,7 @@ ghost use Rattle.live_bits.specs.declared.fault.BitsFault.TheVariants.{Memory};
 use byte_cursor::Bytes;
 use std::alloc::AllocError;
 
-/// Memory is wanting.
+/// The error of a call for which no memory could be had.
 pub type Memory = AllocError;
 
 /// Why live bits were not read.
@@ -14,7 +14,7 @@ pub type Memory = AllocError;
 pub enum BitsFault {
     /// The bytes are no body for this segment and generation. They are handed back.
     NotBits { b: Bytes },
-    /// Memory is wanting.
+    /// There was not enough memory; nothing is said of the bytes.
     Memory,
 }
 

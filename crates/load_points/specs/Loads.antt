@@ -44,7 +44,7 @@ pub record Loads (told trusts : Type 0) (Starts : State → Type 0) (answer : St
 
 -- ---- where it starts
 
--- no index is there
+-- the folder has no commit, so no index is stored
 abbrev pub StartsNone : Files → State → Type 0
 StartsNone files stored = (stored ≡ None) × (files Commit ≡ None)
 

@@ -1,4 +1,4 @@
-//! Files that are refused.
+//! Refuses a CSV file for its own fault, or for another number of columns than the index has dimensions.
 
 ghost use Rattle.std.specs.Prelude.{◌≡◌, ◌≢◌, ◌≤◌, ◌<◌, ℕ, true, length, Ok, Err};
 ghost use Rattle.std.specs.Prelude.{IfErr, OnOk, List, ℤ};

@@ -1,4 +1,4 @@
--- Leaves in their segments.
+-- A leaf in its segment's file holds one list of entries, on a page that is one for its place.
 use Rattle.std.proofs.Common.{◌≡◌, ℕ, List}
 use Rattle.point_codec.specs.Points.{Item, Region}
 use Rattle.leaf_codec.proofs.ReadLeaf.{one_leaf}

@@ -1,4 +1,4 @@
--- Facts carried over results.
+-- What holds in any case holds of a result's value.
 use Rattle.std.proofs.Common.{Result, Ok, Err}
 use Rattle.std.specs.Prelude.{OnOk}
 

@@ -12,7 +12,7 @@ use Rattle.inner_pack.specs.declared.node.NodeAt.{NodeAt}
 use Rattle.nearest_query.specs.declared.frontier.Waiting.{Waiting}
 use Rattle.nearest_query.specs.Segments.{least_dist2}
 
--- the nearest comes first
+-- the order of turns, in which the nearer one is the greater, as the first of a heap
 abbrev pub wait_cmp : Waiting → Waiting → Ordering
 wait_cmp a b = nat_cmp b.dist2.0 a.dist2.0
 

@@ -24,7 +24,7 @@ pub struct Candidates {
 impl Candidates {
     ghost use Rattle.nearest_query.specs.Best.{AreBest, found_of};
 
-    /// No number yet.
+    /// No number yet, and `room` places.
     pub fn new(alloc: Global, room: usize) -> Candidates
         requires { 1 ≤ room }
         ensures room { result.many.room ≡ room }

@@ -42,7 +42,7 @@ fn is_full_before(nears: &[Near], room: usize, near: &Near) -> bool
     }
 }
 
-/// Where the number stands.
+/// The place of a number among the nearest. None exactly where it isn't there.
 fn place_of(nears: &[Near], doc: u32) -> Option<usize>
     ensures some { IfSome result
         (λ i. (i < length nears.now) × ((d : Near) → (slice_index_or nears.now i d).doc ≡ doc)) }

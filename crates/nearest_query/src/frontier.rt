@@ -51,7 +51,7 @@ impl<'a, const D: usize> Model for Frontier<'a, D> {
 impl<'a, const D: usize> Frontier<'a, D> {
     ghost use Rattle.nearest_query.specs.Fronts.{IsWaiting, leaf_sum, sum_below};
 
-    /// No node yet.
+    /// A frontier in which no node waits.
     pub fn new(alloc: Global) -> Frontier<'a, D>
         requires { D ≤ 8 }
         ensures { result ≡ record { turns = []; nodes = [] } }
@@ -62,7 +62,7 @@ impl<'a, const D: usize> Frontier<'a, D> {
         }
     }
 
-    /// Lets a node wait.
+    /// Lets a node of the segment wait, by how far its cell is from the point.
     pub fn push(
         &mut self,
         segment: usize,

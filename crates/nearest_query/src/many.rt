@@ -24,7 +24,7 @@ pub struct Many {
 impl Many {
     ghost use Rattle.nearest_query.specs.Best.{near_cmp, AreKept, IsInserted};
 
-    /// No number yet.
+    /// No number yet, and `room` places.
     pub fn new(alloc: Global, room: usize) -> Many
         requires { 1 ≤ room }
         ensures room { result.room ≡ room }

@@ -33,7 +33,7 @@ impl Model for Queue {
 }
 
 impl Queue {
-    /// No turn yet.
+    /// A queue in which no turn waits.
     pub fn new(alloc: Global) -> Queue
         ensures { result ≡ [] }
     {
@@ -43,7 +43,7 @@ impl Queue {
         }
     }
 
-    /// Adds a turn.
+    /// Adds a turn. For want of memory the queue stays as it was.
     pub fn push(&mut self, turn: Waiting) -> Result<(), AllocError>
         ensures put { OnOk result (IsPermutation (turn ∷ self.old) self.new) }
         ensures same { OnErr result (self.new ≡ self.old) }

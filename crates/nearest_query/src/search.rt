@@ -1,4 +1,4 @@
-//! The search, best first.
+//! The search: waiting nodes are opened, the nearest first, until none can have an entry among the nearest.
 
 ghost use Rattle.std.specs.Prelude.{◌≡◌, ◌≤◌, ◌<◌, ◌+◌, ℕ, List, [], ◌∷◌, length, All, IsTrue, true, OnOk, sum_by};
 ghost use Rattle.std.specs.Prelude.{Option};

@@ -6,7 +6,7 @@ use Rattle.outer_io.specs.FileMap.{files_of}
 use Rattle.outer_io.specs.Plan.{FaultPlan}
 use Rattle.outer_io.specs.Calls.{plan_of}
 
--- its files
+-- the files that the folder keeps in memory
 abbrev pub folder_files : MemFolder → Files
 folder_files f = files_of f.files
 

@@ -17,7 +17,7 @@ plan_from fail stop = record { fail = fail; stop = stop; made = 0 }
 abbrev pub CallStops : FaultPlan → Type 0
 CallStops plan = IsSomeAnd plan.stop (λ first. first ≤ plan.made)
 
--- the next call fails
+-- the next call fails, by its number or since the calls stop
 abbrev pub CallFails : FaultPlan → Type 0
 CallFails plan = Contains plan.fail plan.made ⊎ CallStops plan
 

@@ -20,7 +20,7 @@ pub(crate) struct Calls {
 /// What becomes of a call.
 #[derive(Clone, Copy)]
 pub(crate) enum Fate {
-    /// It is done.
+    /// It does its work, and doesn't fail by plan.
     Done,
     /// It fails, perhaps in the middle of its work.
     Torn,

@@ -1,4 +1,4 @@
-//! Copying what fits.
+//! Copies bytes into a buffer as far as they fit, for sources and folders in memory.
 ghost use Rattle.std.specs.Prelude.{◌≡◌, ◌++◌, length, min, take, drop};
 
 /// Copies as many bytes as there are and fit to the front of the buffer, and answers how many.

@@ -30,7 +30,7 @@ pub enum ReadAll {
     /// More bytes than the limit are left.
     #[error("too many bytes")]
     TooLarge,
-    /// Want of memory.
+    /// There was not enough memory for the bytes.
     #[error("out of memory")]
     Memory,
 }

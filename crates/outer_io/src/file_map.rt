@@ -8,7 +8,7 @@ ghost use Rattle.outer_io.specs.Names.{same_name};
 use crate::file_name::FileName;
 use std::alloc::{AllocError, Global};
 
-/// A file in memory.
+/// A file that is kept in memory: its name and its bytes.
 #[derive(Drop)]
 pub(crate) struct Entry {
     name: FileName,

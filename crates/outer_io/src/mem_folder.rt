@@ -1,4 +1,4 @@
-//! A folder in memory.
+//! A folder that keeps its files in memory, and can be told which of its calls fail.
 ghost use Rattle.std.specs.Prelude.{◌≡◌, ◌/◌, ◌≤◌, ◌++◌, ◌↔◌, ◌⊎◌, None, Some, true, length, take, drop, option_map};
 ghost use Rattle.std.specs.Prelude.{IfOk, OnOk, OnErr, IsErr, IsErrOf, IsTrue};
 ghost use Rattle.outer_io.specs.Counts.{RisesByOne};

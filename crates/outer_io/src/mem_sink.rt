@@ -1,4 +1,4 @@
-//! A sink in memory.
+//! A sink that keeps its bytes in memory, and can be told which of its calls fail.
 ghost use Rattle.std.specs.Prelude.{◌≡◌, ◌+◌, ◌≤◌, ◌<◌, ◌++◌, ◌↔◌, ◌⊎◌, [], None, true, length, take, min, vec_len};
 ghost use Rattle.std.specs.Prelude.{vec_capacity, IfOk, OnErr, IsErr, IsTrue};
 ghost use Rattle.outer_io.specs.Counts.{RisesByOne};

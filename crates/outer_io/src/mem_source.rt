@@ -1,4 +1,4 @@
-//! A source in memory.
+//! A source over bytes in memory, which can be told which of its calls fail.
 ghost use Rattle.std.specs.Prelude.{◌≡◌, ◌≤◌, ◌<◌, ◌++◌, ◌↔◌, [], None, true, length, take, min, vec_len, IfOk, OnErr};
 ghost use Rattle.std.specs.Prelude.{IsErr, IsTrue};
 ghost use Rattle.outer_io.specs.Counts.{RisesByOne};

@@ -1,4 +1,4 @@
-//! Where bytes go.
+//! Sinks, to which bytes are written once, and the call that writes all bytes of a slice to one.
 ghost use Rattle.std.specs.Prelude.{◌≡◌, ℕ, ◌≤◌, ◌<◌, Bool, List, ◌++◌, length, take, IsTrue, IfOk, OnOk, OnErr};
 ghost use Rattle.outer_io.specs.Faults.{HasCause};
 ghost use Rattle.outer_io.specs.Parts.{WritesPart};

@@ -1,4 +1,4 @@
-//! Where bytes come from.
+//! Sources, from which bytes are read once, and the call that reads one to its end.
 ghost use Rattle.std.specs.Prelude.{◌≡◌, ℕ, ◌≤◌, ◌<◌, Bool, List, [], ◌++◌, length, take, vec_len, IsTrue, IfOk, OnOk};
 ghost use Rattle.std.specs.Prelude.{OnErr, IsErr, IsErrOf};
 ghost use Rattle.outer_io.specs.Faults.{HasCause, HasReadAllCause};

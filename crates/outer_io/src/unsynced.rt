@@ -53,7 +53,7 @@ impl Unsynced {
         self.names.push(name).unwrap();
     }
 
-    /// Forgets the first file.
+    /// Takes out the first file, which was written before the others.
     pub(crate) fn drop_first(&mut self)
         requires { 0 < vec_len self.old.names }
         ensures items { self.new.names.items ≡ drop 1 self.old.names.items }
@@ -69,7 +69,7 @@ impl Unsynced {
         self.names.retain(|name| !name.is(n));
     }
 
-    /// Forgets all files.
+    /// Takes out all files, so that none waits for a barrier.
     pub(crate) fn clear(&mut self)
         ensures { self.new.names.items ≡ [] }
     {

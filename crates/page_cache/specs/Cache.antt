@@ -12,7 +12,7 @@ use Rattle.page_cache.specs.Evidence.{IsPageOf}
 unfoldable pub Keeps : PageCache → ℕ → ℕ → List ℕ → Type 0
 Keeps c id number bytes = KeepsIn c.pages.entries (page_key id number) bytes
 
--- it keeps this page
+-- the cache keeps this page of the segment's file, with whatever bytes
 unfoldable pub IsKept : PageCache → ℕ → ℕ → Type 0
 IsKept c id number = (bytes : List ℕ) × Keeps c id number bytes
 

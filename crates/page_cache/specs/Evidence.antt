@@ -83,7 +83,7 @@ pub record HasOtherSize (asks : List ℕ → ℕ → Type 0) (files : Files) (fi
   pub asked : asks (payload_of (page_at (bytes_of (files file)) 0)) pages
   pub needs : needed ≡ 4096 * pages
 
--- one of the two
+-- the file is too short for a page, or has another size than its first page asks for
 abbrev pub IsSizeOf : (asks : List ℕ → ℕ → Type 0) → Files → FileName → (size needed : ℕ) → Type 0
 IsSizeOf asks files file size needed = IsShort files file size needed ⊎ HasOtherSize asks files file size needed
 

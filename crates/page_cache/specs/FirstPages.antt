@@ -10,7 +10,7 @@ use Rattle.page_cache.specs.FilePages.{page_at, IsFilePage}
 unfoldable pub first_name : FirstPage → FileName
 first_name p = p.name
 
--- its payload
+-- the payload of the first page
 unfoldable pub first_payload : FirstPage → List ℕ
 first_payload p = payload_of p.page.value.b
 

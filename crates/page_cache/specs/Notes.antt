@@ -17,6 +17,6 @@ noted_cell n = record { lo = take n.dims n.lo; hi = take n.dims n.hi }
 unfoldable pub Fits : LeafNote → List ℕ → Type 0
 Fits n page = n.dims ≢ 0 → HasLeaf n.dims page n.offset n.length n.count (noted_cell n)
 
--- all the notes fit
+-- each note that is of a leaf is of one that the page has
 abbrev pub AllFit : List LeafNote → List ℕ → Type 0
 AllFit notes page = (n : LeafNote) → Contains notes n → Fits n page

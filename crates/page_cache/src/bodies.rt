@@ -1,4 +1,4 @@
-//! Bodies written into pages.
+//! Cuts a body into payloads, and seals each as a page of its file.
 
 ghost use Rattle.std.specs.Prelude.{◌≡◌, ◌≤◌, ◌<◌, ◌+◌, ◌^◌, length, take, drop, vec_len, vec_capacity};
 ghost use Rattle.std.specs.Prelude.{OnOk, OnErr, IfOk};

@@ -5,7 +5,7 @@ use outer_io::{Failed, FileName, WriteFault};
 use page_file::PageBytes;
 use std::alloc::AllocError;
 
-/// Memory is wanting.
+/// The error of a call for which no memory could be had.
 pub type Memory = AllocError;
 
 /// Why something stored wasn't read.
@@ -15,7 +15,7 @@ pub enum PageFault {
     Failed,
     /// The files are not what was written.
     Damaged(Damage),
-    /// Memory is wanting.
+    /// There was not enough memory; nothing is said of the files.
     Memory,
 }
 
@@ -43,7 +43,7 @@ pub enum Damage {
         file: FileName,
         bytes: Bytes,
     },
-    /// The file isn't there.
+    /// There is no file of this name, though it is needed.
     Missing {
         file: FileName,
     },

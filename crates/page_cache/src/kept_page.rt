@@ -30,7 +30,7 @@ impl Model for KeptPage {
 }
 
 impl KeptPage {
-    /// The page without notes.
+    /// The page as it came, no leaf of which is noted.
     pub fn new(page: Box<PageBytes>) -> KeptPage
         ensures { result ≡ fresh page }
     {
@@ -48,7 +48,7 @@ impl KeptPage {
         &self.page
     }
 
-    /// The page alone.
+    /// Gives the page back. What was noted of its leaves is lost.
     pub fn into_page(self) -> Box<PageBytes>
         ensures { result ≡ self.page }
     {

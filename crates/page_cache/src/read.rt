@@ -29,7 +29,7 @@ pub(crate) fn place_of(name: &FileName) -> (u8, u64)
     }
 }
 
-/// Room for a page.
+/// A page of zeros, which is room to read one.
 fn blank_page(alloc: Global) -> Result<Box<PageBytes>, Memory> {
     Ok(Box::new(alloc, PageBytes { b: [0; PAGE_LEN] })?)
 }

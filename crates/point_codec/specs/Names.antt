@@ -1,4 +1,4 @@
--- The names of snapshots.
+-- The names of snapshots: which bytes are a name, and how a name is kept in 32 bytes.
 use Rattle.std.specs.Prelude.{ℕ, ◌≡◌, ◌≤◌, ◌-◌, Bool, true, ◌&&◌, ◌||◌, List, ◌++◌, length, take, drop, replicate}
 use Rattle.std.specs.Prelude.{nat_le, ◌==◌}
 use Rattle.std.proofs.Common.{arith, take-append-drop, length-take-le}

@@ -1,4 +1,4 @@
--- Elements put in order.
+-- The different elements of a list in ascending order.
 use Rattle.std.specs.Prelude.{List, map}
 use Rattle.std.specs.declared.cmp.Ordering.{Ordering}
 use Rattle.std.specs.FinMap.{keys, from_entries}

@@ -5,7 +5,7 @@ use Rattle.point_codec.specs.declared.coordinates.Point.{Point}
 use Rattle.point_codec.specs.declared.boxes.Cell.{Cell}
 use Rattle.point_codec.specs.declared.entries.Entry.{Entry}
 
--- the coordinates of points
+-- the points, each as the list of its coordinates
 abbrev pub coordinates_of : {D : ℕ} → List (Point D) → List (List ℤ)
 coordinates_of points = map (λ p. p.c) points
 

@@ -10,7 +10,7 @@ use std::marker::Model;
 #[derive(Clone, Copy, PartialEq, Eq, Debug)]
 pub struct Name {
     len: u8,
-    // the name, then zeros
+    // the `len` bytes of the name, then zeros
     bytes: [u8; 32],
 }
 
@@ -91,7 +91,7 @@ fn is_name_byte(b: u8) -> bool
 /// What a query looks at: the live documents, or a snapshot.
 #[derive(Clone, Copy, PartialEq, Eq, Debug)]
 pub enum View {
-    /// The documents live now.
+    /// The documents that are live at the time of the query.
     Now,
     /// The documents that were live when the snapshot of this name was taken.
     Named(Name),

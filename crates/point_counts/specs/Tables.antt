@@ -32,7 +32,7 @@ is_at box place k at = in_box box at && place at == k
 abbrev pub all_at : Region → (List ℤ → ℕ) → List Item → ℕ → ℕ
 all_at box place entries k = count_by (λ e. is_at box place k e.at) entries
 
--- how many live ones
+-- how many entries with live numbers have their point at each place
 abbrev pub live_at : Region → (List ℤ → ℕ) → LiveSet → List Item → ℕ → ℕ
 live_at box place live entries k = count_by (λ e. is_live live e.doc && is_at box place k e.at) entries
 

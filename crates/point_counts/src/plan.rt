@@ -1,4 +1,4 @@
-//! Plans of grids.
+//! Plans of grids: how a box is cut into buckets, and in which of them a point is counted.
 
 ghost use Rattle.std.specs.Prelude.{◌≡◌, ◌≤◌, ◌<◌, ◌+◌, ◌*◌};
 ghost use Rattle.point_counts.specs.Grids.{IsMadeFor, plan_of, bucket_count, steps_between};

@@ -17,7 +17,7 @@ pub(crate) enum Lie {
     Outside,
     /// The box has all points of the cell, and they are counted at one place.
     At(usize),
-    /// Neither may be so.
+    /// The box's edge may cut the cell, or its points may be counted at several places.
     Parted,
 }
 
@@ -37,7 +37,7 @@ pub(crate) trait Sorting<const D: usize> {
         ensures { MatchOption result (in_box (bounds self.now) p.now.c ≡ false)
             (λ k. (in_box (bounds self.now) p.now.c ≡ true) × (k ≡ place self.now p.now.c)) };
 
-    /// How the cell lies.
+    /// How a cell lies to the box and to the places at which its points are counted.
     fn lie_of(&self, c: &Cell<D>) -> Lie
         ensures { LiesAs (bounds self.now) (place self.now) (parts self.now) (region_of c.now) result };
 

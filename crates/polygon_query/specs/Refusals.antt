@@ -1,4 +1,4 @@
--- Refusals of a text.
+-- Why a text is refused: for the fault that was read, or for want of memory.
 use Rattle.std.specs.Prelude.{◌≡◌, ⊤, Result, Err}
 use Rattle.polygon_query.specs.declared.geo_json.GeoFault.{GeoFault}
 use Rattle.polygon_query.specs.declared.geo_json.GeoRefused.{GeoRefused}

@@ -39,7 +39,7 @@ pub enum GeoFault {
 pub enum GeoRefused {
     /// The text has this fault.
     Fault(GeoFault),
-    /// Memory was wanted.
+    /// There was not enough memory; nothing is said of the text.
     Memory,
 }
 

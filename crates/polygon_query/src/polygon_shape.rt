@@ -14,7 +14,7 @@ use ring_parity::Rings;
 use std::alloc::{AllocError, Global};
 use std::marker::Model;
 
-/// Want of memory.
+/// The error of a call for which no memory could be had.
 pub type Memory = AllocError;
 
 /// A polygon with the number of questions that were asked of it. It has the points on its edges and those that the

@@ -84,7 +84,7 @@ fn answers_what_scripts_leave(rt: HostRuntime) -> Result<(), Fail> {
 const CITIES: &str =
     "name,lon,lat\nBerlin,13404954,52520008\nParis,2352222,48856613\nRome,12496366,41902782\n";
 
-/// Queries of them.
+/// A query of each kind over the cities: a box, the nearest one, and a polygon.
 const OF_CITIES: &str = "box 0 45000000 15000000 55000000\nnearest 1 12000000 42000000\n\
 polygon {\"type\":\"Polygon\",\"coordinates\":[[[0,40000000],[20000000,40000000],[20000000,50000000],\
 [0,50000000],[0,40000000]]]}\n";

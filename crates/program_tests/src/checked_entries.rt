@@ -40,7 +40,7 @@ const OK: &str = "ok dims 1 leaf 2 next 4 live 4 segments 1\n";
 
 /// The number of the last entry, how many points were given, and what is answered.
 const ROWS: [(u8, u8, &str); 5] = [
-    // it isn't live
+    // number 4, which isn't live
     (4, 4, OK),
     // number 0 has two points, and there is one more than was given
     (0, 4, "commit.bkd says 4, found 5"),
@@ -50,7 +50,7 @@ const ROWS: [(u8, u8, &str); 5] = [
     (2, 4, "document 2 twice"),
 ];
 
-/// The segment's file.
+/// The file of the segment: its head, its index and its leaves, on a page each.
 fn segment(alloc: Global) -> Result<Vec<u8>, Fail> {
     let mut body = HEAD.as_slice().to_vec(alloc)?;
     body.resize(4064, 0)?;
@@ -87,7 +87,7 @@ fn changed(alloc: Global, number: u8, given: u8) -> Result<MemFolder, Fail> {
 #[test]
 fn entries_of_other_numbers(rt: HostRuntime) -> Result<(), Fail> {
     for (number, given, want) in ROWS {
-        // opening reads no leaf
+        // opening reads no leaf, so it doesn't show this
         let mut folder = changed(rt.alloc(), number, given)?;
         assert_said(&rt, rt.alloc(), &mut folder, want, false)?;
     }

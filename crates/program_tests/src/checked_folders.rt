@@ -23,7 +23,7 @@ const LIVE: FileName = FileName::Live {
     generation: 1,
 };
 
-/// How many documents.
+/// How many documents there are, one more than a leaf has entries.
 const COUNT: u32 = 334;
 
 /// Two dimensions, leaves of 333, next 334, given 334, next segment 1, and the segment: 0 of generation 1, 334
@@ -107,9 +107,9 @@ type Change = (FileName, &'static [(usize, &'static [u8])]);
 /// What is changed, what is answered, and whether opening shows it.
 const RESEALED: [(&[Change], &str, bool); 8] = [
     (&[], OK, false),
-    // its first byte
+    // another first byte of the commit
     (&[(FileName::Commit, &[(0, b"b")])], "commit.bkd body", true),
-    // 335 entries
+    // a commit that says 335 entries
     (
         &[(FileName::Commit, &[(45, &[0, 0, 1, 0x4f])])],
         "seg-0000000000000000.bkd says 335, found 334",
@@ -121,13 +121,13 @@ const RESEALED: [(&[Change], &str, bool); 8] = [
         "live-0000000000000000-0000000000000001.bkd says 334, found 333",
         true,
     ),
-    // next 300
+    // a commit where the next number is 300
     (
         &[(FileName::Commit, &[(11, &[0, 0, 1, 0x2c])])],
         "document 300 beyond 300",
         true,
     ),
-    // a leaf's form
+    // a first leaf whose third byte is 4
     (
         &[(SEGMENT, &[(8130, &[4])])],
         "seg-0000000000000000.bkd page 2 leaf at 0",

@@ -46,7 +46,7 @@ fn script(alloc: Global) -> Result<String, Fail> {
     Ok(script)
 }
 
-/// The script agrees.
+/// Runs the script, whose answers must be those of a list in memory.
 fn agree_on<R: Threads + Sync + Abort>(rt: &R, alloc: Global) -> Result<(), Fail> {
     agree(rt, alloc, script(alloc)?.as_bytes())
 }

@@ -16,7 +16,7 @@ struct Window {
 }
 
 const WINDOWS: &[Window] = &[
-    // the newest
+    // each document goes as soon as it has come
     Window { adds: 60, back: 0 },
     // the oldest of two, of seven, of thirty and of all but one
     Window { adds: 60, back: 1 },
@@ -52,7 +52,7 @@ fn script_of(alloc: Global, window: &Window) -> Result<String, Fail> {
     Ok(script)
 }
 
-/// Each window agrees.
+/// Runs the script of each window, whose answers must be those of a list in memory.
 fn agree_all<R: Threads + Sync + Abort>(rt: &R, alloc: Global) -> Result<(), Fail> {
     for window in WINDOWS {
         agree(rt, alloc, script_of(alloc, window)?.as_bytes())?;

@@ -46,14 +46,14 @@ impl Draws {
         requires { 0 < bound }
         ensures { result < bound }
     {
-        // xorshift
+        // a step of xorshift, of 64 bits
         self.seed ^= self.seed << 13;
         self.seed ^= self.seed >> 7;
         self.seed ^= self.seed << 17;
         self.seed % bound
     }
 
-    /// A number below 256.
+    /// A drawn number from 0 to 255.
     pub fn byte(&mut self) -> u8 {
         self.below(256) as u8
     }

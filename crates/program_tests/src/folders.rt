@@ -103,7 +103,7 @@ const WITH_TABLE: [File; 3] = [
 ];
 
 const ROWS: &[Row] = &[
-    // a second run
+    // a run over what another run left
     Row {
         before: Before::Script(ONE_POINT),
         script: "delete 0\ncommit\nadd 3 4\nbox 0 0 5 5\n",
@@ -126,7 +126,7 @@ const ROWS: &[Row] = &[
         refused: 2,
         file: (FileName::CommitNew, 0, None),
     },
-    // what is written
+    // the bytes of the commit that is written
     Row {
         before: Before::Files(&[]),
         script: "create 2\nadd 0 0 10 10\nbox 9 9 11 11\nbox 0 0 10 10\nnearest 1 1 1\nadd 1 2 3\n",

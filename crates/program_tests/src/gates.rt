@@ -22,7 +22,7 @@ pub(crate) struct Meeting {
 }
 
 impl Meeting {
-    /// Neither half came yet.
+    /// A gate at which neither half has come yet.
     pub(crate) fn new() -> Meeting {
         Meeting {
             came: [AtomicU64::new(0), AtomicU64::new(0)],

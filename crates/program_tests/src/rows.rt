@@ -61,7 +61,7 @@ pub const ROWS: &[Row] = &[
         answers: "ok\n",
         refused: 0,
     },
-    // merges and snapshots
+    // begun and ended merges, and snapshots of what is gone
     Row {
         script: "create 1\nadd 1\nadd 2\nflush\nadd 3\nflush\nmerge begin 0 1\ndelete 1\nmerge end\nreopen\nbox 0 9\n",
         answers: "ok\ndoc 0\ndoc 1\nok\ndoc 2\nok\nok\ndeleted 1\nok\nok\nhits 2\n0\n2\n",
@@ -123,7 +123,7 @@ pub const ROWS: &[Row] = &[
         answers: "ok\ndoc 0\nok\ndoc 1\nnear 2\n0 0\n1 49\ndeleted 1\nhits 1\n1\n",
         refused: 0,
     },
-    // polygons
+    // polygons, whose edges belong to them
     Row {
         script: "create 2\nadd -6 0\nadd 0 0\nadd 5 0\npolygon {\"type\":\"Polygon\",\"coordinates\":[[[0,-5],[5,0],[0,5],[-5,0],[0,-5]]]}\n",
         answers: "ok\ndoc 0\ndoc 1\ndoc 2\nhits 2\n1\n2\n",

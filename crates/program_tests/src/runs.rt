@@ -74,7 +74,7 @@ pub fn faulty<R: Threads + Sync>(
     Ok((status, output))
 }
 
-/// Runs a script.
+/// Runs a script where no call of the input or of the output fails.
 pub fn outcome<R: Threads + Sync>(
     rt: &R,
     alloc: Global,

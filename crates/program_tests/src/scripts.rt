@@ -221,7 +221,7 @@ fn last_line(text: &[u8]) -> &[u8] {
     }
 }
 
-/// Lines that change nothing.
+/// Scripts after which the commit has the same bytes as before.
 const IDLE: [&[u8]; 3] = [b"", LOOK, b"snapshot a\ncommit\n"];
 
 /// A run over what a run left, without a line, changes no file.

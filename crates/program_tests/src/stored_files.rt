@@ -9,7 +9,7 @@ const FIRST: &str = "add 0 0\nadd 10 10 -3 4\nadd 5 5\nflush\n";
 
 const SECOND: &str = "add 5 5\nadd -8 -6\nadd 20 0 0 20 20 20\nflush\n";
 
-/// The two segments.
+/// The lines that write the two segments, with their answers.
 const TWO: &[Lines] = &[
     ("create 2 leaf 2\n", "ok\n"),
     (FIRST, "doc 0\ndoc 1\ndoc 2\nok\n"),

@@ -22,7 +22,7 @@ use Rattle.range_docs.specs.declared.ranges.Question.TheVariants.{Intersects, Wi
 use Rattle.range_docs.specs.declared.faults.RangeFault.{RangeFault}
 use Rattle.range_docs.specs.declared.faults.RangeFault.TheVariants as fault
 
--- what a line asks
+-- what a line of a script of ranges asks
 pub data RangeRequest : Type 0 where
   -- what a line of a script of points asks: it names no range, or adds a document of points that are ranges
   Asks : (request : Request) → RangeRequest

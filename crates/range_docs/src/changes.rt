@@ -78,7 +78,7 @@ pub(crate) fn add<const D: usize>(alloc: Global, words: Words<'_>) -> Result<Com
     Ok(Command::Add(points))
 }
 
-/// `NUMBER`
+/// Reads what stands behind `delete`: `NUMBER` alone.
 #[tactic(auto, unfolding(crate::specs::Reading::read_delete_number))]
 pub(crate) fn delete<const D: usize>(mut words: Words<'_>) -> Result<Command<D>, LineFault>
     requires { words.place ≡ 2 }

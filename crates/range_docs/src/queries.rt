@@ -15,7 +15,7 @@ use script_lang::queries::view_at;
 use script_lang::words::Words;
 use script_lang::{Command, LineFault};
 
-/// `[@NAME] LO HI`
+/// Reads what stands behind a question's word: `[@NAME] LO HI`, which has to be a range.
 #[tactic(auto, unfolding(crate::specs::Reading::read_question))]
 pub(crate) fn find<const D: usize>(
     question: Question,

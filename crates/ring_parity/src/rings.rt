@@ -35,14 +35,14 @@ impl Ring {
         Ring { at }
     }
 
-    /// The positions in order.
+    /// All positions of the ring in their order.
     pub fn as_slice(&self) -> &[Point<2>]
         ensures { coordinates_of result.now ≡ self.now }
     {
         self.at.as_slice()
     }
 
-    /// Gives the positions back.
+    /// Takes the ring apart into its positions, in their order.
     pub fn into_vec(self) -> Vec<Point<2>>
         ensures { coordinates_of result.items ≡ self }
     {
@@ -99,7 +99,7 @@ impl Rings {
         }
     }
 
-    /// The rings in order.
+    /// All the rings in their order, which are those of a polygon (`ArePolygon`).
     pub fn as_slice(&self) -> &[Ring]
         ensures value { result.now ≡ self.now }
         ensures polygon { ArePolygon self.now }
@@ -107,7 +107,7 @@ impl Rings {
         self.list.as_slice()
     }
 
-    /// Gives the rings back.
+    /// Takes the polygon apart into its rings, in their order.
     pub fn into_vec(self) -> Vec<Ring>
         ensures { result.items ≡ self }
     {

@@ -33,7 +33,7 @@ GoesOn status.Usage = ⊥
 GoesOn status.SourceFault = ⊥
 GoesOn status.TooLarge = ⊥
 
--- nothing was done
+-- the statuses with which a run ends before anything was done
 abbrev pub DoesNothing : Status → Type 0
 DoesNothing status.Usage = Unit {0}
 DoesNothing status.SourceFault = Unit {0}

@@ -4,7 +4,7 @@ use Rattle.damage_text.specs.Texts.{damage_text}
 use Rattle.run_status.specs.declared.status.Status.{Status}
 use Rattle.run_status.specs.declared.status.Status.TheVariants as status
 
--- the exit status
+-- the exit status of the program
 abbrev pub number_of : Status → ℕ
 number_of status.Done = 0
 number_of status.Usage = 1

@@ -22,7 +22,7 @@ refusal text = record { text = text; refused = 1; touched = 0 }
 abbrev pub Teller : Type 1
 Teller = (line : ℕ) → List ℕ → Told → Type 0
 
--- one after the other
+-- what is told of lines and then of others: the texts one behind the other, and the sums of the counts
 abbrev pub followed_by : Told → Told → Told
 followed_by a b = record { text = a.text ++ b.text; refused = a.refused + b.refused; touched = a.touched + b.touched }
 

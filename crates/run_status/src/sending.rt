@@ -1,4 +1,4 @@
-//! Answers that are sent.
+//! Sends the answer to a line, and hands on what is known of the line.
 
 ghost use Rattle.std.specs.Prelude.{◌≡◌, ◌≤◌, IfOk, IsErrOf, OnErr, IsTrue};
 ghost use Rattle.outer_io.specs.Faults.{Rose};

@@ -9,13 +9,13 @@ use itoa::Buffer;
 use page_cache::Damage;
 use std::alloc::{AllocError, Global};
 
-/// Want of memory.
+/// The error of a call for which no memory could be had.
 pub type Memory = AllocError;
 
-/// How a run ended.
+/// How a run of the program ended; `code` gives the exit status.
 #[derive(Debug, Drop)]
 pub enum Status {
-    /// Every line was done.
+    /// All that was asked was done, and nothing was refused.
     Done,
     /// The words are not those of a command.
     Usage,
@@ -29,7 +29,7 @@ pub enum Status {
     SinkFault,
     /// The folder's files are damaged.
     Damaged(Damage),
-    /// Want of memory.
+    /// There was not enough memory to go on.
     Memory,
     /// The input has more than 536,870,912 bytes.
     TooLarge,

@@ -10,13 +10,13 @@ use std::alloc::AllocError;
 /// Why a run stops before its end.
 #[derive(Debug, Drop)]
 pub enum Stop {
-    /// The sink failed.
+    /// A call on the sink failed, so the output may be cut off.
     SinkFault,
-    /// The folder failed.
+    /// A call on the folder failed, and was counted.
     FolderFault,
     /// The folder's files are damaged.
     Damaged(Damage),
-    /// Want of memory.
+    /// There was not enough memory to go on.
     Memory,
 }
 

@@ -33,7 +33,7 @@ pub record IsRestOf (later first : Words) : Type 0 where
   pub place : first.place ≤ later.place
   pub count : later.place + length (words_left later) ≡ first.place + length (words_left first)
 
--- values before others
+-- these values in front of those that were read; a fault stays
 abbrev pub before : {X : Type 0} → List X → Result (List X) LineFault → Result (List X) LineFault
 before xs (Ok ys) = Ok (xs ++ ys)
 before xs (Err f) = Err f

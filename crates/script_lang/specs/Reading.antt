@@ -84,12 +84,12 @@ query_of (w ∷ ws) =
     (record { view = Some (drop 1 w); place = 3; words = ws }) else Err fault.BadName)
     else Ok (record { view = None; place = 2; words = w ∷ ws })
 
--- `NAME`, alone
+-- `NAME`, and no word behind it
 unfoldable pub name_of : List (List ℕ) → Result (List ℕ) LineFault
 name_of [] = Err fault.Words
 name_of (w ∷ ws) = if is_name w then (if length ws == 0 then Ok w else Err fault.Words) else Err fault.BadName
 
--- no words are left
+-- the request of a line that has no words left, and a fault where it has some
 abbrev pub word_alone : List (List ℕ) → Request → Reading
 word_alone [] request = Says request
 word_alone (w ∷ ws) request = Fails fault.Words
@@ -130,7 +130,7 @@ read_delete dims (w ∷ ws) =
     else if length ws == 0 then on_success (value_of number 2 w) (λ doc. Says (asks.Delete doc))
     else Fails fault.Words
 
--- `box [@NAME] LO HI`
+-- what stands behind `box`: `[@NAME] LO HI`
 unfoldable pub read_box : ℕ → List (List ℕ) → Reading
 read_box dims words =
     on_success (query_of words)

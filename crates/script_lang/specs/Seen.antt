@@ -16,7 +16,7 @@ abbrev pub view_name : View → Viewed
 view_name Now = None
 view_name (Named name) = Some name
 
--- what a command asks
+-- the request that a command stands for
 abbrev pub request_of : {D : ℕ} → Command D → Request
 request_of command.Blank = asks.Blank
 request_of (command.Create dims leaf) = asks.Create dims leaf

@@ -44,7 +44,7 @@ pub(crate) fn create(mut words: Words<'_>) -> Result<First, LineFault>
     created(dims, leaf)
 }
 
-/// The greatest leaf size.
+/// The greatest leaf size in so many dimensions: 4,000 over the bytes of an entry, 4 and 4 for each dimension.
 fn greatest_leaf(dims: u32) -> u32
     ensures { result ≡ greatest_leaf dims }
 {
@@ -192,7 +192,7 @@ fn positions_at(alloc: Global, mut words: Words<'_>) -> Result<Vec<u32>, LineFau
     Ok(positions)
 }
 
-/// `NAME`, alone
+/// Reads `NAME`, behind which no word may stand.
 #[tactic(auto, unfolding(crate::specs::Reading::name_of))]
 pub fn name_at(mut words: Words<'_>) -> Result<Name, LineFault>
     ensures { MatchResult result (λ name. name_of (words_left words.entry) ≡ Ok name)

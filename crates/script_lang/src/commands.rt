@@ -1,4 +1,4 @@
-//! What a line asks.
+//! What a line of a script asks, as a value: of an index, or where none is there.
 
 ghost use Rattle.std.specs.Prelude.{◌≡◌};
 ghost use Rattle.script_lang.specs.Seen.{request_of, first_request_of};

@@ -50,7 +50,7 @@ fn named_view(words: &mut Words<'_>) -> Result<View, LineFault>
     Ok(View::Named(name))
 }
 
-/// `[@NAME] LO HI`
+/// Reads what stands behind `box`: `[@NAME] LO HI`, the corners of a box.
 #[tactic(auto, unfolding(crate::specs::Reading::read_box))]
 pub(crate) fn in_box<const D: usize>(mut words: Words<'_>) -> Result<Command<D>, LineFault>
     requires some { 1 ≤ D }
@@ -63,7 +63,7 @@ pub(crate) fn in_box<const D: usize>(mut words: Words<'_>) -> Result<Command<D>,
     Ok(Command::InBox { view, lo, hi })
 }
 
-/// `[@NAME] JSON`
+/// Reads what stands behind `polygon`: `[@NAME] JSON`, in two dimensions only.
 #[tactic(auto, unfolding(crate::specs::Reading::read_polygon))]
 pub(crate) fn polygon<const D: usize>(
     alloc: Global,

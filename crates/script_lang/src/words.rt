@@ -75,7 +75,7 @@ pub struct Words<'a> {
 impl<'a> Words<'a> {
     ghost use Rattle.script_lang.specs.Parts.{words_left, names_view, Takes, IsRestOf};
 
-    /// The next word.
+    /// Takes the next word. None exactly where no word is left.
     pub fn next(&mut self) -> Option<&'a str>
         ensures word { MatchOption result (words_left self.old ≡ []) (λ word. Takes word.now self.old self.new) }
         ensures rest { IsRestOf self.new self.old }

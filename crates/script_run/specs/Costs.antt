@@ -27,7 +27,7 @@ use Rattle.script_run.specs.declared.language.Language.{Language}
 
 -- ---- what lines ask for
 
--- queries and blank lines
+-- the line is a query or asks nothing, so it changes no index
 abbrev pub is_query : Request → Bool
 is_query asks.Blank = true
 is_query (asks.InBox view lo hi) = true
@@ -35,7 +35,7 @@ is_query (asks.InPolygon view rings) = true
 is_query (asks.Nearest view k at) = true
 is_query _ = false
 
--- all but `merge begin`
+-- the line is any but `merge begin`
 abbrev pub begins_no_merge : Request → Bool
 begins_no_merge (asks.MergeBegin positions) = false
 begins_no_merge _ = true

@@ -47,7 +47,7 @@ pub record HasSourceCause {T : Type 0} (before now : ℕ) (result : Result T Hal
   pub later : before ≤ now
   pub failed : result ≡ Err halt.Source → Rose before now
 
--- the status of lines
+-- the status of lines that come from a source
 abbrev pub status_of_lines : Result ℕ Halt → Status
 status_of_lines (Ok refused) = status_of (Ok refused)
 status_of_lines (Err halt.Source) = status.SourceFault

@@ -55,7 +55,7 @@ pub record Halts (m : Meaning) (told : Type 0) (p : ScriptPlace) (files : Files)
   pub text : told → new ≡ p.written ++ text_of m p.line p.state done
   pub stored : IsStored files (stored_after m p.line p.stored p.state done)
 
--- no line was done
+-- no line was done: nothing more is written, and the same state is stored
 pub record Waits (told : Type 0) (p : ScriptPlace) (files : Files) (new : List ℕ) : Type 0 where
   pub text : told → new ≡ p.written
   pub stored : IsStored files p.stored

@@ -25,7 +25,7 @@ refused_in m line state [] = 0
 refused_in m line state (l ∷ ls) =
     (m.answer line state l).refused + refused_in m (line + 1) (m.answer line state l).state ls
 
--- what a session leaves
+-- the state that is left at the end of a session: no snapshot, and no begun merge
 abbrev pub final : State → State
 final state = option_map at_rest state
 

@@ -8,7 +8,7 @@ use run_status::{Status, Stop, status_of};
 /// Why the lines of a source are not done to their end.
 #[derive(Debug, Drop)]
 pub enum Halt {
-    /// The source failed.
+    /// A call on the source failed, so no further line could be read.
     Source,
     /// A line, or the commit at the end, could not be done.
     Stopped(Stop),

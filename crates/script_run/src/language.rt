@@ -12,7 +12,7 @@ use std::alloc::Global;
 /// What the documents of a script are.
 #[derive(Clone, Copy, PartialEq, Eq, Debug)]
 pub enum Language {
-    /// Points.
+    /// Points, as the commands `run` and `session` read them.
     Points,
     /// Ranges, each kept as a point.
     Ranges,

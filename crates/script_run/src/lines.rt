@@ -36,7 +36,7 @@ use std::thread::Threads;
 pub struct Work<'a, R, G> {
     pub rt: &'a R,
     pub alloc: Global,
-    /// How lines are read.
+    /// The language of the lines: points or ranges.
     pub language: Language,
     pub settings: Settings,
     pub gate: &'a G,

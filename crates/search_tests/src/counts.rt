@@ -18,7 +18,7 @@ use segment_view::{Segments, gather};
 use std::alloc::Global;
 use std::test::Fail;
 
-/// The segment alone.
+/// A list of this one segment, with these live bits.
 fn alone<const D: usize>(
     alloc: Global,
     head: SegmentHead<D>,

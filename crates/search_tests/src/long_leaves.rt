@@ -36,7 +36,7 @@ const FRONT: [u8; 19] = [
 /// The second leaf: number 333 at (333, 0).
 const LAST: [u8; 15] = [0, 1, 0, 0xcd, 2, 4, 4, 0x80, 0, 1, 0x4d, 0x80, 0, 0, 0];
 
-/// The two leaves.
+/// The bytes of both leaves, one behind the other.
 fn leaves(alloc: Global) -> Result<Vec<u8>, AllocError> {
     let mut bytes = FRONT.to_vec(alloc)?;
     for i in 0..333u32 {
@@ -46,7 +46,7 @@ fn leaves(alloc: Global) -> Result<Vec<u8>, AllocError> {
     Ok(bytes)
 }
 
-/// All numbers below 334.
+/// The numbers from 0 to 333, in ascending order.
 fn numbers(alloc: Global) -> Result<Vec<u32>, AllocError>
     ensures { IfOk result (λ v. All (λ d. d < 16777216) v.items) }
 {
@@ -104,7 +104,7 @@ pub fn open_row(alloc: Global) -> Result<(MemFolder, SegmentHead<2>), Fail> {
     open_alone::<2>(alloc, &segment)
 }
 
-/// All numbers are live.
+/// Live bits of the numbers from 0 to 333, all of which are live.
 pub fn live_row(alloc: Global) -> Result<LiveBits, Fail> {
     Ok(LiveBits::of_docs(alloc, numbers(alloc)?.as_slice())?)
 }

@@ -17,7 +17,7 @@ use segment_file::SegmentHead;
 use std::alloc::{AllocError, Global};
 use std::test::Fail;
 
-/// Number 2 at 10.
+/// A segment whose one entry is number 2 at 10.
 const LATE: Stored = Stored {
     id: 7,
     fields: &ONE_FIELDS,
@@ -25,7 +25,7 @@ const LATE: Stored = Stored {
     leaves: &[0, 1, 0, 2, 4, 0x80, 0, 0, 10],
 };
 
-/// Number 1 at -10.
+/// A segment whose one entry is number 1 at -10.
 const OPPOSITE: Stored = Stored {
     id: 8,
     fields: &ONE_FIELDS,
@@ -36,7 +36,7 @@ const OPPOSITE: Stored = Stored {
     leaves: &[0, 1, 0, 1, 4, 0x7f, 0xff, 0xff, 0xf6],
 };
 
-/// Number 0 at 10.
+/// A segment whose one entry is number 0 at 10.
 const EARLY: Stored = Stored {
     id: 9,
     fields: &ONE_FIELDS,
@@ -52,7 +52,7 @@ const TWO_POINTS: Stored = Stored {
     leaves: &[0, 2, 1, 0, 0, 0, 3, 0x80, 0, 0, 0, 0, 1, 9],
 };
 
-/// Number 3 at -10.
+/// A buffer whose one entry is number 3 at -10.
 const BUFFER: [Entry<1>; 1] = [Entry {
     doc: 3,
     point: Point { c: [-10] },

@@ -95,7 +95,7 @@ const DOUBLED: [(&[(u32, i32)], Option<u32>); 9] = [
     (&[(9, 1), (3, 1), (9, 2), (9, -1)], None),
     (&[(9, 1), (3, 1), (9, 2), (9, 1)], Some(9)),
     (&[(5, 1), (3, 1), (5, 2), (3, 1)], Some(3)),
-    // two are crowded
+    // of two that are crowded the least is told
     (&[(9, 1), (3, 1), (9, 1), (3, 1)], Some(3)),
     (&[(3, 1), (70, 5), (70, 5), (9, 8), (9, 8)], Some(9)),
     (
@@ -151,11 +151,11 @@ const TALLIES: [(&[u32], &[(u32, i32)], (u32, Option<u32>)); 11] = [
         (3, None),
     ),
     (&[0, 16_777_215], &[(16_777_215, 0), (5, 0)], (1, None)),
-    // all live and different
+    // all entries are live, and of different numbers
     (&[1, 2, 3], &[(3, 0), (1, 0), (2, 0)], (3, None)),
     // as many entries as numbers, of which one lacks and one stands twice
     (&[1, 2, 3], &[(3, 0), (1, 0), (3, 0)], (2, Some(3))),
-    // the last one only
+    // only the last number is crowded
     (&[1, 2], &[(2, 0), (1, 0), (2, 7), (2, 7)], (2, Some(2))),
     // of numbers that aren't live
     (&[1], &[(9, 0), (1, 0), (9, 0)], (1, Some(9))),

@@ -40,7 +40,7 @@ const ROWS: [Row; 9] = [
     ([0, 2], [70, 2], &[1, 2, 3], 3),
     ([0, -3], [65, 1], &[0], 1),
     ([0, 9], [65, 20], &[6], 2),
-    // between two values
+    // from one value to another, with none between
     ([0, 3], [70, 5], &[], 0),
     // all values, and to the ends of the numbers
     ([5, 1], [70, 9], &[1, 2, 3, 4, 5, 6, 7], 8),

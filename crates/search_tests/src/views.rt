@@ -13,7 +13,7 @@ use std::alloc::Global;
 use std::process::Abort;
 use std::test::Fail;
 
-/// 6 at 10.
+/// A segment whose one entry is number 6 at 10.
 const ONE: Stored = Stored {
     id: 8,
     fields: &ONE_FIELDS,

@@ -23,7 +23,7 @@ pub record HasEntries (D : ℕ) (items : List Item) (n : NewSegmentData) : Type 
   pub counted : n.entries ≡ length items
   pub fits : (id : ℕ) → FitsSegment D id n.leaf n.entries n.index n.leaves items
 
--- it has some entries
+-- there are entries of which it is the segment
 pub record HasSomeEntries (D : ℕ) (n : NewSegmentData) : Type 0 where
   pub items : List Item
   pub has : HasEntries D items n

@@ -1,4 +1,4 @@
-//! Building a segment.
+//! Builds a segment of entries in memory: its tree, and live bits in which all of its numbers are live.
 
 ghost use Rattle.std.specs.Prelude.{◌≡◌, ◌≤◌, ◌<◌, ◌^◌, List, length, All, IfOk};
 ghost use Rattle.std.specs.List.Sorted.{IsPermutation};

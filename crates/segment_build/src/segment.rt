@@ -1,4 +1,4 @@
-//! A segment in memory.
+//! A segment that is built in memory, and can be written to its file.
 
 use bkd_build::Built;
 use live_bits::LiveBits;
@@ -46,7 +46,7 @@ impl<const D: usize> NewSegment<D> {
     ghost use Rattle.segment_file.specs.Written.{head_of};
     ghost use Rattle.segment_build.specs.NewSegments.{HasEntries, IsCanonical};
 
-    /// The live numbers.
+    /// The live numbers among those of its entries.
     pub fn live(&self) -> &LiveBits
         ensures { result.now ≡ self.now.live }
     {

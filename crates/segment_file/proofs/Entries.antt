@@ -1,4 +1,4 @@
--- Entries one by one.
+-- Entries that are taken one by one: those with live numbers stand behind what was there.
 use Rattle.std.proofs.Common.{◌≡◌, ◌<◌, ◌+◌, ℕ, List, [], ◌∷◌, ◌++◌, length, take, get_or, true, sym, ap, subst, ◌∙◌, append_assoc, Some, Bool, All}
 use Rattle.std.specs.Prelude.{filter, slice_get, Vec}
 use Rattle.std.specs.declared.alloc.Global.{Global}

@@ -52,7 +52,7 @@ impl<const D: usize> SegmentHead<D> {
         self.leaf
     }
 
-    /// The index.
+    /// The index of the segment, which leads to its leaves.
     pub fn index(&self) -> &Index<D>
         ensures value { result.now ≡ self.now.index }
         ensures ranges { HasRanges D self.now }

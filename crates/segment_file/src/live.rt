@@ -1,4 +1,4 @@
-//! Files of live bits.
+//! Writes and reads the files that hold the live bits of segments, one file for each generation.
 
 ghost use Rattle.std.specs.Prelude.{◌≡◌, ◌≢◌, ◌≤◌, ◌+◌, ◌*◌, ◌/◌, ◌++◌, ℕ, List, length, vec_len, IsTrue, IfOk, OnOk};
 ghost use Rattle.std.specs.Prelude.{IsErrOf};

@@ -1,4 +1,4 @@
-//! Opening a segment.
+//! Opens a segment by its head and its index, and reads no leaf page.
 
 ghost use Rattle.std.specs.Prelude.{◌≡◌, ◌≢◌, ◌≤◌, ◌+◌, ◌*◌, ◌++◌, ◌↔◌, ℕ, List, length, vec_len, IsTrue, IsOk, IfOk};
 ghost use Rattle.std.specs.Prelude.{OnOk, IsErrOf};

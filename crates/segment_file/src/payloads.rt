@@ -1,4 +1,4 @@
-//! Payloads in memory.
+//! Payloads of pages in memory: whether they are blank, and how they are joined.
 
 ghost use Rattle.std.specs.Prelude.{◌≡◌, ◌≤◌, ◌↔◌, ◌++◌, ◌+◌, ◌*◌, ℕ, List, IsTrue, IfOk, OnOk, length, vec_len};
 ghost use Rattle.std.specs.Prelude.{replicate};

@@ -1,4 +1,4 @@
-//! Writing a segment.
+//! Writes the file of a segment: its head, its index and its leaves.
 
 ghost use Rattle.std.specs.Prelude.{◌≡◌, ◌≤◌, ◌<◌, ◌+◌, ◌^◌, ◌++◌, ◌∷◌, ℕ, List, [], All, length, IsTrue, IfOk, OnOk};
 ghost use Rattle.outer_io.specs.Files.{bytes_of, SameBut};

@@ -1,4 +1,4 @@
--- A set without documents.
+-- The set that has no documents is well formed, and is seen as a new index.
 use Rattle.std.proofs.Common.{◌≡◌, ℕ, ◌≤◌, false, List, [], length, None, refl, arith}
 use Rattle.std.proofs.lemmas.List.Elements.{All-nil}
 use Rattle.outer_io.specs.declared.file_name.FileName.TheVariants.{Commit}

@@ -15,7 +15,7 @@ IsNextName old (Live segment generation) new =
 IsNextName old Commit new = ⊥
 IsNextName old CommitNew new = ⊥
 
--- one after another
+-- the names are given one after another
 abbrev pub AreNext : NameList → List FileName → NameList → Type 0
 AreNext old [] new = new ≡ old
 AreNext old (name ∷ names) new = (mid : NameList) × IsNextName old name mid × AreNext mid names new

@@ -136,7 +136,7 @@ viewed_parts view s = parts_at view s.parts s.snapshots
 abbrev pub viewed_buffer : Option (List ℕ) → SetData → List Item
 viewed_buffer view s = buffer_at view s.buffer s.snapshots
 
--- the view is there
+-- the view is that of now, or there is a snapshot of its name
 abbrev pub IsThere : Option (List ℕ) → List NamedView → Type 0
 IsThere None views = Unit {0}
 IsThere (Some name) views = has_name name views ≡ true

@@ -27,7 +27,7 @@ pub record MergesChoice (D : ℕ) (told : Type 0) (old new : SetMoment) : Type 0
   pub choice : IsChoice (sizes_of old.set.parts) (pins_of old.set.begun old.set.parts) positions
   pub merges : MergesParts D told (map (slice_index (ids_of old.set.parts)) positions) old new
 
--- one choice after another
+-- choices of the policy are merged one after another, by way of these moments
 abbrev pub MergesChoices : ℕ → (told : Type 0) → SetMoment → List SetMoment → SetMoment → Type 0
 MergesChoices D told old [] new = new ≡ old
 MergesChoices D told old (mid ∷ spots) new = MergesChoice D told old mid × MergesChoices D told mid spots new

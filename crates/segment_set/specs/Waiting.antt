@@ -26,7 +26,7 @@ gone_as doc = came_as doc + 2147483648
 abbrev pub out_of : ℕ → Item → Item
 out_of number x = if nat_eq (came_as x.doc) number then record x { doc = gone_as x.doc } else x
 
--- the entries that wait
+-- the entries that wait, without those that are gone
 abbrev pub waiting : List Item → List Item
 waiting held = filter (λ x. waits x.doc) held
 

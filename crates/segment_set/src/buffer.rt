@@ -46,7 +46,7 @@ impl<const D: usize> Model for Buffer<D> {
 }
 
 impl<const D: usize> Buffer<D> {
-    /// An empty buffer.
+    /// A buffer in which nothing waits, and where `next` is the next document's number.
     pub(crate) fn new(alloc: Global, next: u32) -> Buffer<D>
         ensures items { result.items ≡ [] }
         ensures next { result.next ≡ next }
@@ -65,14 +65,14 @@ impl<const D: usize> Buffer<D> {
         self.next
     }
 
-    /// How many entries wait.
+    /// How many entries wait, without those that are gone.
     pub(crate) fn len(&self) -> usize
         ensures { result ≡ length self.now.items }
     {
         self.live as usize
     }
 
-    /// Whether none waits.
+    /// Whether no entry waits. Some that are gone may still have their places.
     pub(crate) fn is_empty(&self) -> bool
         ensures { result ≡ nat_eq (length self.now.items) 0 }
     {
@@ -134,7 +134,7 @@ impl<const D: usize> Buffer<D> {
         self.entries.as_slice()
     }
 
-    /// Takes all entries out.
+    /// Takes all entries out. The next document's number stays.
     pub(crate) fn clear(&mut self)
         ensures items { self.new.items ≡ [] }
         ensures next { self.new.next ≡ self.old.next }

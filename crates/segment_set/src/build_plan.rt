@@ -1,4 +1,4 @@
-//! How segments are built.
+//! The plan by which the segments of a set are built: leaf size, levels that fork, and points given.
 
 ghost use Rattle.std.specs.Prelude.{◌≤◌, ◌^◌};
 ghost use Rattle.leaf_codec.specs.Leaves.{leaf_limit};

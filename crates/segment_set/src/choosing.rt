@@ -1,4 +1,4 @@
-//! Which segments are merged.
+//! Which segments are merged: those that the policy chooses, and those at given positions.
 
 ghost use Rattle.std.specs.Prelude.{◌≡◌, ◌≤◌, ◌<◌, ◌+◌, ◌↔◌, ℕ, List, true, false, not, nat_lt, length, map, filter};
 ghost use Rattle.std.specs.Prelude.{take, slice_index, count_by, All, IsTrue, IfOk, IfNone, IfSome};

@@ -1,4 +1,4 @@
-//! Deletions.
+//! Takes documents out of a set: one, those of a list, or those with a point in a box.
 
 ghost use Rattle.std.specs.Prelude.{◌≡◌, ◌≤◌, ◌<◌, ◌+◌, ◌&&◌, ℕ, not, nat_eq, length, filter};
 ghost use Rattle.std.specs.Prelude.{IsTrue, IfOk, OnOk, OnErr};

@@ -10,35 +10,35 @@ pub enum AddFault {
     Full,
     /// A call on the folder failed.
     Failed,
-    /// The files are damaged.
+    /// The files are damaged, as this shows.
     Damaged(Damage),
-    /// Want of memory.
+    /// There was not enough memory; the document was not added.
     Memory,
 }
 
 /// Why no merge was begun.
 #[derive(Debug, Drop)]
 pub enum BeginFault {
-    /// One is begun.
+    /// A merge is begun already, and not ended.
     Begun,
     /// A call on the folder failed.
     Failed,
-    /// The files are damaged.
+    /// The files are damaged, as this shows.
     Damaged(Damage),
-    /// Want of memory.
+    /// There was not enough memory; no merge was begun.
     Memory,
 }
 
 /// Why no merge was ended.
 #[derive(Debug, Drop)]
 pub enum EndFault {
-    /// None is begun.
+    /// There is no begun merge that could be ended.
     NotBegun,
     /// A call on the folder failed.
     Failed,
-    /// The files are damaged.
+    /// The files are damaged. `merge_end` reads nothing, and so never answers this.
     Damaged(Damage),
-    /// Want of memory.
+    /// There was not enough memory; the merge is still begun.
     Memory,
 }
 
@@ -47,9 +47,9 @@ pub enum EndFault {
 pub enum SnapFault {
     /// A snapshot has the name.
     Taken,
-    /// There are 16 snapshots.
+    /// There are 16 snapshots already, which are the most.
     TooMany,
-    /// Want of memory.
+    /// There was not enough memory; nothing was changed.
     Memory,
 }
 

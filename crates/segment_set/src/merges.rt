@@ -167,7 +167,7 @@ impl<const D: usize> SegmentSet<D> {
         Ok(())
     }
 
-    /// How segments are built.
+    /// The plan by which this set's segments are built: its leaf size, levels that fork, and points given.
     pub(crate) fn plan(&self) -> BuildPlan<D>
         ensures leaf { result.leaf ≡ self.now.leaf }
         ensures given { result.given ≡ self.now.given }

@@ -1,4 +1,4 @@
-//! What queries find.
+//! What queries find in a view of a set, and what they cost.
 
 ghost use Rattle.std.specs.Prelude.{◌≡◌, ◌≤◌, ◌+◌, ◌*◌, ℕ, List, None, Some, length, IsTrue, IfOk};
 ghost use Rattle.point_codec.specs.Seen.{items_of};

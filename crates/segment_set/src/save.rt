@@ -1,4 +1,4 @@
-//! What is saved.
+//! Saves a set: it is flushed, live bits that changed are written, and a commit lists its segments.
 
 ghost use Rattle.std.specs.Prelude.{◌≡◌, ◌≢◌, ◌≤◌, ◌↔◌, ◌++◌, ◌∷◌, ℕ, true, [], Some, length, All, Contains};
 ghost use Rattle.std.specs.Prelude.{IsTrue, IfOk, IfNone, IfSome, OnOk, OnErr};
@@ -101,7 +101,7 @@ impl<const D: usize> SegmentSet<D> {
         ensures cause { HasPageCause (F.faults folder.old) (F.faults folder.new) result }
         ensures whole { NotDamaged result }
     {
-        // the ids ascend
+        // called for its clause that the ids ascend
         self.segments.heads();
         let listed = list_lives(alloc, folder, &mut self.names, last, &self.segments)?;
         let again = Vec::from_slice(alloc, listed.as_slice())?;

@@ -43,7 +43,7 @@ pub struct SegmentSet<const D: usize> {
     pub(crate) given: u32,
     pub(crate) names: FileNames,
     pub(crate) segments: Segments<D>,
-    // and the next number
+    // the entries that wait, and the number of the next document
     pub(crate) buffer: Buffer<D>,
     pub(crate) snapshots: Vec<Snapshot<D>>,
     pub(crate) begun: Option<Begun<D>>,

@@ -1,4 +1,4 @@
-//! Snapshots.
+//! Snapshots: views that are kept under a name, and how they are taken, found and let go.
 
 ghost use Rattle.std.specs.Prelude.{◌≡◌, ◌≤◌, ◌<◌, ◌++◌, ◌∷◌, ◌↔◌, ℕ, [], None, Some, false, true, not, length, filter};
 ghost use Rattle.std.specs.Prelude.{OnOk, OnErr, IsErrOf};

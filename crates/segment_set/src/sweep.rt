@@ -1,4 +1,4 @@
-//! What is swept away.
+//! Removes the files that neither the commit nor a view needs.
 
 ghost use Rattle.std.specs.Prelude.{◌≡◌, ◌<◌, ◌+◌, ◌-◌, ◌^◌, ◌↔◌, ◌&&◌, ℕ, true, false};
 ghost use Rattle.std.specs.Prelude.{take, length, slice_get, All, Some, None, IsTrue, IfOk, OnOk};

@@ -1,4 +1,4 @@
--- Numbers in ascending order.
+-- Lists of numbers that ascend strictly, and what is put into them, as ids into those of heads.
 use Rattle.std.proofs.Common.{◌≡◌, ℕ, ◌<◌, ◌≤◌, ◌+◌, true, false, ◌≢◌, eqb, List, [], ◌∷◌, ◌++◌, length}
 use Rattle.std.proofs.Common.{get_or, take, drop, map, sym, ap, subst, ◌∙◌, ◌⊎◌, inl, inr, arith}
 use Rattle.std.specs.List.{All, AllPairs, Contains, insert}

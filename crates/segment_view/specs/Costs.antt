@@ -10,7 +10,7 @@ use Rattle.bkd_reader.specs.Counts.{tested_entries, touched_leaves}
 use Rattle.bkd_reader.specs.Unread.{AreKept, IsTouched}
 use Rattle.segment_view.specs.LiveSegments.{LiveSegment, heads_of}
 
--- all leaves
+-- how many leaves the segments have together
 abbrev pub leaves_in : List Head → ℕ
 leaves_in heads = sum_by (λ h. h.index.leaves) heads
 

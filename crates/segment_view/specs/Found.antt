@@ -1,4 +1,4 @@
--- What a visit finds.
+-- What a visit finds: the numbers of the entries that pass, each once and ascending.
 use Rattle.std.specs.Prelude.{ℕ, ◌↔◌, Bool, List, Contains, ℤ}
 use Rattle.std.specs.List.Sorted.{IsStrictlyIncreasing}
 use Rattle.point_codec.specs.Points.{Item}

@@ -120,7 +120,7 @@ pub(crate) fn insert_pair<const D: usize>(
 {
     heads.reserve(1)?;
     lives.insert(place, live)?;
-    // there is room
+    // there is room, so no error can come between the two lists
     heads.insert(place, head)?;
     Ok(())
 }

@@ -10,7 +10,7 @@ use segment_file::SegmentHead;
 use std::alloc::{AllocError, Global};
 use std::marker::Model;
 
-/// Want of memory.
+/// The error of a call for which no memory could be had.
 pub type Memory = AllocError;
 
 /// The greatest number of segments. An index has fewer, since each segment has an entry of its own, and no more points
@@ -44,7 +44,7 @@ impl<const D: usize> Segments<D> {
     ghost use Rattle.segment_view.specs.LiveSegments.{cleared_parts};
     ghost use Rattle.segment_view.specs.LiveSegments.{IsPlaced};
 
-    /// No segments.
+    /// An empty list of segments and their live bits.
     pub fn new(alloc: Global) -> Segments<D>
         requires { D ≤ 8 }
         ensures { result ≡ [] }
@@ -64,14 +64,14 @@ impl<const D: usize> Segments<D> {
         self.heads.len()
     }
 
-    /// Whether there is none.
+    /// Whether the list has no segment.
     pub fn is_empty(&self) -> bool
         ensures { IsTrue result ↔ (self.now ≡ []) }
     {
         self.heads.is_empty()
     }
 
-    /// Their heads.
+    /// The heads of the segments, in strictly ascending order of their ids.
     pub fn heads(&self) -> &[SegmentHead<D>]
         ensures value { result.now ≡ heads_of self.now }
         ensures ascend { IsStrictlyIncreasing (ids_of self.now) }
@@ -80,7 +80,7 @@ impl<const D: usize> Segments<D> {
         self.heads.as_slice()
     }
 
-    /// Their live bits.
+    /// The live bits of the segments, in the order of `heads`.
     pub fn lives(&self) -> &[LiveBits]
         ensures { result.now ≡ lives_of self.now }
     {

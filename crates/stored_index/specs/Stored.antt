@@ -38,7 +38,7 @@ HasLive files s live = IsLiveFile s.segment s.generation (bytes_of (files (Live 
 abbrev pub HaveHeads : Files → CommitData → List Head → Type 0
 HaveHeads files c heads = AllZip (HasHead c.dims files) c.listed heads
 
--- and these live sets
+-- the segments that the commit lists, in its order, have these live sets
 abbrev pub HaveLive : Files → CommitData → List LiveSet → Type 0
 HaveLive files c sets = AllZip (HasLive files) c.listed sets
 

@@ -1,4 +1,4 @@
--- No memory is taken.
+-- What a line asks, by its definition, is never want of memory.
 use Rattle.std.proofs.Common.{Some, refl, sym}
 use Rattle.script_lang.specs.declared.faults.LineFault.TheVariants as fault
 use Rattle.count_queries.proofs.Asking.{no_memory}

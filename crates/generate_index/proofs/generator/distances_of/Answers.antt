@@ -1,4 +1,4 @@
--- Each distance is added.
+-- The loop adds up the distances in turn, and doesn't saturate where their sum is small.
 use Rattle.std.proofs.Common.{◌<◌, ◌^◌, sym, ap, subst, ◌∙◌}
 use Rattle.std.specs.List.{sum_by}
 use Rattle.std.proofs.lemmas.List.{take_all}

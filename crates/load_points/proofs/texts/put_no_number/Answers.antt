@@ -1,4 +1,4 @@
--- One text after another.
+-- The pieces of the text are appended one behind another, and so the whole text is.
 use Rattle.std.proofs.Common.{◌≡◌, ◌++◌, List, ℕ, codes, decimal, append_assoc, ap, ◌∙◌}
 use Rattle.load_points.proofs.texts.put_no_number.Goals as goal
 

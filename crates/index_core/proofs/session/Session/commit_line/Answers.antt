@@ -1,4 +1,4 @@
--- A commit is answered.
+-- The line `commit` does what a commit does, with `ok` behind the text; after a fault it leaves what a commit leaves.
 use Rattle.std.proofs.Common.{Err, ap, ◌∙◌, inr, ⊎_elim}
 use Rattle.std.proofs.lemmas.Result.{err_from_is_err_and}
 use Rattle.page_cache.specs.declared.faults.PageFault.{PageFault}

@@ -1,4 +1,4 @@
--- A document goes.
+-- What the set says of a deletion holds of the session, of which nothing but the set changes.
 use Rattle.std.proofs.Common.{sym, ap, subst, ◌∙◌}
 use Rattle.segment_set.specs.Sets.{SetData}
 use Rattle.segment_set.specs.Seen.{Sees}

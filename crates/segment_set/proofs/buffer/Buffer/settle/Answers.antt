@@ -1,4 +1,4 @@
--- What waits stays.
+-- Where the entries that are gone are dropped, those that wait stay.
 use Rattle.std.proofs.Common.{ap, ◌∙◌}
 use Rattle.point_codec.specs.Seen.{items_of}
 use Rattle.segment_set.specs.Waiting.{BufferData, waiting}
