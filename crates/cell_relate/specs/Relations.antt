@@ -36,3 +36,8 @@ KeepsUncrossed crosses = (outer inner : Region) → within inner outer ≡ true 
 abbrev pub IsReach : (List ℤ → Bool) → ℕ → (low high : ℤ) → Type 0
 IsReach has d low high = (p : List ℤ) → has p ≡ true
     → (int_le low (slice_index_or p d (pos 0)) ≡ true) × (int_le (slice_index_or p d (pos 0)) high ≡ true)
+
+-- a shape that a call asked has the same points as before, and crosses the same cells
+pub record KeepsShape (has new_has : List ℤ → Bool) (crosses new_crosses : Region → Bool) : Type 0 where
+  pub points : new_has ≡ has
+  pub cells : new_crosses ≡ crosses

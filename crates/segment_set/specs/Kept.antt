@@ -1,10 +1,10 @@
 -- What the calls of a set leave as it is.
-use Rattle.std.specs.Prelude.{◌≡◌, ℕ, ℤ, Bool, true, false, ◌⊎◌, List, [], length, map, Contains, None, is_some}
+use Rattle.std.specs.Prelude.{◌≡◌, ℕ, true, false, ◌⊎◌, List, [], length, map, Contains, None, is_some}
 use Rattle.std.specs.List.{AllZip}
 use Rattle.outer_io.specs.declared.file_name.FileName.{FileName}
 use Rattle.outer_io.specs.declared.file_name.FileName.TheVariants.{Commit, Segment}
 use Rattle.outer_io.specs.Files.{Files, bytes_of}
-use Rattle.point_codec.specs.Points.{Item, Region}
+use Rattle.point_codec.specs.Points.{Item}
 use Rattle.live_bits.specs.LiveSet.{LiveSet, is_live}
 use Rattle.commit_list.specs.Commits.{CommitData}
 use Rattle.stored_index.specs.Kept.{ListsFile}
@@ -121,8 +121,3 @@ pub record IsAtRest (s : SetData) (c : CommitData) : Type 0 where
   pub snapshots : s.snapshots ≡ []
   pub begun : s.begun ≡ None
   pub saved : s.saved ≡ None
-
--- a shape that a call asked has the same points as before, and crosses the same cells
-pub record KeepsShape (has new_has : List ℤ → Bool) (crosses new_crosses : Region → Bool) : Type 0 where
-  pub points : new_has ≡ has
-  pub cells : new_crosses ≡ crosses
