@@ -108,7 +108,7 @@ module _ (D : ℕ) (told : Type 0) (r : Resident D) where
           (λ h. (h.0, h.1.trusts)) begins.faults.evident;
     })
 
-    -- it is begun
+    -- the merge of the positions below the count is begun
     pub begins_done : {T : Type 0} (x : Applied) (y : T) → positions ≡ below merged_count
         → Applies D told (λ i. step_on i (asks.MergeBegin positions)) false a b (Ok x)
         → OnDone (Ok x) (HasBegun positions a.session.set b.session.set) → BeginsMerge D told r (moment_of a) (moment_of b) (Ok y)

@@ -148,7 +148,7 @@ merges_after told out trusted trusts lines a b c x s files written sink cause mo
 
 -- ---- the text goes out
 
--- all of it
+-- where the text of all lines is sent, all lines are told
 pub text_whole : (out : Type 0) (state : State) (lines : List (List ℕ)) (text : List ℕ) (refused : ℕ) (old new : List ℕ) → IsBatchText state lines text refused
     → (out → new ≡ old ++ text)
     → TellsAll out (TellsBatch state) 1 lines old new refused

@@ -80,7 +80,7 @@ module _ (D : ℕ) (told out : Type 0) (r : Resident D) (lines : List (List ℕ)
   beside_stopped {T} fault q is begins =
       stopped {T = T} told out trusts lines from _ fault q is begins.kept (λ t h state s. begins.whole t h) begins.cause begins.evident refl
 
-  -- the sink failed
+  -- the sink failed, while the merge was begun beside it
   pub beside_cut : {T : Type 0} (y : T) (text : List ℕ) (refused : ℕ) (q : Result ℕ Stop) → q ≡ Err stop.SinkFault → BeginsMerge D told r a b (Ok y)
       → Texts text refused
       → (out → WritesPart old new text) → Rose before now
@@ -204,7 +204,7 @@ module _ (D : ℕ) (told out : Type 0) (r : Resident D) (lines : List (List ℕ)
           sink = λ w. absurd cc;
         }
 
-    -- all is done
+    -- where the end answers Ok, the merge is done
     merged : (z : U) → e ≡ Ok z → told → (o : trusts) → IsMergeDone D ids o.index b c
     merged z ok t o = subst (λ (w : Result U PageFault). OnOk w (IsMergeDone D ids o.index b c)) ok ((ends ids o.index).done t (is_begun t o o.index o.stored))
 

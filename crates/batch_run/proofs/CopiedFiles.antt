@@ -45,7 +45,7 @@ both_copied files before between after s first others second more done so = (
     later n h = stays_copied files between after (Live s.segment s.generation) second more n
         (stays_copied files before between (Segment s.segment) first others n h)
 
--- with one segment more
+-- one segment more is copied, and those before it stay
 pub copied_next : (start here mid before between after : Files) (listed items : List Listed) (i : ℕ) (d : Listed) → items ≡ listed → i < length items
     → here ≡ start → mid ≡ here
     → bytes_of (between (Segment (get_or items i d).segment)) ≡ bytes_of (here (Segment (get_or items i d).segment))

@@ -4,7 +4,7 @@ use Rattle.std.proofs.lemmas.List.{take_min}
 use Rattle.std.proofs.Math.Seq.{take-add, take-append_seam}
 use Rattle.outer_io.specs.Files.{bytes_of, IsReadAt}
 
--- what one read brought
+-- what one read brought is the part of the file from there on, a page at most
 pub part_read : (file : Option (List ℕ)) (at count : ℕ) (old new : List ℕ) → length old ≡ 4096 → IsReadAt file at count old new
     → take count new ≡ take 4096 (drop at (bytes_of file))
 part_read file at count old new len read =
@@ -17,7 +17,7 @@ part_read file at count old new len read =
     ∙ ap (λ n. take n rest) counted
     ∙ take_min 4096 rest
 
--- one page more
+-- one page more is read behind those before it
 pub parts_read : (file before now : List ℕ) (page : ℕ) → before ≡ take (4096 * page) file → now ≡ before ++ take 4096 (drop (4096 * page) file)
     → now ≡ take (4096 * (page + 1)) file
 parts_read file before now page so more =

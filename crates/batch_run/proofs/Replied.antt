@@ -21,14 +21,14 @@ undamaged (Err page.Failed) there h = tt
 undamaged (Err (page.Damaged d)) there h = not_there there h
 undamaged (Err page.Memory) there h = tt
 
--- with one query more
+-- one query more is replied behind those before it
 pub replied_next : {Q R : Type 0} (f : Q → R) (xs : List Q) (i : ℕ) (x : Q) (before now : List R) (y : R) → i < length xs → x ≡ get_or xs i x
     → before ≡ map f (take i xs) → now ≡ before ++ y ∷ [] → y ≡ f x → now ≡ map f (take (i + 1) xs)
 replied_next f xs i x before now y lt is so more reply =
     more ∙ ap (λ zs. zs ++ y ∷ []) so ∙ ap (λ z. map f (take i xs) ++ z ∷ []) (reply ∙ ap f is)
     ∙ sym (map-append f (take i xs) (get_or xs i x ∷ [])) ∙ ap (map f) (sym (take_more xs i x lt))
 
--- both halves are replied
+-- where both halves are replied, the whole list is
 pub halves_replied : {Q R : Type 0} (f : Q → R) (xs left right : List Q) (n : ℕ) (first second all : List R) → left ≡ take n xs → right ≡ drop n xs
     → first ≡ map f left → second ≡ map f right → all ≡ first ++ second → all ≡ map f xs
 halves_replied f xs left right n first second all front back one two is =

@@ -30,7 +30,7 @@ two_leaves leaf count some many = elim (cases_lt (leaves_for leaf count) 2) [
   | inr enough ↦ enough
 ]
 
--- both halves have entries
+-- both halves of a node with more than one leaf have entries
 parts_fit : (leaf count n m : ℕ) → 1 ≤ leaf → 1 ≤ m → m < n → n * leaf < count + leaf → (1 ≤ m * leaf) × (m * leaf < count)
 parts_fit leaf count n m some one less few = (omega (arith, mul-le-mul_right leaf one), omega (arith, mul-le-mul_right leaf less))
 

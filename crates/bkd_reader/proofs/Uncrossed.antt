@@ -41,7 +41,7 @@ module _ (D : ℕ) (has : List ℤ → Bool) (crosses : Region → Bool) (keeps 
       let b = untested_below count (first + leaf_count l) answer (right_of path d x) r cells.2 (right_uncrossed answer path d x l r cells u) in
       omega (arith, a, b)
 
-  -- no entry is tested
+  -- below a cell that isn't crossed no entry is tested
   pub untested : (count : ℕ → ℕ) (first : ℕ) (answer : Bool) (path : Region) (t : IndexTree) → HasCells D path t
       → IsUncrossed has crosses (cell_of path t) answer
       → 0 ≡ tested_entries crosses count first t

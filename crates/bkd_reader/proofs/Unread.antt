@@ -23,13 +23,13 @@ kept_on old new head such s (Leaf len own) stays kept = λ is. stays head.id (pa
 kept_on old new head such s (Split d x l r) stays kept =
     (kept_on old new head such s l stays kept.0, kept_on old new head such (right_begin s l r) r stays kept.1)
 
--- below its children
+-- leaves that are kept below a node are kept below its children
 pub children_kept : {D : ℕ} (cache : PageCache) (head : Head) (such : Region → Type 0) (left right : NodeAt D) (first : ℕ) (s : Spot) (path : Region)
     (t : IndexTree) (k : AreChildren left right first s path t) → AreKept cache head such s t
     → AreKept cache head such s k.l × AreKept cache head such (right_begin s k.l k.r) k.r
 children_kept cache head such left right first s path t k kept = subst (λ (u : IndexTree). AreKept cache head such s u) k.is kept
 
--- the first leaf's page
+-- where all leaves are kept, the first leaf's page is
 pub first_kept : (cache : PageCache) (head : Head) (s : Spot) (t : IndexTree) → AreKept cache head IsAny s t → IsKept cache head.id (page_of head s.page)
 first_kept cache head s (Leaf len own) kept = kept tt
 first_kept cache head s (Split d x l r) kept = first_kept cache head s l kept.0

@@ -36,7 +36,7 @@ partway_start bytes = record {
   falls = λ n more h. record { left = n; begins = h; number = omega arith; positive = λ p. absurd (omega arith) };
 }
 
--- one group more
+-- one group more stands in front, which says that others follow
 group_grows : (after : List ℕ) (b left : ℕ) (more : List ℕ) → 128 ≤ b → b < 256 → 0 < left → BeginsWithVint after left more
     → BeginsWithVint (b ∷ after) (b - 128 + 128 * left) more
 group_grows after b left more marked small pos h = record {

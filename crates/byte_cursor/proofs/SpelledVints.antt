@@ -32,11 +32,11 @@ spelled a n lt =
     let own = IsVint-vint n lt in
     (λ v. vint_one a (vint n) n v own, λ e. subst (λ (b : List ℕ). IsVint b n) (sym e) own)
 
--- what put_vint appends
+-- what put_vint appends is the one spelling of the number
 pub appended : (old new : List ℕ) (n : ℕ) → n < 2 ^ 32 → AppendsVint old new n → new ≡ old ++ vint n
 appended old new n lt h = h.joined ∙ ap (λ (t : List ℕ). old ++ t) (vint_one h.spelling (vint n) n h.is_vint (IsVint-vint n lt))
 
--- what take_vint takes
+-- what take_vint takes is the one spelling of the number
 pub taken : (bytes rest : List ℕ) (n : ℕ) → n < 2 ^ 32 → BeginsWithVint bytes n rest → bytes ≡ vint n ++ rest
 taken bytes rest n lt h = h.parts ∙ ap (λ (t : List ℕ). t ++ rest) (vint_one h.front (vint n) n h.is_vint (IsVint-vint n lt))
 

@@ -13,7 +13,7 @@ use Rattle.command_words.specs.Commands.{AreColumns, are_names, checked_names, n
 abbrev pub texts : List (Bor (List ℕ)) → List (List ℕ)
 texts parts = map (λ part. part.now) parts
 
--- one more text
+-- the first texts with one text more
 pub texts_more : (parts : List (Bor (List ℕ))) (i : ℕ) (d : Bor (List ℕ)) → i < length parts
     → take (i + 1) (texts parts) ≡ take i (texts parts) ++ (get_or parts i d).now ∷ []
 texts_more parts i d lt =

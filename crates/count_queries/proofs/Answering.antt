@@ -113,7 +113,7 @@ pub record Reads {T : Type 0} (D : ℕ) (told : Type 0) (parts : List LiveSegmen
   pub evident : OnDamage result (IsEvident (told × AreTrue D old.files parts old.cache) old.files)
 
 module _ {T : Type 0} (D : ℕ) (told : Type 0) (parts : List LiveSegment) (tells : Scope → Told → Type 0) (old new : CountMoment) where
-  -- it failed
+  -- the count failed, and so does its line
   pub answers_fault : (fault : PageFault) (r : Result Bool PageFault) → r ≡ Err fault → Reads {T = T} D told parts tells old new (Err fault)
       → CountsLine D told parts tells old new r
   answers_fault fault r is h = subst (CountsLine D told parts tells old new) (sym is) (record {
@@ -149,7 +149,7 @@ module _ {T : Type 0} (D : ℕ) (told : Type 0) (parts : List LiveSegment) (tell
     evident = tt;
   })
 
-  -- and it was told
+  -- the count was told, and its line is answered
   pub answers_done : (x : T) → Reads {T = T} D told parts tells old new (Ok x)
       → (told → Agrees old.files old.cache → (s : Scope) → IsCounting D old.files parts s → IsTold (tells s) old.text new.text false)
       → CountsLine D told parts tells old new (Ok false)
@@ -209,7 +209,7 @@ module _ (D : ℕ) (files : Files) (parts : List LiveSegment) (s : Scope) (numbe
       line_to (Grid plan) (refusal (refusal_text number (grid_fault_text f))) reads
       (e.index, e.state, inl (f, subst (λ n. Judges n plan (Err f)) (sym e.dims) judged, refl))
 
-  -- and one that is
+  -- one grid isn't both planned and at fault
   judged_once : (n : ℕ) (plan : Plan) (f : GridFault) → Judges n plan (Ok plan) → Judges n plan (Err f) → ⊥
   judged_once n plan BadGrid ok bad = bad ok.1.0
   judged_once n plan (TooMany buckets) ok bad = let most = ok.1.1 in let is = bad.1 in let more = bad.2 in omega (arith, most, is, more)

@@ -19,7 +19,7 @@ dead s n are out =
     let within = are.within k d lt in
     ne_eqb (get_or s.live k d) n (λ e. elim out [ inl below ↦ omega (arith, within.0, e) | inr past ↦ omega (arith, within.1, e) ]))
 
--- numbers have 24 bits
+-- live numbers have 24 bits, so none above is live
 pub dead_above : (s : LiveSet) (n : ℕ) → IsLiveSet s → 2 ^ 24 ≤ n → is_live s n ≡ false
 dead_above s n are high = let limit = are.limit in dead s n are (inr (omega arith))
 

@@ -61,12 +61,12 @@ no_more x xs = sum_by-le-sum_by (λ (y : Item). one_if (same_item x y)) (λ (y :
 
 -- ---- all entries
 
--- entries of different numbers
+-- entries of different numbers stand once each, and are few of each number
 pub lone : (xs : List Item) → ((n : ℕ) → count_of n xs ≤ 1) → NoneTwice xs × AreFew xs
 unfolding NoneTwice
 lone xs one = (λ x. omega (arith, no_more x xs, one x.doc), λ n. omega (arith, one n))
 
--- entries in another order
+-- what holds of entries holds of them in another order
 module _ (xs ys : List Item) (moved : IsPermutation xs ys) where
   same_count : (q : Item → Bool) → count_by q ys ≡ count_by q xs
   same_count q = sum_by-IsPermutation (λ (x : Item). one_if (q x)) xs ys moved
@@ -86,7 +86,7 @@ module _ (xs ys : List Item) (moved : IsPermutation xs ys) where
   unfolding NoneTwice
   once_back (once, few) = (λ x. omega (arith, once x, same_count (same_item x)), λ n. omega (arith, few n, same_count (λ x. eqb x.doc n)))
 
--- those that p keeps
+-- what holds of the entries that p keeps, beside all of them
 module _ (p : Item → Bool) (xs : List Item) where
   crowded_among : (n : ℕ) → IsCrowded n (filter p xs) → IsCrowded n xs
   crowded_among n (inl many) = inl (omega (arith, many, fewer p (λ x. eqb x.doc n) xs))

@@ -60,7 +60,7 @@ has_is : {D : ℕ} (es : List (Entry D)) (n : ℕ) → has es n ≡ has_entry n 
 has_is [] n = refl
 has_is (e ∷ es) n = ap (λ (b : Bool). eqb e.doc n || b) (has_is es n)
 
--- the others have one
+-- the numbers that aren't bare have an entry
 pub count_found : {D : ℕ} (numbers : List ℕ) (es : List (Entry D))
     → count_by (λ n. has_entry n (items_of es)) numbers + length (bare es numbers) ≡ length numbers
 count_found numbers es =

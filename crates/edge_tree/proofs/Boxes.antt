@@ -52,7 +52,7 @@ pub off_apart : (b : Bounds) (run : List EdgeEnds) (p : List ℤ) → All (IsBox
 off_apart b run p i h =
     list_any_none (λ e. on e p) run (λ k d l. past (get_or run k d) p (apart_disjoint b (get_or run k d) (record { lo = p; hi = p }) (i k d l) h))
 
--- nor meets the cell
+-- a run whose box is apart from the cell meets it nowhere
 pub missed_apart : (b : Bounds) (run : List EdgeEnds) (cell : Region) → All (IsBoxed b) run → is_apart b cell ≡ true → any_meets run cell ≡ false
 missed_apart b run cell i h =
     list_any_none (λ e. not (misses e cell)) run (λ k d l. ap not (misses_disjoint (get_or run k d) cell (apart_disjoint b (get_or run k d) cell (i k d l) h)))

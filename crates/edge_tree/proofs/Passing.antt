@@ -26,11 +26,11 @@ alone false = refl
 passed : ℤ → EdgeEnds → Bool
 passed y e = is_passed (y_of e.0) (y_of e.1) y
 
--- one edge
+-- one edge alone is passed oddly where it is passed
 pub pass_oddly-one : (e : EdgeEnds) (y : ℤ) → pass_oddly (e ∷ []) y ≡ is_passed (y_of e.0) (y_of e.1) y
 pass_oddly-one e y = oddly-cons (λ (d : EdgeEnds). is_passed (y_of d.0) (y_of d.1) y) e [] ∙ alone (is_passed (y_of e.0) (y_of e.1) y)
 
--- two runs
+-- two runs together are passed oddly where just one of them is
 pub pass_oddly-append : (xs ys : List EdgeEnds) (y : ℤ) → pass_oddly (xs ++ ys) y ≡ not (beq (pass_oddly xs y) (pass_oddly ys y))
 pass_oddly-append xs ys y =
     oddly-append (λ (d : EdgeEnds). is_passed (y_of d.0) (y_of d.1) y) xs ys ∙ sym (differ (pass_oddly xs y) (pass_oddly ys y))

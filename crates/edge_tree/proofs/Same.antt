@@ -52,7 +52,7 @@ count_all edges test (r ∷ runs) =
     ∙ ap (λ n. count_by test (run_in edges r) + n) (count_all edges test runs)
     ∙ sym (sum_by-cons (λ r'. count_by test (run_in edges r')) r runs)
 
--- runs in another order
+-- runs in another order have the same edges
 pub same_sorted : (edges : List EdgeEnds) (runs sorted : List Run) → IsPermutation runs sorted → HaveSame (all_in edges sorted) (all_in edges runs)
 same_sorted edges runs sorted h =
     same-from (all_in edges sorted) (all_in edges runs) (λ test.

@@ -72,7 +72,7 @@ sound_pushed edges old now run n h =
       outlined = subst (λ (es : List EdgeEnds). Outlines es n.outline) (sym told) h.outlined;
     })
 
--- a leaf
+-- a node that holds a run stands as a leaf behind the others
 pub leaf_stands : (edges : List EdgeEnds) (nodes : List Node) (run : List EdgeEnds) (n : Node) → AreNodes edges nodes → HoldsRun edges run n
     → n.before ≡ length nodes
     → IsLastNode edges nodes nodes run n

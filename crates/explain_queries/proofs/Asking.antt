@@ -30,7 +30,7 @@ use Rattle.explain_queries.proofs.Nearby.{tells_near}
 
 -- ---- over the index that is looked at
 
--- a polygon's own telling
+-- what is told of a query for a polygon, by its own crossings
 abbrev pub tells_polygon : (rings : List (List (List ℤ))) → Telling
 tells_polygon rings = λ s t. InScope s (λ i u. TellsShape i.dims s.heads i.docs (in_plane_polygon i.dims rings) (polygons.crosses i.dims (all_edges rings)) u) t
 

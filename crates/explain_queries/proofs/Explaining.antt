@@ -122,7 +122,7 @@ looks_stays D told old new tells r looks t s e = record {
   heads = ap (λ (u : SetData). heads_of u.parts) looks.alone.is ∙ e.heads;
 }
 
--- it failed
+-- the look at the line failed, and so does its explanation
 pub explains_fault : {T : Type 0} (D : ℕ) (told : Type 0) (tells : Telling) (old new : ExplainMoment) (fault : PageFault) (r : Result Bool PageFault)
     → r ≡ Err fault
     → Looks {T = T} D told old new tells (Err fault) → Explains D told tells old new r

@@ -177,7 +177,7 @@ below_filter keep ns next below = record {
     both true b h = refl
     both false b h = h
 
--- what a closure keeps
+-- names that a closure keeps are below the next id still
 pub below_filtered : {P : Type 0} (R : P → FileName → Bool → P → Type 0) (p : P) (ns ms : List FileName) (next : ℕ) → IsFiltered R p ns ms
     → AreBelow (record { names = ns; next_segment = next }) → AreBelow (record { names = ms; next_segment = next })
 below_filtered R p ns ms next f below = record {

@@ -111,7 +111,7 @@ greatest_number series names r is =
 greatest_once : (taken : ℕ → Bool) (m n : ℕ) → IsGreatestTaken taken m → IsGreatestTaken taken n → m ≡ n
 greatest_once taken m n a b = omega (arith, a.most n b.is_taken, b.most m a.is_taken)
 
--- the first
+-- the first generation is 1, where none is taken
 pub next_first : (taken : ℕ → Bool) → ((n : ℕ) → taken n ≡ false) → IsNextGeneration taken 1
 next_first taken none = record {
   first = λ _. refl;
@@ -119,7 +119,7 @@ next_first taken none = record {
   at_end = λ g is _. absurd (both_ways (taken g) (none g) is.is_taken);
 }
 
--- one after the greatest
+-- a later one is one more than the greatest that is taken
 pub next_later : (taken : ℕ → Bool) (g : ℕ) → IsGreatestTaken taken g → g + 1 < 2 ^ 64 → IsNextGeneration taken (g + 1)
 next_later taken g is fits = record {
   first = λ none. absurd (both_ways (taken g) (none g) is.is_taken);

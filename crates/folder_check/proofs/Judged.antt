@@ -58,7 +58,7 @@ finding_at (e ∷ es) (f ∷ fs) all d h = elim (cons_cases e es d h) [
   | inr later ↦ let rest = finding_at es fs all.1 d later in (rest.0, cons_tail f fs rest.0 rest.1, rest.2)
 ]
 
--- and of which segment
+-- each finding is that of a segment
 segment_at : (held : List SegmentData) (findings : List Finding) → AllZip IsTalliedIn held findings → (f : Finding) → Contains findings f
     → (d : SegmentData) × Contains held d × IsTalliedIn d f
 segment_at held findings all f h = partner_of IsTalliedIn held findings all f h

@@ -56,7 +56,7 @@ other T page.Failed whole = tt
 other T page.Memory whole = tt
 other T (page.Damaged d) whole = whole
 
--- nothing is stored yet
+-- before the commit nothing is stored yet
 still_none : {T : Type 0} (told : Type 0) (seed n : ℕ) (a b : SessionMoment) (r : Result T PageFault) → Makes told (IsDrawn seed 0 0) (IsDrawn seed n n) a b r
     → told
     → IsCreated seed a → IsStored b.files None
@@ -83,7 +83,7 @@ pub ends_untold : (files : Files) (state : State) (answer : Answer) (before afte
 ends_untold files state answer before after r is h =
     subst (DoesWhole files state answer before after) (sym is) (does_fault files state answer before after page.Memory tt (inl h))
 
--- want of memory before
+-- memory was wanting before the index was created
 pub ends_uncreated : (files : Files) (answer : Answer) (before after : List ℕ) (r : Result Bool PageFault) → r ≡ Err page.Memory → files Commit ≡ None
     → DoesWhole files None answer before after r
 ends_uncreated files answer before after r is none =
@@ -125,7 +125,7 @@ ends_made told seed n a b c x y docs live hits near before after law grew (d, l,
   subst (IsStored c.files) (sym law) (commits.durable.stored t (drawn_index seed n n) (makes.made t new.made) (makes.guards t new.guards)).0,
 )
 
--- each segment is canonical
+-- each segment that the new commit lists is canonical
 pub made_canon : {T U : Type 0} (told : Type 0) (seed n : ℕ) (a b c : SessionMoment) (x : U) (y : T)
     → Makes told (IsDrawn seed 0 0) (IsDrawn seed n n) a b (Ok x)
     → CommitSays 2 told b c (Ok y) → told → IsCreated seed a → HasNewCanonical a.files c.files
@@ -138,7 +138,7 @@ made_canon told seed n a b c x y makes commits t new =
     (commits.seen t (drawn_index seed n n) at) (commits.stays.guards t guards) (commits.durable.kept t guards)
     commits.done.unchanged
 
--- no call failed
+-- where neither call failed, no fault was counted
 pub cause_done : {T U : Type 0} (f0 f1 f2 : ℕ) (x : T) (y : U) (is_refused : Bool) → HasPageCause f0 f1 (Ok x) → HasPageCause f1 f2 (Ok y)
     → HasPageCause f0 f2 (Ok is_refused)
 cause_done f0 f1 f2 x y is_refused first second =

@@ -32,7 +32,7 @@ use Rattle.std.proofs.lemmas.Result.{on_ok_weaker}
 abbrev pub At : Type 1
 At = SessionMoment → Type 0
 
--- nothing was done
+-- where nothing is done, the moment stays
 pub makes_none : {T : Type 0} (told : Type 0) (Before : At) (at : SessionMoment) (x : T) → Makes told Before Before at at (Ok x)
 makes_none told Before at x = record {
   made = λ t before. before;
@@ -60,7 +60,7 @@ created_trusts files s guards faithful bare = record {
   traced = λ p there. nil_none p (IsTraced 2 files p) (subst (λ (ps : List LiveSegment). Contains ps p) bare there);
 }
 
--- some, and then more
+-- some of it is made, and then the rest
 pub makes_then : {T U : Type 0} (told : Type 0) (Before Between After : At) (a b c : SessionMoment) (x : U) (r : Result T PageFault)
     → Makes told Before Between a b (Ok x) → Makes told Between After b c r → Makes told Before After a c r
 makes_then told Before Between After a b c x r first second = record {

@@ -22,7 +22,7 @@ sum_from a (n ∷ ns) = sum_from (a + n.dist2) ns
 pub distances_alone : (ns : List Near) → sum_by (λ (f : ℕ × ℕ). f.0) (found_of ns) ≡ sum_by (λ (n : Near). n.dist2) ns
 distances_alone ns = sum_from 0 ns
 
--- one distance more
+-- one distance more is added, and the sum doesn't saturate
 pub distance_more : (ns : List Near) (i total : ℕ) (d : Near) → i < length ns → total ≡ sum_by (λ (n : Near). n.dist2) (take i ns)
     → sum_by (λ (n : Near). n.dist2) ns < 2 ^ 128
     → min (total + (get_or ns i d).dist2) (2 ^ 128 - 1) ≡ sum_by (λ (n : Near). n.dist2) (take (i + 1) ns)

@@ -49,7 +49,7 @@ use Rattle.segment_set.proofs.Rearranged.{empty_list}
 use Rattle.segment_set.proofs.Saving.{cause_after}
 use Rattle.std.proofs.lemmas.Result.{on_ok_weaker}
 
--- nothing was added
+-- where no points are added, the moment stays
 pub adds_none : {T : Type 0} (D : ℕ) (told : Type 0) (at : SessionMoment) (x : T) → Adds D told [] at at (Ok x)
 adds_none D told at x = record {
   seen = λ t i seen. seen;
@@ -76,7 +76,7 @@ adds_no_memory D told points at = record {
   faults = record { cause = memory_cause at.faults at.faults (omega arith); whole = λ t i seen. tt; evident = tt };
 }
 
--- some, and then more
+-- some points are added, and then more
 pub adds_then : {T U : Type 0} (D : ℕ) (told : Type 0) (xs ys : List (List ℤ)) (a b c : SessionMoment) (x : U) (r : Result T PageFault)
     → Adds D told xs a b (Ok x) → Adds D told ys b c r → Adds D told (xs ++ ys) a c r
 adds_then D told xs ys a b c x r first second = record {
@@ -238,7 +238,7 @@ adds_more D told points k p a b c x r inside is first second =
     ∙ sym (ap coordinates_of (take_more points k p inside ∙ ap (λ (q : Point D). take k points ++ q ∷ []) (sym is))))
     (adds_then D told (coordinates_of (take k points)) (p.c ∷ []) a b c x r first second)
 
--- all of them
+-- where as many were added as there are, all were
 pub adds_all : {T : Type 0} (D : ℕ) (told : Type 0) (points : List (Point D)) (k : ℕ) (a b : SessionMoment) (r : Result T PageFault) → length points ≤ k
     → Adds D told (coordinates_of (take k points)) a b r
     → Adds D told (coordinates_of points) a b r

@@ -124,7 +124,7 @@ pub applies_merging_calm : (D : ℕ) (told : Type 0) (outcome : Index → Outcom
 applies_merging_calm D told outcome old new r calm same does begins cause whole evident = applies_with D told outcome old new r calm does begins cause whole
     (calm_shows D told old.files new.files old.session r same evident)
 
--- where nothing was changed
+-- a command is done that changed nothing
 pub applies_still : (D : ℕ) (told : Type 0) (outcome : Index → Outcome) (files : Files) (session : SessionData) (before after : List ℕ) (faults : ℕ)
     (r : Result Applied PageFault)
     → ((i : Index) → Sees D files session.set i → DoesOver D files (outcome i) i session.set before after r) → Begins before after

@@ -59,7 +59,7 @@ brings_named D told f g m n s t is_told files names follows named =
     brings_written D told f g m n s t is_told (keeps_calm told m n f g names files) follows
     (canon_named D g m t (subst (λ (l : NameList). All (IsNamed l) t) names named))
 
--- one call after another
+-- what two calls bring in turn, they bring together
 pub brings_then : (D : ℕ) (f g h : Files) (s t u : List LiveSegment) → BringsCanonical D f g s t → BringsCanonical D g h t u → BringsCanonical D f h s u
 brings_then D f g h s t u first second p there = ⊎_elim (λ r. through r) inr (second p there)
   where

@@ -43,7 +43,7 @@ calm_like D told files after s t commit refused text new_text faults new_faults 
   faithful = faithful;
 }
 
--- one that only reads
+-- a call that only reads changes nothing but the cache
 pub calm_cache : (D : ℕ) (told : Type 0) (files after : Files) (s t : SetData) (commit : Option CommitData) (refused : Bool) (text new_text : List ℕ)
     (faults new_faults : ℕ) → StaysButCache s t → (told → after ≡ files) → (told → IsFaithful D files s → IsFaithful D after t)
     → IsCalm D told (record { files = files; session = record { set = s; commit = commit; refused = refused }; text = text; faults = faults })

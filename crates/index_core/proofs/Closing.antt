@@ -46,7 +46,7 @@ tracked_same f g before now m names same = tracked_by f g before now m (λ e. ap
 pub tracked_named : (told : Type 0) (f g : Files) (before now : NameList) (m : FileName) → told → KeepsNamed told before now f g → IsTracked f g before now m
 tracked_named told f g before now m is_told keeps = tracked_by f g before now m (keeps.more m) (keeps.others is_told m)
 
--- by a commit
+-- a name is tracked over a commit that is written
 pub tracked_written : (f g : Files) (before now : NameList) (m : FileName) → now ≡ before → SameButTwo CommitNew Commit f g → g CommitNew ≡ None
     → IsTracked f g before now m
 tracked_written f g before now Commit names others gone = inr (inl refl)
@@ -58,7 +58,7 @@ tracked_written f g before now (Live segment generation) names others gone =
     tracked_by f g before now (Live segment generation) (λ e. ap (λ (n : NameList). is_named n.names (Live segment generation)) names ∙ e)
     (λ none. others (Live segment generation) (λ e. cc) (λ e. cc))
 
--- by a sweep
+-- and over a sweep that removes what it takes out
 pub tracked_swept : (f g : Files) (before now : NameList) (m : FileName) → (is_named before.names m ≡ false → g m ≡ f m)
     → (is_named before.names m ≡ true → is_named now.names m ≡ false → g m ≡ None)
     → IsTracked f g before now m
@@ -69,7 +69,7 @@ tracked_swept f g before now m others left = by (is_named now.names m) refl (is_
     by false none true was = inl (left was none)
     by false none false was = inr (inr (inr (was, others was)))
 
--- one after another
+-- and over two calls, one after the other
 pub tracked_then : (f g h : Files) (a b c : NameList) (m : FileName) → IsTracked f g a b m → IsTracked g h b c m → IsTracked f h a c m
 tracked_then f g h a b c m first second = ⊎_elim inl
     (λ rest. ⊎_elim (λ e. inr (inl e))

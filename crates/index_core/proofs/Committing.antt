@@ -82,7 +82,7 @@ as_committed D s m t c of empty same stays = record {
   empty = ap (λ (u : SetData). u.buffer) stays.is ∙ ap (λ (u : SetData). u.buffer) same ∙ empty;
 }
 
--- it was written anew
+-- the commit was written anew, over the lines of the last one
 pub commit_anew : (s t : SessionData) (c : CommitData) (lines : List Listed) → lines ≡ last_lines s.refused s.commit → t.commit ≡ Some c
     → All (IsLastOrFresh s.set.names lines) c.listed → All (KeepsLine s.set.names lines) c.listed → IsCommitAnew s t
 commit_anew s t c lines are is fresh kept = record {

@@ -86,7 +86,7 @@ anew_none D told old new s commit r none = record {
   doubled = λ is_told agrees contents read. whole_shows _ r none;
 }
 
--- by the commit's fault
+-- where a new commit was not saved, the damage is that of the save
 pub anew_saved : {T U : Type 0} {t : SetData} (D : ℕ) (told : Type 0) (old new : Files) (s : SetData) (commit : Option CommitData) (r : Result U PageFault)
     (fault : PageFault) → r ≡ Err fault
     → ShowsMerge {T = T} D told old new s t (Err fault) → ShowsAnew D told old new s t commit r
@@ -96,7 +96,7 @@ anew_saved D told old new s commit r fault is shows = record {
   doubled = λ is_told agrees contents read. damage_to _ r fault is (fault_each _ _ (λ d p. inl p) fault (shows.doubled is_told agrees contents read));
 }
 
--- by that of attaching
+-- where the last commit was not attached, the damage is that of attaching
 pub anew_attached : {T : Type 0} {t : SetData} (D : ℕ) (told : Type 0) (old new : Files) (s : SetData) (commit : Option CommitData) (c : CommitData)
     (r : Result T PageFault)
     (fault : PageFault) → r ≡ Err fault → commit ≡ Some c

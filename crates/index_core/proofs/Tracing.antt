@@ -96,7 +96,7 @@ traced_before D told f g s names is_told keeps guards named traced p there = ⊎
     inr (canon_file D f g p.head p.head refl (keeps.files is_told (Segment p.head.id) (All-contains (IsNamed s.names) s.parts p named there)) canonical))
     (traced p there)
 
--- and those of now
+-- the segments of now are traced where those of before were
 pub traced_after : (D : ℕ) (told : Type 0) (f g : Files) (s t : SetData) → told → KeepsNamed told s.names t.names f g → Follows s.names s.parts t.parts
     → BringsCanonical D f g s.parts t.parts → GuardsSet D f s
     → AreTraced D f s.parts → AreTraced D g t.parts

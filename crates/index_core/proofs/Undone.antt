@@ -46,7 +46,7 @@ undone_written old new commit (Err page.Failed) whole says = inr (says_commit ne
 undone_written old new commit (Err page.Memory) whole says = inr (says_commit new commit says)
 undone_written old new commit (Err (page.Damaged d)) whole says = absurd whole
 
--- after what kept all
+-- a fault after a call that kept all keeps what was there before that call
 fault_after : (a b c : Files) → SameKept a b → (fault : PageFault) → FaultKeeps b c fault → FaultKeeps a c fault
 fault_after a b c first page.Failed then = ⊎_elim (λ same. inl (kept_after a b c first same)) (λ there. inr there) then
 fault_after a b c first page.Memory then = ⊎_elim (λ same. inl (kept_after a b c first same)) (λ there. inr there) then

@@ -20,7 +20,7 @@ does_fault files stored answer before after page.Failed whole h = h
 does_fault files stored answer before after page.Memory whole h = h
 does_fault files stored answer before after (page.Damaged d) whole h = absurd whole
 
--- what a commit says
+-- what a commit says of the moments before and after it
 pub record CommitSays {T : Type 0} (D : ℕ) (told : Type 0) (b c : SessionMoment) (result : Result T PageFault) : Type 0 where
   pub seen : told → (i : Index) → Sees D b.files b.session.set i → Sees D c.files c.session.set i
   pub stays : StaysTrue D told b.files c.files b.session c.session

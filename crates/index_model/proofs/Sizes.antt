@@ -18,7 +18,7 @@ fits_all size a b c d e f g h i (suc (suc (suc (suc (suc (suc (suc zero))))))) _
 fits_all size a b c d e f g h i (suc (suc (suc (suc (suc (suc (suc (suc zero)))))))) _ = i
 fits_all size a b c d e f g h i (suc (suc (suc (suc (suc (suc (suc (suc (suc n))))))))) few = absurd (omega (arith, few))
 
--- a command
+-- how many bytes a command takes in memory, in n dimensions
 abbrev pub command_size : ℕ → ℕ
 command_size n = up 8 (max 1
     (max 4 (max 32

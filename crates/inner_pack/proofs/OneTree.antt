@@ -48,7 +48,7 @@ one_node D form n s u path references bytes places (Split d x l r) (Split e y l2
     (own_bytes_right D form n u path references bytes places e y l2 r2 k)) in
     (λ i. Split (c.dimension i) (c.value i) (left i) (right i))
 
--- the root's parts
+-- the root's bytes are those of a node with this tree
 pub root_node : (D form n : ℕ) (root : Region) (bytes : List ℕ) (t : IndexTree) → 1 ≤ form → form ≤ 3 → IsTreeIn D form n root bytes t
     → IsNodeOf D form n front root (map key root.lo) (spelled_part form (map key root.lo) front t) (told_part form front t) t
 root_node D form n root bytes t low high h = record {

@@ -222,6 +222,6 @@ left_counts k nodes places cells many_nodes many_cells some all =
 pub to_end : {X : Type 0} (k : ℕ) (xs : List X) → take (length xs - k) (drop k xs) ≡ drop k xs
 to_end k xs = ap (λ (n : ℕ). take n (drop k xs)) (sym (length-drop k xs)) ∙ take-length (drop k xs)
 
--- no place
+-- a place that stands for none
 abbrev pub nowhere : LeafPlace
 nowhere = record { page = 0; offset = 0; length = 0 }

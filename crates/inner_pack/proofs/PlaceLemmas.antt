@@ -9,7 +9,7 @@ use Rattle.inner_pack.specs.Places.{Spot, leaf_begin, leaf_end, LeafSpan, leaf_s
 use Rattle.inner_pack.specs.Trees.{IndexTree, Leaf, Split, lengths_of, leaf_count, IsShaped}
 use Rattle.inner_pack.specs.Bodies.{first_length, right_begin, place_bytes, places_table}
 
--- the lengths of leaves
+-- each is the length of a leaf: 1 to 4064 bytes
 abbrev pub AreLengths : List ℕ → Type 0
 AreLengths ns = All (λ length. (1 ≤ length) × (length ≤ 4064)) ns
 

@@ -27,7 +27,7 @@ values_agree p q h = count_agree p q 0 256 (λ i low high. h i high)
 pub count-cons : (p : ℕ → Bool) (a n : ℕ) → count_by p (range_with_len a (suc n)) ≡ cond (p a) 1 0 + count_by p (range_with_len (a + 1) n)
 count-cons p a n = sum_by-cons (λ i. cond (p i) 1 0) a (range_with_len (a + 1) n)
 
--- nothing passes
+-- where no number of a range passes, none is counted
 pub count_none : (p : ℕ → Bool) (a n : ℕ) → ((i : ℕ) → a ≤ i → i < a + n → p i ≡ false) → count_by p (range_with_len a n) ≡ 0
 count_none p a zero h = refl
 count_none p a (suc n) h =

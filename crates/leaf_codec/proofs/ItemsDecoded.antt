@@ -17,7 +17,7 @@ use Rattle.leaf_codec.proofs.KeysLemmas.{AreKeysOf, keys_spelled, get_or-raw_ite
 use Rattle.leaf_codec.proofs.RawNumbersLemmas.{raw_numbers, docs_again, numbers_raw}
 use Rattle.leaf_codec.proofs.ReadNumbers.{get_or-raw_docs}
 
--- the numbers of items
+-- the documents' numbers of the items, in their order
 abbrev pub docs : List Item → List ℕ
 docs items = map (λ x. x.doc) items
 

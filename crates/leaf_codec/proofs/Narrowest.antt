@@ -79,7 +79,7 @@ at_place a (suc n) (suc i) le =
     behind : (a n : ℕ) → a + suc n ≡ (a + 1) + n
     behind a n = omega arith
 
--- the loop's end
+-- at the loop's end the best dimension is the narrowest one
 pub narrowest_is : (D : ℕ) (varies : ℕ → Bool) (spread : ℕ → ℕ) (best least : ℕ) → IsNarrowestBelow D D varies spread best least
     → ((e : ℕ) → e < D → varies e ≡ true → spread e ≤ 256) → unwrap_or (narrowest D varies spread) D ≡ best
 unfolding narrowest
@@ -118,7 +118,7 @@ narrowest_is D varies spread best least h small =
       ]
     ]
 
-    -- the best one passes
+    -- the best dimension passes the test, where there is one
     passed : best < D → test best ≡ true
     passed some =
         let f = h.found some in

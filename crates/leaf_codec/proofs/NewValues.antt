@@ -136,7 +136,7 @@ has_risen byte n i rises some lt = elim (cases_eq (byte i) (byte (i - 1))) [
       ∙ sym (ne_eqb (byte i) (byte (i - 1)) apart)
 ]
 
--- one more of them
+-- of rising bytes one more is a new value where it isn't the one before
 pub rising_more : (byte : ℕ → ℕ) (n i : ℕ) → ((k : ℕ) → k + 1 < n → byte k ≤ byte (k + 1)) → 1 ≤ i → i < n → byte i < 256
     → values_of byte (i + 1) ≡ values_of byte i + cond (not (eqb (byte i) (byte (i - 1)))) 1 0
 rising_more byte n i rises some lt small =

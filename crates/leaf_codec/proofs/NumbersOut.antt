@@ -6,7 +6,7 @@ use Rattle.std.proofs.lemmas.List.FromFn.{map-range_with_len_more}
 use Rattle.point_codec.specs.Points.{Item}
 use Rattle.leaf_codec.specs.Raw.{RawNumbers, RawKeys, offset_at, raw_docs, raw_item, raw_items}
 
--- one more
+-- the numbers with one more, the least and its offset
 pub docs_more : (i : ℕ) (r : RawNumbers) → raw_docs (i + 1) r ≡ raw_docs i r ++ (r.least + offset_at r i) ∷ []
 unfolding raw_docs
 docs_more i r = map-range_with_len_more (λ k. r.least + offset_at r k) 0 i i (omega arith)
@@ -22,7 +22,7 @@ pub docs_said : (D n : ℕ) (numbers : RawNumbers) (r : RawKeys) → map (λ (x 
 unfolding raw_items raw_docs
 docs_said D n numbers r = each_said D numbers r (range_with_len 0 n)
 
--- none yet
+-- before the first number nothing is put
 pub docs_none : (old now : List ℕ) (r : RawNumbers) → now ≡ old → now ≡ old ++ raw_docs 0 r
 unfolding raw_docs
 docs_none old now r is = is ∙ sym (append-nil old)

@@ -104,7 +104,7 @@ dimensions_of D count at b cell items n p h begins keys =
     ap (λ k. raw_items D k (raw_numbers_of n) (raw_keys_of p)) (keys.counted ∙ sym begins.counted) ∙ said_are D count at b cell items n p h begins keys in
     subst (λ (t : List Item). AreDimensionsOf D t p.lengths.now p.sorted) (sym said) (record { lengths_are = sym of.lengths; sorted_is = sym of.sorted })
 
--- the dimension that leads
+-- the dimension that leads is the sorted one, or 0 where there is none
 leads_by : (D s : ℕ) (items : List Item) → s ≡ unwrap_or (sorted_dimension D items) D → (if nat_lt s D then s else 0) ≡ unwrap_or (sorted_dimension D items) 0
 leads_by D s items is =
     let l = leads D items in

@@ -224,7 +224,7 @@ pub row_not : (count : ℕ) (r : RawNumbers) (i : ℕ) → i < count → offset_
 row_not count r i lt apart low =
     row_false (raw_docs count r) i (omega (arith, length-raw_docs count r)) (λ e. apart (omega (arith, e, low, get_or-raw_docs count r i 0 lt)))
 
--- a row's offsets
+-- the offsets of a row are the places
 pub row_offsets : (r : RawNumbers) → r.width ≡ 0 → (i : ℕ) → offset_at r i ≡ i
 row_offsets r none i =
     (λ j. cond (eqb (none j) 0) i 0 + number_of (take (none j) (drop (i * none j) r.offsets))) ∙ omega arith

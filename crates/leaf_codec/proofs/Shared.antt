@@ -102,7 +102,7 @@ shares_all d items first shared x s member is =
     s.same))
     (λ lt. let w = s.differ lt in two_bytes d shared items w.0 x w.1 member (λ e. w.2 (e ∙ sym (ap (λ (bs : List ℕ). get_or bs shared 0) is))))
 
--- no keys share all
+-- where there are no keys, they share all four bytes
 pub shared_none : (d : ℕ) → shared_prefix d [] ≡ 4
 shared_none d =
     shared_is d 4 [] (omega arith) (λ k lt. same_byte d k 0 [] (λ j x none. absurd (omega arith))) (λ lt. absurd (omega arith))

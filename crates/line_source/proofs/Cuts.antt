@@ -15,7 +15,7 @@ use Rattle.script_lang.proofs.LinesOf.{line_ended, last_taken}
 use Rattle.line_source.specs.Reader.{Gives, GivesLine, HoldsBytes, KnowsEnd, TakesPart, kept_bytes, lines_left, waiting}
 use Rattle.line_source.specs.declared.reader.LineReader.{LineReader}
 
--- no byte is 10
+-- no byte of it is 10
 abbrev pub IsPlain : List ℕ → Type 0
 IsPlain xs = position_or_len (λ b. b == 10) xs ≡ length xs
 
@@ -39,7 +39,7 @@ line_cut xs ys h =
     ∙ ap (λ n. take n (xs ++ 10 ∷ ys) ∷ lines_of (drop (n + 1) (xs ++ 10 ∷ ys))) at
     ∙ (λ i. take-append_seam xs (10 ∷ ys) i ∷ lines_of (drop-append-add xs (10 ∷ ys) 1 i))
 
--- or at the end
+-- a text without a byte 10 is one line, at the end
 pub line_last : (xs : List ℕ) → IsPlain xs → 0 < length xs → lines_of xs ≡ xs ∷ lines_of []
 line_last xs h some = last_taken xs xs [] (length xs) some (sym h) (sym (take-length xs)) (sym (drop-length xs)) (omega arith)
 
@@ -195,7 +195,7 @@ reading_first told r left bytes none = record {
 
 module _ (told : Type 0) (old : LineReader) (before : List ℕ) (r s : LineReader) (left now bytes : List ℕ) (is_begun : Bool)
     (so_far : IsReading told old before r left bytes is_begun) where
-  -- more is held
+  -- where more is held, the lines left are those of what was seen, what waits and what is left
   held_on : (is_more : Bool) → (told → KnowsEnd r left → HoldsBytes s (waiting r ++ left) now is_more) → told → KnowsEnd old before
       → lines_left old before ≡ lines_of (so_far.seen ++ (waiting s ++ now))
   held_on is_more h t knows = so_far.whole t knows ∙ ap (λ b. lines_of (so_far.seen ++ b)) (h t (so_far.ended t knows)).whole
@@ -215,7 +215,7 @@ module _ (told : Type 0) (old : LineReader) (before : List ℕ) (r s : LineReade
       ended = λ t knows e. (h t (so_far.ended t knows)).ended (sym taken.ended ∙ e);
     }
 
-    -- or one that does
+    -- or the part ends the line, and it is given
     pub reading_ends : TakesPart s u so_far.seen after true → GivesLine told old before u now after
     reading_ends taken = record {
       line = so_far.seen ++ taken.part;
@@ -245,6 +245,6 @@ module _ (told : Type 0) (old : LineReader) (before : List ℕ) (r s : LineReade
     }
     by_begun false is = λ t knows. (all_seen t knows ∙ ap lines_of (so_far.unbegun is), ((h t (so_far.ended t knows)).none refl).1)
 
-    -- nothing is left
+    -- nothing is left of the source, and the line begun is the last
     pub reading_last : Gives told old before s now bytes (Ok is_begun)
     reading_last = by_begun is_begun refl

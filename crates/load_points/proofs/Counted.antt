@@ -67,7 +67,7 @@ matched_not D i points other = ap (λ b. cond b (refusal (Some i) (dims_text i.d
     other_dims : (m n : ℕ) → (n ≡ m → ⊥) → not (m == n) ≡ true
     other_dims m n h = grind (arith, nat_tests)
 
--- where not all fit
+-- where not all points fit, the answer is that it is full
 pub full_is : (D : ℕ) (stored : State) (i : Index) (points : List (List ℤ)) → opened_state D stored ≡ Some i → 2 ^ 24 + 1 ≤ i.given + length points
     → points_answer D stored points ≡ refusal stored full_text
 full_is D stored i points e many =
@@ -75,7 +75,7 @@ full_is D stored i points e many =
     (record { state = with_documents D stored points; text = loaded_text (length points) (next_of stored + length points); refused = 0 }))
     (ap (λ n. nat_lt (2 ^ 24) (n + length points)) (given_opened D stored i e) ∙ full_true (2 ^ 24) (i.given + length points) many)
 
--- where all fit
+-- where all points fit, the answer says how many there are
 abbrev pub done_answer : Index → List (List ℤ) → Answer
 done_answer i points = record { state = Some (with_points i points); text = loaded_text (length points) (i.next + length points); refused = 0 }
 

@@ -200,12 +200,12 @@ loading_rests D files s (Some i) l = ap at_rest (sym (is_some _ _ l.is) ∙ l.ke
 
 -- ---- all points are added
 
--- points begin no merge
+-- points that are added begin no merge
 points_begun : (i : Index) (points : List (List ℤ)) → (with_points i points).begun ≡ i.begun
 points_begun i [] = refl
 points_begun i (p ∷ ps) = points_begun (with_point i p) ps
 
--- where not all fit
+-- where not all points fit, the file is refused
 pub loading_full : (D : ℕ) (told trusts : Type 0) (files : Files) (s : SessionData) (faults : ℕ) (points : List (List ℤ)) (before after : List ℕ)
     → after ≡ before ++ text_line full_text → 2 ^ 24 + 1 ≤ s.set.given + length points
     → Loads told trusts (IsLoading D files s) (λ stored. columns_answer D stored points) (record { files = files; faults = faults; text = before })

@@ -57,7 +57,7 @@ module _ (old mid : List Near) (w : Near) (xs ys : List Near) (up : AllPairs Com
       (pairs_append ComesBefore xs ys (pairs_left ComesBefore xs (w ∷ ys) whole_up) (pairs_tail ComesBefore w ys (pairs_right ComesBefore xs (w ∷ ys) whole_up))
       (λ a b h g. pairs_across ComesBefore xs (w ∷ ys) whole_up a b h (cons_tail w ys b g)))
 
-  -- where the others stand
+  -- each other one comes before it or behind it
   sides : (a : Near) → Contains mid a → ComesBefore a w ⊎ ComesBefore w a
   sides a h = ⊎_elim
       (λ l. inl (pairs_across ComesBefore xs (w ∷ ys) whole_up a w l (cons_head w ys)))

@@ -97,7 +97,7 @@ stay_best entries c n d best e near = record {
         let is : d ≡ a.dist2 = cc in
         omega arith
 
--- what a put adds
+-- how many more there are after a put: one where it was new
 abbrev one_more : Bool → ℕ
 one_more b = cond (not b) 1 0
 
@@ -162,7 +162,7 @@ module _ (entries : List Near) (old : BTreeSet Near) (mid new : Many) (n : Near)
         λ b h. ⊎_elim (λ is. subst (λ y. ComesBefore y a) is gone.1) (λ k. gone.2 b k) (from b (from_keys new.in_order b h)),
       )
 
--- a candidate comes nearer
+-- a number among the candidates comes nearer
 pub improved_best : (entries : List Near) (old mid new : Many) (n : Near) (d : ℕ) → AreKept entries old → hash.get eqb old.distances n.doc ≡ Some d
     → n.dist2 < d
     → mid.room ≡ old.room → mid.distances ≡ old.distances

@@ -91,11 +91,11 @@ said_of P o x is h = subst (λ p. IsSomeAnd p P) is h
 -- ---- sums over the live ones of parts of a list
 
 module _ (at : List ℤ) (live : LiveSet) (f : Near → ℕ) where
-  -- what an entry adds
+  -- what an entry adds to the sum, 0 where its number isn't live
   abbrev part : Item → ℕ
   part x = cond (is_live live x.doc) (f (near_of at x)) 0
 
-  -- what entries add
+  -- what the entries with live numbers add to the sum
   abbrev pub live_sum : List Item → ℕ
   live_sum xs = sum_by f (nears_of at (live_items live xs))
 

@@ -98,13 +98,13 @@ one_place heads up i j in_i in_j same = elim (cases_lt i j) [
   ]
 ]
 
--- nothing was marked
+-- a call that marks nothing keeps to the rule of marks
 pub marks_same : (D : ℕ) (watched : Bool) (heads : List Head) (lives : List LiveSet) (cache : PageCache) → (IsTrue watched → MayPass D cache heads lives)
     → MarksDead D watched heads lives cache cache
 marks_same D watched heads lives cache passes =
     record { hides = λ on. (passes on).hides; go = λ off i number offset len page known. known }
 
--- calls one after another
+-- and so do two calls in turn that keep to it
 pub marks_then : (D : ℕ) (watched : Bool) (heads : List Head) (lives : List LiveSet) (old mid new : PageCache) → MarksDead D watched heads lives old mid
     → MarksDead D watched heads lives mid new → MarksDead D watched heads lives old new
 marks_then D watched heads lives old mid new first second = record {

@@ -122,7 +122,7 @@ parts D w i first s path t dim x l r e hi lo cells leaves =
       right_leaves = leaves'.1;
     }
 
--- both children wait now
+-- after a fork both children of the node wait
 pub fork_step : {D : ℕ} (w : World) (all : List Near) (at : List ℤ) (next : Waiting) (old mid new : Front D) (left right : NodeAt D) (found : Candidates)
     → w.at ≡ at
     → (s : IsSought D w all (next ∷ old.turns) old.nodes found)

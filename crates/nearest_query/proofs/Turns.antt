@@ -42,7 +42,7 @@ same_turn turns new d seg f f' l l' p p' a b c h =
     (subst (λ x. IsPermutation (record { dist2 = record { 0 = d }; segment = seg; first = f'; leaves = x; place = p } ∷ turns) new) b
     (subst (λ x. IsPermutation (record { dist2 = record { 0 = d }; segment = seg; first = x; leaves = l; place = p } ∷ turns) new) a h))
 
--- the turn that came
+-- the turn of a node, by its distance, segment and place
 abbrev pub turn_of : {D : ℕ} → ℕ → ℕ → NodeAt D → ℕ → Waiting
 turn_of d seg node place = record { dist2 = record { 0 = d }; segment = seg; first = node.first; leaves = node.leaves; place = place }
 

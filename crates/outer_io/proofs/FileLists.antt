@@ -74,7 +74,7 @@ named_at name es i d found =
     let below : position_or_len (is_named name) es < length es = rw (← at.0) at.1 in
     rw at.0 (passes_at_first (is_named name) es d below)
 
--- and is the file
+-- the entry at the position of a name is its file
 files_in-at : (name : FileName) (es : List Entry) (i : ℕ) (d : Entry) → position (is_named name) es ≡ Some i
     → files_in es name ≡ Some (get_or es i d).bytes.items
 files_in-at name es i d found =

@@ -95,7 +95,7 @@ pub taken_valid : (es : Kept) (id number : ℕ) (r : Option (Box PageBytes Globa
 taken_valid es id number None valid k = tt
 taken_valid es id number (Some p) valid k = subst (IsPage 1 id number) k.2 (valid (page_key id number, k.0) k.1)
 
--- marks change no page
+-- marks change no page, so all stay valid
 pub valid_marked : (key : PageKey) (part : LeafPart) (old new : Kept) → MarksOne key part old new → AllValid old → AllValid new
 valid_marked key part old new marks valid e c =
     let was = marks.was e.0 e.1.page.value.b (e.1, c, refl) in subst (IsPage 1 e.0.id e.0.number) was.2 (valid (e.0, was.0) was.1)

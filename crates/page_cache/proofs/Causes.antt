@@ -10,7 +10,7 @@ use Rattle.page_cache.specs.Causes.{HasPageCause, page_fault}
 pub done_cause : {T : Type 0} (before now : ℕ) (x : T) → now ≡ before → HasPageCause before now (Ok x)
 done_cause before now x same = record { later = omega (arith, same); fine = same; failed = λ e. absurd cc }
 
--- want of memory
+-- want of memory is answered without a fault of the folder
 pub memory_cause : {T : Type 0} (before now : ℕ) → before ≤ now → HasPageCause {T = T} before now (Err page.Memory)
 memory_cause before now later = record { later = later; fine = tt; failed = λ e. absurd cc }
 

@@ -91,7 +91,7 @@ other_size asks files p pages file size needed first asked e =
     subst (λ (name : FileName). IsSizeOf asks files name size needed) (sym e.0)
     (inr (record { has = e.1 ∙ first.size; first = first.page; pages = pages; asked = subst (λ (l : List ℕ). asks l pages) first.payload asked; needs = e.2 }))
 
--- the same of answers
+-- an answer with the damage of a page has that of its file
 pub on_file_from_page : {T : Type 0} (r : Result T PageFault) (name : FileName) (n : ℕ) → OnDamage r (IsPageDamage name n) → OnDamage r (IsFileDamage name)
 on_file_from_page r name n = on_damage_weaker r (IsPageDamage name n) (IsFileDamage name) (file_from_page name n)
 

@@ -14,7 +14,7 @@ use Rattle.page_cache.specs.declared.faults.PageFault.{PageFault}
 use Rattle.page_cache.specs.declared.faults.PageFault.TheVariants.{Failed, Damaged, Memory}
 use Rattle.page_cache.specs.Evidence.{FaultShows, OnDamage, NotDamaged, IsPageOf, IsPageDamageOf, seen_end}
 
--- a whole page came
+-- a read that brought a whole page brought that of the file
 pub read_whole : (files : Files) (name : FileName) (n at count : ℕ) (old new : List ℕ) → length old ≡ 4096 → at ≡ 4096 * n → 4096 ≤ count
     → IsReadAt (files name) at count old new → IsPageOf files name n new
 unfolding page_at

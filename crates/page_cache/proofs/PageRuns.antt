@@ -60,7 +60,7 @@ page_at_back a b first n i len e =
     let place : 4096 * n ≡ length a + 4096 * i = omega arith in
     ap (λ (k : ℕ). take 4096 (drop k (a ++ b))) place ∙ ap (λ (x : List ℕ). take 4096 x) (drop-append-add a b (4096 * i))
 
--- one page alone
+-- of one page alone the page at 0 is itself
 pub page_at_only : (page : List ℕ) → length page ≡ 4096 → page_at page 0 ≡ page
 unfolding page_at
 page_at_only page len = take_all 4096 page (omega arith)

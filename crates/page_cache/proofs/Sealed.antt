@@ -90,7 +90,7 @@ sealed_from name number from old grown front page sealed within fits e f h is sa
     shorter : 4064 - length (drop from old) ≤ from + 4096 - length old
     shorter = omega (arith, part)
 
--- nothing was put yet
+-- before the first page nothing was put
 pub put_none : (name : FileName) (first : ℕ) (body old : List ℕ) → PutSoFar name first body 0 old old
 unfolding payloads_of
 put_none name first body old = record {
@@ -101,7 +101,7 @@ put_none name first body old = record {
   payload = refl;
 }
 
--- one more page
+-- one page more is put behind the others
 pub put_more : (name : FileName) (first : ℕ) (body rest part : List ℕ) (i : ℕ) (old mid new : List ℕ) → i < pages_for (length body)
     → rest ≡ drop (4064 * i) body → part ≡ take (min (length rest) 4064) rest
     → PutSoFar name first body i old mid → AppendsPage name (first + i) part mid new → PutSoFar name first body (i + 1) old new
@@ -132,7 +132,7 @@ put_more name first body rest part i old mid new some e f put page =
           ∙ ap (λ (n : ℕ). take n (padded_body body)) grown;
     }
 
--- all pages were put
+-- where all pages were put, the body's pages are appended
 pub put_all : (name : FileName) (first : ℕ) (body old new : List ℕ) (count : ℕ) → count ≡ pages_for (length body)
     → PutSoFar name first body count old new → AppendsPages name first body old new
 put_all name first body old new count all put = record {

@@ -5,7 +5,7 @@ use Rattle.page_cache.specs.declared.faults.PageFault.{PageFault}
 use Rattle.page_cache.specs.Cache.{KeepsPages}
 use Rattle.page_cache.specs.Reading.{ReadsNothing}
 
--- a call that failed
+-- a call that failed, and counted no read, reads nothing
 pub reads_failed : {T : Type 0} (before now : ℕ) (old new : PageCache) (r : Result T PageFault) (fault : PageFault) → r ≡ Err fault → now ≡ before
     → ReadsNothing before now old new r
 reads_failed before now old new r fault is same = subst (ReadsNothing before now old new) (sym is) (record { reads = same; kept = tt })

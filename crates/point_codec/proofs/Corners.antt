@@ -44,7 +44,7 @@ all_le-antisym (x ∷ xs) (y ∷ ys) h k =
 number_at : (x y : ℤ) → int_le x y ≡ true → x ≤ℤ y
 number_at x y h = omega (arith, ints)
 
--- in one dimension
+-- what is so in each dimension is so in this one
 pub all_le_at : (a b : List ℤ) (i : ℕ) → all_le a b ≡ true → i < length a → get_or a i (pos 0) ≤ℤ get_or b i (pos 0)
 all_le_at [] b i h k = absurd (omega arith)
 all_le_at (x ∷ xs) [] i h k = cc

@@ -31,7 +31,7 @@ div_cmp m n =
     let hn : n % 256 < 256 = omega arith in
     ap (λ x. nat_cmp x n) em ∙ ap (λ y. nat_cmp (m / 256 * 256 + m % 256) y) en ∙ digit_cmp _ _ _ _ hm hn
 
--- four digits in turn
+-- four digits are compared in turn, the greatest first
 joined : (t a b c3 c2 c1 c0 : Ordering) → t ≡ ordering_then a c0 → a ≡ ordering_then b c1 → b ≡ ordering_then c3 c2
     → ordering_then c3 (ordering_then c2 (ordering_then c1 (ordering_then c0 Equal))) ≡ t
 joined t a b c3 c2 c1 c0 e f g =

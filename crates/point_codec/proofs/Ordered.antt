@@ -163,7 +163,7 @@ dedup_few : {X : Type 0} (E : X → X → Bool) (xs : List X) → length (dedup 
 dedup_few E [] = omega arith
 dedup_few E (x ∷ xs) = omega (arith, few_from E x xs)
 
--- one point alone
+-- one point alone is a list of points in order
 pub one_point : (point : List ℤ) → ArePoints (point ∷ [])
 unfolding IsStrictlySortedBy
 one_point point = record { some = omega arith; few = omega arith; ascending = (tt, tt) }

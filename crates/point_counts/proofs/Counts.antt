@@ -74,7 +74,7 @@ add_past table place more past = record { counts = λ n was. record { each = λ 
     by n was k lt true e = let same = eqb-true place k e in absurd (omega (arith, same, past, lt))
     by n was k lt false e = let old = was.each k lt in omega (arith, old)
 
--- a table of noughts
+-- a table of noughts says that nothing was counted
 pub no_counts : (table : List ℕ) → ((k : ℕ) → k < length table → get_or table k 0 ≡ 0) → HasCounts (λ k. 0) table
 no_counts table none = record { each = λ k lt. let z = none k lt in omega (arith, z) }
 

@@ -71,7 +71,7 @@ opened_upto D box test parts i p n is all =
           omega (arith, whole.sum, two.sum);
     }
 
--- those of one segment
+-- the leaves opened of one segment alone are those of its tree
 pub one_segment : (D : ℕ) (box : Region) (test : Region → Bool) (p : LiveSegment) (n : ℕ) (root : Region) (t : IndexTree)
     → OpensLeaves D box test (p ∷ []) n → HasTree D p.head.index root t
     → n ≡ opened_below (is_clean p) box test t

@@ -6,7 +6,7 @@ use Rattle.std.proofs.lemmas.Int.{ints, by_lt_z}
 use Rattle.ring_parity.proofs.Signs.{turn, rising_east, rising_west, falling_east, falling_west, turn-at_start}
 use Rattle.ring_parity.proofs.Signs.{turn-at_end, turn-turned, CornersLeft, left_of_line, factor_positive, factor_negative}
 
--- exactly one of two
+-- just one of the two is true
 abbrev pub xor : Bool → Bool → Bool
 xor a b = cond a (not b) b
 

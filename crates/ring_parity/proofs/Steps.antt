@@ -32,7 +32,7 @@ closed_by at first last some f l r e =
     let decides = signed_items first.c last.c in
     (λ t. start ∙ decides.0 (sym e ∙ t) ∙ sym end, λ c. e ∙ decides.1 (sym start ∙ c ∙ end))
 
--- one more linear ring
+-- the rings so far with one more linear ring
 pub linear_more : (list : List (List (List ℤ))) (i : ℕ) (at : List (Point 2)) (ring : List (List ℤ)) → i < length list → ring ≡ get_or list i ring
     → coordinates_of at ≡ ring → 4 ≤ length at → IsClosed (coordinates_of at) → All IsLinearRing (take i list) → All IsLinearRing (take (i + 1) list)
 linear_more list i at ring there is seen enough closed before =

@@ -68,7 +68,7 @@ cause_from f0 f1 f2 k0 k1 k2 result f k h = record {
 
 -- ---- causes of a call, and of the end
 
--- the folder wasn't asked
+-- a folder that wasn't asked counted no fault
 pub page_none : {T : Type 0} (f : ℕ) (x : T) → HasPageCause f f (Ok x)
 page_none f x = record { later = omega arith; fine = refl; failed = λ e. absurd cc }
 

@@ -102,7 +102,7 @@ stage_on told T a b c x t p rest line one refused text = record {
   text = λ h. text h ∙ ap (λ bs. bs ++ t.text) (p.text h) ∙ append_assoc a.written p.of_done.text t.text;
 }
 
--- all lines were told
+-- where no line is left, all lines were told
 pub stage_all : (told : Type 0) (T : Teller) (a b : Stage) (new : List ℕ) → Tellings told T a b → b.rest ≡ [] → (told → new ≡ b.written)
     → EndsLines told T a.line a.refused a.rest a.written new (Ok b.refused)
 stage_all told T a b new p none text = (
@@ -116,7 +116,7 @@ stage_all told T a b new p none text = (
   },
 )
 
--- nothing more was told
+-- a run that stops here has told some of the lines
 pub stage_stops : (told : Type 0) (T : Teller) (a b : Stage) (new : List ℕ) → Tellings told T a b → (told → new ≡ b.written)
     → TellsSome told T a.line a.rest a.written new
 stage_stops told T a b new p text = record { done = p.done; rest = b.rest; whole = p.whole; of_done = p.of_done; all = p.all; text = λ h. text h ∙ p.text h }
@@ -216,7 +216,7 @@ left_line told T line bytes old new page.Failed whole r is same = subst (SendsLi
 left_line told T line bytes old new page.Memory whole r is same = subst (SendsLine told T line bytes old new) (sym is) (λ t. same)
 left_line told T line bytes old new (page.Damaged d) whole r is same = absurd whole
 
--- no line was told
+-- where nothing was written, no line was told
 pub none_told : (told : Type 0) (T : Teller) (line : ℕ) (lines : List (List ℕ)) (old new : List ℕ) → new ≡ old → TellsSome told T line lines old new
 none_told told T line lines old new same =
     record { done = []; rest = lines; whole = refl; of_done = silence; all = refl; text = λ t. same ∙ sym (append-nil old) }

@@ -22,7 +22,7 @@ boundary_at text (suc k) u e =
 pub boundary_behind : (text : List ℕ) (n : ℕ) → IsUtf8 text → n ≡ prefix_len is_blank text → IsCharBoundary text n
 boundary_behind text n u e = boundary_at text n u e
 
--- before the first blank
+-- the place of the first blank is one between characters
 pub boundary_before : (text : List ℕ) (n : ℕ) → n ≡ position_or_len is_blank text → n ≤ length text → IsCharBoundary text n
 boundary_before text n e within =
     (within, λ inside high. absurd (not_high text n e inside high))

@@ -51,7 +51,7 @@ writes_both {xs = xs} {ys = ys} w v = record {
   count = omega (arith, w.count, v.count, length-append xs ys);
 }
 
--- one word is read
+-- one word that is read writes one value
 pub writes_one : {X : Type 0} (value : List ℕ → Option X) (word : List ℕ) (x : X) (a b : Words)
     → Takes word a b → Ok x ≡ value_of value a.place word → Writes value (x ∷ []) a b
 writes_one value word x a b t is = record {

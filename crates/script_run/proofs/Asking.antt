@@ -78,7 +78,7 @@ taken_if name i = if are_many i then Refused why.TooManySnapshots else taken nam
 
 -- ---- a begun merge
 
--- no merge is begun
+-- no merge is begun in the index, if there is one
 abbrev pub Rested : State → Type 0
 Rested None = Unit {0}
 Rested (Some i) = i.begun ≡ false

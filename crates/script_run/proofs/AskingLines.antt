@@ -22,7 +22,7 @@ all_weaker lang t u weaker line state [] h = tt
 all_weaker lang t u weaker line state (l ∷ ls) h =
     (asks_weaker lang t u weaker line state l h.0, all_weaker lang t u weaker (line + 1) (answer lang line state l).state ls h.1)
 
--- queries leave the state
+-- lines that are all queries leave the state
 pub queries_stay : (lang : Language) → (line : ℕ) (state : State) (lines : List (List ℕ)) → AllAsk lang is_query line state lines
     → state_after (meaning lang) line state lines ≡ state
 queries_stay lang line state [] h = refl

@@ -227,7 +227,7 @@ breaks_here m b files new line rest next part stored = record {
   stored = stored;
 }
 
--- no line is left
+-- the run finishes here, since no line is left
 pub finishes_here : {told : Type 0} (m : Meaning) → (b : ScriptPlace) (files : Files) (new : List ℕ) → b.rest ≡ [] → (told → new ≡ b.written)
     → IsStored files (final b.state)
     → EndsLines m told b files new (Ok b.refused)

@@ -96,7 +96,7 @@ closes_by D i old new r seen c = record {
   reads = c.reads;
 }
 
--- where it failed
+-- where the end failed, the session is closed with that fault
 pub closes_fails : {T E told : Type 0} (D : ℕ) (i : Index) (old new : LineMoment) (r : Result T E) (e : E) → r ≡ Err e → Sees D old.files old.session.set i
     → Ends {T = T} D told old new (Err e) → Closes D i old new r
 closes_fails {T} D i old new r e is seen c = subst (Closes D i old new) (sym is) (closes_by {T = T} D i old new (Err e) seen c)
@@ -211,7 +211,7 @@ module _ (lang : Language) (D line0 : ℕ) (i0 : Index) (lines : List (List ℕ)
       light = λ heads looks empty rested asks points n touches. light_on heads start.reads n (led.light heads looks empty rested asks points n touches);
     }
 
-  -- queries are light lines
+  -- lines that are all queries are light lines too
   either_light : (heads : List Head) → (IsIdle start.session × AllAsk lang is_query line0 (Some i0) lines) ⊎ AreLight lang heads line0 (Some i0) lines
       → AllAsk lang is_light line0 (Some i0) lines × (given_of (state_after (meaning lang) line0 (Some i0) lines) ≤ i0.given + 16384)
   either_light heads (inr l) = (l.asks, l.points)

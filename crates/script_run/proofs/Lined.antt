@@ -36,7 +36,7 @@ use Rattle.stored_index.proofs.Whole.{no_index}
 
 -- ---- the beginning
 
--- no session was opened
+-- no session was opened, for this fault, and all stays as it was
 pub unopened : (lang : Language) → (told : Type 0) (p : ScriptPlace) (old files : Files) (new : List ℕ) (fault : PageFault) → FaultShows (λ _. ⊥) fault
     → files ≡ old
     → IsStored old p.stored
@@ -50,7 +50,7 @@ origin_keeps files (origin.New dims leaf) i stored h = subst (IsStored files) (s
 origin_keeps files (origin.Stored commit) i stored h = subst (IsStored files) (sym h.2) h.1
 
 module _ (lang : Language) (told : Type 0) (old files after : Files) (written : List ℕ) where
-  -- no commit was found
+  -- no commit was found, so the lines start without an index
   pub from_none : (state : State) → files ≡ old → old Commit ≡ None → IsStored old state → (lines : List (List ℕ)) (new : List ℕ) (result : Result ℕ Halt)
       → (files Commit ≡ None → EndsRead (meaning lang) told (start None lines written) after new result)
       → EndsRead (meaning lang) told (start state lines written) after new result
@@ -58,7 +58,7 @@ module _ (lang : Language) (told : Type 0) (old files after : Files) (written : 
       subst (λ s. EndsRead (meaning lang) told (start s lines written) after new result) (sym (no_index old state none h))
       (ends (ap (λ (f : Files). f Commit) same ∙ none))
 
-  -- this one was
+  -- a commit was found, so the lines start from what it stores
   pub from_some : (commit : CommitData) (state : State) → files ≡ old → IsCommitFile (bytes_of (old Commit)) commit → IsStored old state
       → (lines : List (List ℕ)) (new : List ℕ) (result : Result ℕ Halt)
       → ((i : Index) (stored : State) → IsFrom files (origin.Stored commit) i stored
@@ -89,7 +89,7 @@ module _ {told : Type 0} (lang : Language) (D : ℕ) (l : Line) (files : Files) 
   sent_answers none a (Err stop.Memory) known cause sent = let e : IsErrOf {T = Bool} (Err stop.Memory) stop.SinkFault = cause in absurd cc
   sent_answers none a (Err (stop.Damaged damage)) known cause sent = let e : IsErrOf {T = Bool} (Err (stop.Damaged damage)) stop.SinkFault = cause in absurd cc
 
--- nothing was sent
+-- the answer failed, so nothing was sent
 pub left_answers : (lang : Language)
     → (told : Type 0) (D : ℕ) (l : Line) (files : Files) (s : SessionData) (before reply written new : List ℕ) (fault : PageFault)
     → Replies lang D l files s before reply (Err fault)
@@ -131,7 +131,7 @@ module _ {told : Type 0} (lang : Language) (from : ScriptPlace) (line refused : 
       (sym (ap (λ r. refused + r) none_refused ∙ add-zero refused)) text)
       after last result h
 
-  -- no line is left
+  -- no line is left, and none has opened an index
   pub finishes_first : (files : Files) → IsStored files None → ls ≡ [] → EndsLines (meaning lang) told from files written (Ok refused)
   finishes_first files none empty =
       ends_from (meaning lang) from (place_off line refused ls written) g files written (Ok refused)
@@ -142,7 +142,7 @@ module _ {told : Type 0} (lang : Language) (from : ScriptPlace) (line refused : 
   halts_first files none = halts_from (meaning lang) from (place_off line refused ls written) g files written
       (halts_here (meaning lang) (place_off line refused ls written) files written (λ _. refl) none)
 
-  -- or memory is wanting
+  -- or memory is wanting, before an index was opened
   pub memory_first : (files : Files) → IsStored files None → EndsLines (meaning lang) told from files written (Err stop.Memory)
   memory_first files none =
       ends_from (meaning lang) from (place_off line refused ls written) g files written (Err stop.Memory)

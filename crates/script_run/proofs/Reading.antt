@@ -106,7 +106,7 @@ pub of_same : (told : Type 0) (r : LineReader) (left : List ℕ) (P Q : List (Li
     → OfLines told r left Q
 of_same told r left P Q f (lines, are, h) = (lines, are, f lines h)
 
--- whichever lines are left
+-- what holds of any lines holds of those that are left
 pub of_any : (told : Type 0) (r : LineReader) (left : List ℕ) (P : List (List ℕ) → Type 0) → ((ls : List (List ℕ)) → P ls) → OfLines told r left P
 of_any told r left P h = (lines_left r left, λ t knows. refl, h (lines_left r left))
 
@@ -170,7 +170,7 @@ module _ (lang : Language) (told : Type 0) (D line0 refused0 : ℕ) (i : Index) 
       led_breaks lang D line0 i lines start line g.goes.index more now g.led d,
     )
 
-  -- no line is left
+  -- no line is left, so the session is closed and the run ends
   pub going_ends : {E : Type 0} (g : Going lang told D line0 refused0 i stored written0 start lines now line refused [] written) (new : LineMoment)
       (done : Result ℕ Stop) (result : Result ℕ E)
       → IsEnd new.files g.goes.index g.goes.stored refused done → Closes D g.goes.index now new result

@@ -82,7 +82,7 @@ module _ {told : Type 0} (lang : Language) (D : ℕ) (from : ScriptPlace) (old f
   halts_at = halts_from (meaning lang) from (place_on line refused g.index g.stored ls written) g.progress old written
       (halts_here (meaning lang) (place_on line refused g.index g.stored ls written) old written (λ _. refl) g.stands.keeps)
 
-  -- or memory is wanting
+  -- or memory is wanting for the next line
   pub memory_at : EndsLines (meaning lang) told from old written (Err stop.Memory)
   memory_at = ends_from (meaning lang) from (place_on line refused g.index g.stored ls written) g.progress old written (Err stop.Memory)
       (stops_here (meaning lang) (place_on line refused g.index g.stored ls written) old written (λ _. refl) (inl g.stands.keeps))

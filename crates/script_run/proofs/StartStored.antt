@@ -23,7 +23,7 @@ use Rattle.index_core.proofs.Committing.{on_ok_any}
 
 module _ {T E : Type 0} (lang : Language) (state : State) (lines : List (List ℕ)) (old middle new : Files) (before between now : ℕ) (result : Result T E)
     (same : middle ≡ old) (stored : IsStored old state) where
-  -- no commit was found
+  -- no commit was found, so the lines lead on without an index
   pub leads_first : old Commit ≡ None → between ≡ before → (middle Commit ≡ None → LeadsAll lang None lines middle new between now result)
       → LeadsAll lang state lines old new before now result
   leads_first none unread leads =
@@ -57,7 +57,7 @@ module _ {T E : Type 0} (lang : Language) (state : State) (lines : List (List �
         let pages_are = opening_is old commit s pages says scope opening in
         omega (arith, few, most, pages_are)
 
-    -- this one was
+    -- a commit was found, and the lines lead on from what it stores
     pub leads_some : LeadsAll lang state lines old new before now result
     leads_some =
         let at = leads_at state stored in
@@ -68,7 +68,7 @@ module _ {T E : Type 0} (lang : Language) (state : State) (lines : List (List �
           reads = stored_reads;
         }
 
--- reading the commit failed
+-- reading the commit failed, and the files stay
 pub leads_unread : {T E : Type 0} (lang : Language) → (state : State) (lines : List (List ℕ)) (old new : Files) (before now : ℕ) (result : Result T E) (e : E)
     → new ≡ old → (old Commit ≡ None → now ≡ before)
     → ((c : CommitData) → IsCommitFile (bytes_of (old Commit)) c → now ≤ before + length (bytes_of (old Commit)) / 4096) → result ≡ Err e

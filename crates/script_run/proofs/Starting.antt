@@ -70,7 +70,7 @@ no_length : {X : Type 0} (xs : List X) → length xs ≤ 0 → xs ≡ []
 no_length [] h = refl
 no_length (x ∷ xs) h = absurd (omega (arith, h))
 
--- a new session
+-- a new session opens as a new index, without a read
 pub opens_new : (D dims leaf : ℕ) (files : Files) (reads : ℕ) (s : SessionData) (i : Index) (stored : State) → dims ≡ D
     → ((f : Files) → Sees D f s.set (new_index D leaf)) → s.set.parts ≡ []
     → IsFrom files (origin.New dims leaf) i stored → Opens (origin.New dims leaf) i stored files reads reads (Ok s)
@@ -184,7 +184,7 @@ touches_none lang heads line rest n m k none sum h = subst (TouchesLines lang he
 
 module _ (lang : Language) (lines : List (List ℕ)) (line : ℕ) (rest : List (List ℕ)) (near : Nears lang lines line rest) (x : List ℕ) (more : List (List ℕ))
     (is : rest ≡ x ∷ more) where
-  -- still none is there
+  -- still no index is there, and the lines left ask what all do
   pub nears_on : (answer lang line None x).state ≡ None → Nears lang lines (line + 1) more
   nears_on none = record {
     asks = λ test h. all_rest lang line None None rest x more is none test (near.asks test h);

@@ -103,7 +103,7 @@ read_source (Err (halt.Stopped stop.Memory)) d = absurd d
 read_source (Err (halt.Stopped stop.SinkFault)) d = absurd d
 read_source (Err (halt.Stopped (stop.Damaged damage))) d = absurd d
 
--- no input is refused
+-- lines that come from a source never end as wrong use or too large
 pub never_refuses : (done : Result ℕ Halt) → (status_of_lines done ≡ status.Usage) ⊎ (status_of_lines done ≡ status.TooLarge) → ⊥
 never_refuses (Ok count) h = by_counted (count == 0) h
   where

@@ -140,7 +140,7 @@ some_built {D} leaf count es b live two limit some few counted h =
 
 -- ---- what has entries
 
--- whatever is live
+-- the entries of a segment are the same whatever is live
 pub has_live : (D : ℕ) (items : List Item) (n : NewSegmentData) (live : LiveSet) → HasEntries D items n → HasEntries D items (record n { live = live })
 has_live D items n live h = record { built = h.built; counted = h.counted; fits = h.fits }
 

@@ -26,7 +26,7 @@ or_none : (b : Bool) → b ≡ (b || false)
 or_none true = refl
 or_none false = refl
 
--- one number
+-- clearing one number is clearing those of one entry
 cleared_one : (x : Item) (s : LiveSet) → live_set_without x.doc s ≡ set_without_entries (x ∷ []) s
 cleared_one x s =
     ap (with_live s)

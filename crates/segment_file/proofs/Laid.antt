@@ -25,7 +25,7 @@ laid_more all more next page page' leaf leaves i inside item before after =
     ∙ ap (λ (l : List ℕ). l ∷ drop (i + 1) leaves) (sym item) in
     before ∙ ap (λ (ls : List (List ℕ)). more ++ laid_pages page ls) behind ∙ after
 
--- all are
+-- where all leaves are laid, the open page is the last one
 pub laid_all : (all more page : List ℕ) (leaves : List (List ℕ)) (i : ℕ) → length leaves ≤ i → all ≡ more ++ laid_pages page (drop i leaves)
     → all ≡ more ++ padded_body page
 laid_all all more page leaves i past e = e ∙ ap (λ (ls : List (List ℕ)). more ++ laid_pages page ls) (drop_of_length-le leaves past)

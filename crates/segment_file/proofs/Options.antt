@@ -14,7 +14,7 @@ pub IfOk-both : {A E : Type 0} (r : Result A E) (P Q : A → Type 0) (O : Type 0
 IfOk-both (Ok a) P Q O f h o = f a h o
 IfOk-both (Err e) P Q O f h o = tt
 
--- what is there
+-- the value of an option that is there, with what holds of it
 pub some_of : {X : Type 0} (o : Option X) (P : X → Type 0) → is_some o ≡ true → IfSome o P → (x : X) × P x
 some_of None P e h = cc
 some_of (Some x) P e h = (x, h)

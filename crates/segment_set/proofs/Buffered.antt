@@ -129,7 +129,7 @@ out_items number (x ∷ xs) =
     by true = refl
     by false = refl
 
--- entries that wait
+-- the entries that wait are seen as the items that wait
 pub waiting_items : {D : ℕ} (xs : List (Entry D)) → items_of (filter (λ (e : Entry D). waits e.doc) xs) ≡ waiting (items_of xs)
 waiting_items [] = refl
 waiting_items {D} (x ∷ xs) = by (waits x.doc) (waiting_items xs)

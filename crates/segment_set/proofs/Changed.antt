@@ -230,7 +230,7 @@ docs_more numbers number docs =
         ∙ both (is_among numbers n) (eqb number n)
         ∙ ap not (sym (list_any-append (λ k. eqb k n) numbers (number ∷ [])))
 
--- those of the hits
+-- without the hits there are just the documents that don't pass
 pub docs_hit : (test : List ℤ → Bool) (docs : List Document) → Ascend docs → docs_but (hits test docs) docs ≡ without_passing test docs
 docs_hit test docs up =
     filter_alike (λ (d : Document). not (is_among (hits test docs) d.number)) (λ d. not (passes test d)) docs (λ d h. ap not (among_hits test docs up d h))

@@ -29,7 +29,7 @@ empty_set leaf names cache = record {
   saved = None;
 }
 
--- its fields
+-- a set whose fields are those of the empty one is that
 pub empty_is : (leaf next : ℕ) (names : NameList) (cache : PageCache) (parts : List LiveSegment) (buffer : List Item) (snapshots : List NamedView) → next ≡ 0
     → parts ≡ [] → buffer ≡ [] → snapshots ≡ []
     → record (empty_set leaf names cache) { next = next; parts = parts; buffer = buffer; snapshots = snapshots } ≡ empty_set leaf names cache

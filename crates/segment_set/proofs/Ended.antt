@@ -119,7 +119,7 @@ module _ (D : ℕ) (told : Type 0) (files new_files : Files) {s : SetData} (name
       (All-nil (λ (id : ℕ). is_among (ids_of parts) id ≡ true)) (omega arith) (λ n is. cc) well.cached
       (λ i n offset len page known. known)
 
-  -- all but the flag
+  -- all stays as it was but the flag that a merge is begun
   pub end_stays : StaysAlone s (moved s names parts s.buffer s.begun s.cache)
   end_stays = stays_moved D told files new_files s names b.inputs parts s.buffer end_moves s.begun s.cache refl
 

@@ -11,7 +11,7 @@ use Rattle.segment_set.specs.declared.faults.AddFault.TheVariants as add
 use Rattle.segment_set.specs.declared.faults.BeginFault.TheVariants as begin
 use Rattle.segment_set.specs.declared.faults.EndFault.TheVariants as end
 
--- what the damage shows
+-- what the damage shows it shows as the fault of an add too
 pub added_damage : (T U : Type 0) (P : Damage → Type 0) (e : PageFault) → OnDamage {T = T} (Err e) P → OnAddDamage {T = U} (Err (add_fault e)) P
 added_damage T U P page.Failed h = tt
 added_damage T U P (page.Damaged d) h = h

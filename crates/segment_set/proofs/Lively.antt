@@ -89,7 +89,7 @@ built_lives D told before after files ids n old new c is_told all put read k d l
 abbrev pub AllLive : Contents → List LiveSegment → Type 0
 AllLive c parts = All (λ p. All (λ x. is_live p.live x.doc ≡ true) (c p.head.id)) parts
 
--- one that changes nothing
+-- where the segments but the inputs are whole, all their entries are live
 pub settled_lives : (D : ℕ) (files : Files) (c : Contents) (inputs ids : List ℕ) (parts : List LiveSegment)
     → ids ≡ filter (λ id. not (is_among inputs id)) (ids_of parts) → All IsWhole (parts_among ids parts) → AreRead D files c parts
     → AllLive c (parts_but inputs parts)

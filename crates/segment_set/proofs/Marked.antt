@@ -32,7 +32,7 @@ module _ {X : Type 0} (f : X → X) (xs ys : List X) (i : ℕ) (is : ys ≡ map 
       here : i ≡ i + 0
       here = omega arith
 
--- one more is marked
+-- one entry more of the run is marked as gone
 pub mark_step : {D : ℕ} (number : ℕ) (xs ys : List (Entry D)) (first end i : ℕ) (x e : Entry D)
     → IsRunOf (λ (z : Entry D). came_as z.doc) number xs first end
     → first ≤ i → i < end → end ≤ length xs → ys ≡ map (entry_out number) (take i xs) ++ drop i xs → x ≡ get_or ys i x → e ≡ record x { doc = gone_as x.doc }

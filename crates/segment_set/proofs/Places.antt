@@ -182,7 +182,7 @@ one_kept p (x ∷ xs) (suc i) d lt h = by (p x) (one_kept p xs i d (omega (arith
     by true rest = omega arith
     by false rest = rest
 
--- two places that pass
+-- a filter keeps two elements where two places pass
 two_kept : {X : Type 0} (p : X → Bool) (xs : List X) (i j : ℕ) (d : X) → i < j → j < length xs → p (get_or xs i d) ≡ true → p (get_or xs j d) ≡ true
     → 2 ≤ length (filter p xs)
 two_kept p [] i j d lt in_range h k = absurd (omega (arith, in_range))

@@ -12,7 +12,7 @@ use Rattle.segment_set.specs.declared.faults.AddFault.TheVariants as add
 use Rattle.segment_set.proofs.Causes.{memory_cause}
 use Rattle.segment_set.proofs.Faulted.{added_cause, added_damage, never_full}
 
--- it answers no value
+-- a result that is an error says nothing of a value
 pub never_ok : {T E : Type 0} (Q : E → Type 0) (r : Result T E) → IsErrAnd r Q → (P : Type 0) → OnOk r P
 never_ok Q (Ok x) h P = absurd h
 never_ok Q (Err e) h P = tt

@@ -139,7 +139,7 @@ all_saved_kept told last before mid after f g listed parts keeps next =
     zip_moved (IsSaved told last before mid f) (IsSaved told last before after g) listed parts
     (λ l p there. saved_kept told last before mid after f g l p keeps next)
 
--- one more
+-- one segment more is saved behind the others
 pub saved_more : (told : Type 0) (last : List Listed) (before mid after : NameList) (f g : Files) (listed : List Listed) (parts more : List LiveSegment)
     (l : Listed) (p : LiveSegment)
     → KeepsNamed told mid after f g

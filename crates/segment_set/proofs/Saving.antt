@@ -68,7 +68,7 @@ well_other D s names cache saved well named kept own cached unhidden = record {
   unhidden = unhidden;
 }
 
--- with more of them
+-- a set stays well formed where its list has more names
 pub well_names : (D : ℕ) (told : Type 0) (before after : Files) (s : SetData) (names : NameList) (saved : Option CommitData) → IsWell D s
     → KeepsNamed told s.names names before after
     → IsWell D (record s { names = names; saved = saved })

@@ -25,7 +25,7 @@ module _ (D : ℕ) (told : Type 0) (files new_files : Files) (s t : SetData) whe
     evident = carry (IsEvidentIn D s.parts (told × IsFaithful D files s) new_files) h.evident;
   }
 
-  -- there is no damage
+  -- an answer without a damage shows what any damage would
   pub shows_none : (On : (Damage → Type 0) → Type 0) → ((P : Damage → Type 0) → On P) → ShowsMergeDamage D told files new_files s t On
   shows_none On none = record {
     whole = λ is i seen. none (λ _. ⊥);

@@ -45,7 +45,7 @@ faithful_looked D told f g s t ids begun cache same calm is_told faithful =
     subst (λ (h : Files). IsFaithful D h (record s { begun = begun; cache = cache })) (sym (calm.files is_told))
     (record { pages = calm.agrees is_told was.pages; heads = was.heads; kept = was.kept })
 
--- a document was added
+-- a set is as faithful to its files after a document was added
 pub faithful_with : (D : ℕ) (files : Files) (points : List (List ℤ)) (s : SetData) → IsFaithful D files s → IsFaithful D files (set_with points s)
 faithful_with D files points s faithful = record { pages = faithful.pages; heads = faithful.heads; kept = faithful.kept }
 

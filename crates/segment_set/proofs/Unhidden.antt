@@ -37,7 +37,7 @@ pub hides_fewer : (D : ℕ) (cache : PageCache) (id : ℕ) (s t : LiveSet) → (
 hides_fewer D cache id s t fewer hides number offset len page known items spells =
     none_of_fewer s t fewer items (hides number offset len page known items spells)
 
--- marks only went
+-- a cache that lost marks hides no more than before
 pub unhidden_still : (D : ℕ) (old new : PageCache) (parts : List LiveSegment) → MarksGo old new → All (HidesNoneOf D old) parts → All (HidesNoneOf D new) parts
 unhidden_still D old new parts go hides =
     All-weaker (HidesNoneOf D old) (HidesNoneOf D new) (λ p h. hides_still D old new p.head.id p.live go h) parts hides

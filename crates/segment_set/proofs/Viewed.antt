@@ -139,7 +139,7 @@ looked_unhidden D true s view segments cache is now hides go before =
     subst (All (HidesNoneOf D cache)) (is ∙ ap (λ (v : Option (List ℕ)). viewed_parts v s) (now refl)) (hides refl)
 looked_unhidden D false s view segments cache is now hides go before = unhidden_still D s.cache cache s.parts (go refl) before
 
--- and before it
+-- the segments of the view of now hide none, where those of the set do not
 pub unhidden_in : (D : ℕ) (cache : PageCache) (parts : List LiveSegment) (views : List NamedView) (view : Option (List ℕ)) (segments : List LiveSegment)
     → segments ≡ parts_at view parts views → view ≡ None → All (HidesNoneOf D cache) parts → All (HidesNoneOf D cache) segments
 unhidden_in D cache parts views view segments is now before =

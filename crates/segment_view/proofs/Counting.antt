@@ -37,7 +37,7 @@ pub near_push : (D : ℕ) (at : List ℤ) (bound : Option ℕ) (xs : List Head) 
 near_push D at bound [] y a m h k = subst (AreNearLeaves D at bound (y ∷ [])) (omega (arith, h)) k
 near_push D at bound (x ∷ xs) y a m h k = (h.0, h.1 + m, h.2, near_push D at bound xs y h.1 m h.3 k, omega (arith, h.4))
 
--- one segment's
+-- what is counted of one segment alone is its own count
 pub counted_one : (D : ℕ) (count : Head → IndexTree → ℕ) (h : Head) (n : ℕ) → ((root : Region) (t : IndexTree) → HasTree D h.index root t → n ≡ count h t)
     → AreCounted D count (h ∷ []) n
 counted_one D count h n is = (n, 0, is, refl, omega arith)

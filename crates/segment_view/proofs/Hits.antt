@@ -14,19 +14,19 @@ use Rattle.documents.proofs.HitNumbers.{found_append}
 use Rattle.bkd_reader.specs.Hits.{hits_in}
 use Rattle.segment_view.specs.Found.{AreFound}
 
--- put in order
+-- the hits in ascending order are what was found
 pub ordered_found : (test : List ℤ → Bool) (entries : List Item) (hits ordered : List ℕ) → hits ≡ numbers_found test entries → IsStrictlyIncreasing ordered
     → ((n : ℕ) → Contains ordered n ↔ Contains hits n) → AreFound test entries ordered
 ordered_found test entries hits ordered is rises each =
     record { rises = rises; each = subst (λ (ms : List ℕ). (n : ℕ) → Contains ordered n ↔ Contains ms n) is each }
 
--- of a segment
+-- the hits of a segment are those of its entries with live numbers
 pub hits_live : (has : List ℤ → Bool) (live : LiveSet) (items : List Item)
     → hits_in has live items ≡ numbers_found has (filter (λ (x : Item). is_live live x.doc) items)
 unfolding hits_in
 hits_live has live items = ap (map (λ (x : Item). x.doc)) (sym (filter_twice (λ (x : Item). has x.at) (λ (x : Item). is_live live x.doc) items))
 
--- one entry more
+-- one entry more is found where it passes the test
 pub found_more : {D : ℕ} (test : List ℤ → Bool) (entries : List (Entry D)) (i : ℕ) (d : Entry D) (b : Bool) → i < length entries
     → test (get_or entries i d).point.c ≡ b
     → numbers_found test (items_of (take (i + 1) entries)) ≡ numbers_found test (items_of (take i entries)) ++ cond b ((get_or entries i d).doc ∷ []) []

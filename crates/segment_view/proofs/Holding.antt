@@ -27,7 +27,7 @@ held-append D files (p ∷ ps) qs xs ys a b = record {
   joined = ap (λ (zs : List Item). zs ++ ys) a.joined ∙ append_assoc a.front_items a.back_items ys;
 }
 
--- one segment more
+-- the entries of one segment more are held behind the others
 pub held_more : (D : ℕ) (files : Files) (ids : List ℕ) (parts : List LiveSegment) (i : ℕ) (p : LiveSegment) (xs more : List Item) → slice_get parts i ≡ Some p
     → AreHeld D files (parts_among ids (take i parts)) xs
     → AreHeld D files (parts_among ids (p ∷ [])) more → AreHeld D files (parts_among ids (take (i + 1) parts)) (xs ++ more)

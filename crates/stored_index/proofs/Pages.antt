@@ -48,7 +48,7 @@ pub opening_there : (files : Files) (state : State) → IsStored files state →
 opening_there files None p = (0, inl (p, refl))
 opening_there files (Some i) p = (opening_pages files p.commit (map head_in p.holds.parts), opening_of files p.commit i.docs p.holds)
 
--- one segment more
+-- one segment more adds its own pages
 pub pages_grow : (files : Files) (listed : List Listed) (heads : List Head) (s : Listed) (head : Head) → length listed ≡ length heads
     → segments_pages files (listed ++ s ∷ []) (heads ++ head ∷ []) ≡ segments_pages files listed heads + listed_pages files s head
 pages_grow files [] [] s head same = omega arith

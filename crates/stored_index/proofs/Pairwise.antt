@@ -24,7 +24,7 @@ zip_map R S f [] (x ∷ xs) more p = absurd p
 zip_map R S f (k ∷ ks) [] more p = absurd p
 zip_map R S f (k ∷ ks) (x ∷ xs) more p = (more k x (cons_head k ks) p.0, zip_map R S f ks xs (λ a y h. more a y (cons_tail k ks a h)) p.1)
 
--- and not mapped
+-- pairs of one relation are pairs of a weaker one
 pub zip_moved : {A B : Type 0} (R S : A → B → Type 0) (ks : List A) (xs : List B) → ((a : A) (x : B) → Contains ks a → R a x → S a x) → AllZip R ks xs
     → AllZip S ks xs
 zip_moved R S [] [] more p = tt

@@ -3,7 +3,7 @@ use Rattle.drawn_points.specs.Draws.{draw}
 use Rattle.generate_index.specs.Generates.{IsDrawn, Makes}
 use Rattle.generate_index.proofs.generator.add_drawn.Given as goal
 
--- so many documents came
+-- as many documents were added as the loop has gone round
 abbrev pub invariant-adds : goal.invariant-adds
 invariant-adds g l = record {
   makes : Makes {T = Unit {0}} (IsTrue g.F.Pages.told) (IsDrawn l.initial.draws 0 0) (IsDrawn l.initial.draws l.number 0)

@@ -108,7 +108,7 @@ returns-clause-canon g c told none =
     (c.in_ok-session.ensures.seen (g.F.Pages.files c.args.folder.now))
     (c.in_ok-session.ensures.guards (g.F.Pages.files c.args.folder.now) none) c.in_ok-session.ensures.bare)
 
--- a damage
+-- creating the session answers no damage
 pub returns-in_err-session-clause-evident : goal.returns-in_err-session-clause-evident
 returns-in_err-session-clause-evident g c =
     let p = err_from_is_err_and c.from_residual.result c.from_residual.ensures.1 in
@@ -140,7 +140,7 @@ returns-in_err-commit-clause-evident g c =
     (c.in_ok-session.ensures.faithful (g.F.Pages.files c.args.folder.now)) c.in_ok-session.ensures.bare))
     c.in_err-commit.ensures.faults.evident
 
--- the folder's faults
+-- want of memory for the session is no fault of the folder
 pub returns-in_err-session-clause-cause : goal.returns-in_err-session-clause-cause
 returns-in_err-session-clause-cause g c =
     let p = err_from_is_err_and c.from_residual.result c.from_residual.ensures.1 in

@@ -24,7 +24,7 @@ are_leaf g c = record {
   ascending = c.requires.ascending;
 }
 
--- part after part
+-- the parts are appended one after another, and are the whole spelling
 spelled : (g : Over) (c : goal.After-new g) → c.new.result ≡ spelling g.row.D (items_of c.args.entries.now)
 unfolding spelling
 spelled g c =

@@ -32,7 +32,7 @@ use Rattle.segment_set.proofs.Saving.{cause_after}
 eased : (g : given.Over) (c : goal.After-sweep g) → c.rest.new.self ≡ set_rested c.commit.new.self.set
 eased g c = c.rest.ensures.kept ∙ ap (λ (u : SessionData). set_rested u.set) c.self.view_is
 
--- the session then
+-- the session after its snapshots are let go
 abbrev held : (g : given.Over) (c : goal.After-sweep g) → SessionData
 held g c = record { set = c.rest.new.self; commit = c.self.inside.commit; refused = c.self.inside.refused }
 
@@ -42,7 +42,7 @@ guarded g c told guards = subst (λ (u : SessionData). Guards g.row.D (g.F.Pages
     (sym c.self.view_is)
     (guards_eased _ _ _ c.commit.new.self c.rest.new.self told (eased g c) (c.commit.ensures.stays.guards told guards))
 
--- what the sweep keeps
+-- what the folder keeps is the same after the sweep
 kept : (g : given.Over) (c : goal.After-sweep g) → IsTrue g.F.Pages.told → Guards g.row.D (g.F.Pages.files c.args.folder.now) c.args.self.now
     → SameKept (g.F.Pages.files c.commit.new.folder) (g.F.Pages.files c.sweep.new.folder)
 kept g c told guards = c.sweep.ensures.kept told (guarded g c told guards)

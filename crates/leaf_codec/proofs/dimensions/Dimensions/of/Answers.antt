@@ -44,7 +44,7 @@ loop-d-preserved g c =
       ];
     }
 
--- all places are filled
+-- after the loop the length of each shared prefix stands at its place
 reached : (g : Over) (c : goal.After-narrowest-sorted g) (k : ℕ) → k < g.row.D → get_or c.loop-d.lengths k 0 ≡ shared_prefix k (items_of c.args.entries.now)
 reached g c k lt = c.loop-d.invariant.lengths k (omega arith)
 

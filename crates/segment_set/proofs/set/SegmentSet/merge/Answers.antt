@@ -38,7 +38,7 @@ was g c = record {
   saved = c.self.inside.saved;
 }
 
--- and as it is
+-- and the set as it is after the merge
 abbrev is : (g : given.Over) (c : goal.After-merge g) → SetData
 is g c = moved (was g c) c.merge.new.names c.merge.new.segments c.self.inside.buffer.items c.self.inside.begun c.self.inside.cache
 

@@ -39,11 +39,11 @@ was g c = record {
   saved = c.self.inside.saved;
 }
 
--- and as it is
+-- and the set as it is after the buffer was written
 abbrev is : (g : given.Over) (c : goal.After-write_buffer g) → SetData
 is g c = moved (was g c) c.write_buffer.new.names c.write_buffer.new.segments c.write_buffer.new.buffer.items c.self.inside.begun c.self.inside.cache
 
--- by its fields
+-- with the next number of the buffer it is the same set
 now : (g : given.Over) (c : goal.After-write_buffer g) → record (is g c) { next = c.write_buffer.new.buffer.next } ≡ is g c
 now g c = λ i. record (is g c) { next = c.write_buffer.ensures.next i }
 
