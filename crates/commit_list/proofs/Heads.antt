@@ -13,7 +13,7 @@ use Rattle.commit_list.specs.Layout.{magic, spell_given, spell_numbers, spell_he
 
 pub numbers-parts : (h : Head) (rest : List ℕ) → spell_numbers h ++ rest
     ≡ h.dims ∷ (to_be_bytes w16 h.leaf
-    ++ (to_be_bytes w32 h.next ++ (spell_given h.layout h.given ++ (to_be_bytes w64 h.next_segment ++ (to_be_bytes w16 h.count ++ rest)))))
+    ++ (to_be_bytes w32 h.next ++ (spell_given h.layout h.points_given ++ (to_be_bytes w64 h.next_segment ++ (to_be_bytes w16 h.count ++ rest)))))
 unfolding spell_numbers
 numbers-parts h rest = simp append_assoc
 
@@ -21,10 +21,10 @@ pub head-parts : (h : Head) (rest : List ℕ) → spell_head h ++ rest ≡ magic
 unfolding spell_head
 head-parts h rest = append_assoc (magic h.layout) (spell_numbers h) rest
 
-given-length : (l : Layout) (given : ℕ) (rest : List ℕ) → length (spell_given l given ++ rest) ≡ given_length l + length rest
+given-length : (l : Layout) (points_given : ℕ) (rest : List ℕ) → length (spell_given l points_given ++ rest) ≡ given_length l + length rest
 unfolding spell_given given_length
-given-length First given rest = omega arith
-given-length Second given rest = omega arith
+given-length First points_given rest = omega arith
+given-length Second points_given rest = omega arith
 
 magic-length : (l : Layout) (rest : List ℕ) → length (magic l ++ rest) ≡ 8 + length rest
 unfolding magic
@@ -33,7 +33,7 @@ magic-length Second rest = omega arith
 
 pub numbers-length : (h : Head) (rest : List ℕ) → length (spell_numbers h ++ rest) ≡ 17 + given_length h.layout + length rest
 numbers-length h rest =
-    omega (arith, ap length (numbers-parts h rest), given-length h.layout h.given (to_be_bytes w64 h.next_segment ++ (to_be_bytes w16 h.count ++ rest)))
+    omega (arith, ap length (numbers-parts h rest), given-length h.layout h.points_given (to_be_bytes w64 h.next_segment ++ (to_be_bytes w16 h.count ++ rest)))
 
 pub head-length : (h : Head) (rest : List ℕ) → length (spell_head h ++ rest) ≡ head_length h.layout + length rest
 head-length h rest =
@@ -62,15 +62,23 @@ numbers_unique g h x y p q l e =
     let dims = first_byte g.dims h.dims _ _ (sym (numbers-parts g x) ∙ e ∙ numbers-parts h y) in
     let leaf = spelling_unique w16 g.leaf h.leaf _ _ p.leaf q.leaf dims.1 in
     let next = spelling_unique w32 g.next h.next _ _ p.next q.next leaf.1 in
-    let says : SaysGiven h.layout h.next g.given =
-    subst (λ (k : ℕ). SaysGiven h.layout k g.given) next.0 (subst (λ (k : Layout). SaysGiven k g.next g.given) l p.says_given) in
-    let same : spell_given h.layout g.given ++ (to_be_bytes w64 g.next_segment ++ (to_be_bytes w16 g.count ++ x))
-    ≡ spell_given h.layout h.given ++ (to_be_bytes w64 h.next_segment ++ (to_be_bytes w16 h.count ++ y)) =
-    ap (λ (k : Layout). spell_given k g.given ++ (to_be_bytes w64 g.next_segment ++ (to_be_bytes w16 g.count ++ x))) (sym l) ∙ next.1 in
-    let given = given_unique h.layout h.next g.given h.given _ _ says q.says_given p.given q.given same in
-    let segment = spelling_unique w64 g.next_segment h.next_segment _ _ p.next_segment q.next_segment given.1 in
+    let says : SaysGiven h.layout h.next g.points_given =
+    subst (λ (k : ℕ). SaysGiven h.layout k g.points_given) next.0 (subst (λ (k : Layout). SaysGiven k g.next g.points_given) l p.says_given) in
+    let same : spell_given h.layout g.points_given ++ (to_be_bytes w64 g.next_segment ++ (to_be_bytes w16 g.count ++ x))
+    ≡ spell_given h.layout h.points_given ++ (to_be_bytes w64 h.next_segment ++ (to_be_bytes w16 h.count ++ y)) =
+    ap (λ (k : Layout). spell_given k g.points_given ++ (to_be_bytes w64 g.next_segment ++ (to_be_bytes w16 g.count ++ x))) (sym l) ∙ next.1 in
+    let points_given = given_unique h.layout h.next g.points_given h.points_given _ _ says q.says_given p.points_given q.points_given same in
+    let segment = spelling_unique w64 g.next_segment h.next_segment _ _ p.next_segment q.next_segment points_given.1 in
     let count = spelling_unique w16 g.count h.count x y p.count q.count segment.1 in
-    (λ i. record { layout = l i; dims = dims.0 i; leaf = leaf.0 i; next = next.0 i; given = given.0 i; next_segment = segment.0 i; count = count.0 i }, count.1)
+    (λ i. record {
+      layout = l i;
+      dims = dims.0 i;
+      leaf = leaf.0 i;
+      next = next.0 i;
+      points_given = points_given.0 i;
+      next_segment = segment.0 i;
+      count = count.0 i;
+    }, count.1)
 
 pub heads_unique : (g h : Head) (x y : List ℕ) → FitsHead g → FitsHead h → spell_head g ++ x ≡ spell_head h ++ y → (g ≡ h) × (x ≡ y)
 heads_unique g h x y p q e =

@@ -15,15 +15,15 @@ magic Second = codes "BKDPCOM2"
 
 -- the field for the number of points given, which the first layout lacks
 unfoldable pub spell_given : Layout → ℕ → List ℕ
-spell_given First given = []
-spell_given Second given = to_be_bytes w32 given
+spell_given First points_given = []
+spell_given Second points_given = to_be_bytes w32 points_given
 
 -- the numbers in front of the list
 unfoldable pub spell_numbers : Head → List ℕ
 spell_numbers h =
     h.dims ∷ (to_be_bytes w16 h.leaf ++
     (to_be_bytes w32 h.next ++
-    (spell_given h.layout h.given ++ (to_be_bytes w64 h.next_segment ++ to_be_bytes w16 h.count))))
+    (spell_given h.layout h.points_given ++ (to_be_bytes w64 h.next_segment ++ to_be_bytes w16 h.count))))
 
 -- all that stands in front of the list
 unfoldable pub spell_head : Head → List ℕ
@@ -42,7 +42,7 @@ head_of layout c =
       dims = c.dims;
       leaf = c.leaf;
       next = c.next;
-      given = c.given;
+      points_given = c.points_given;
       next_segment
           = c.next_segment;
       count = length c.listed;
@@ -61,7 +61,7 @@ old_commit_body c = spell_head (head_of First c) ++ flat_map spell_listed c.list
 pub record SpellsCommit (bytes : List ℕ) (c : CommitData) : Type 0 where
   pub commit : IsCommit c
   pub fits : FitsFields c
-  pub spelling : (bytes ≡ commit_body c) ⊎ ((c.given ≡ c.next) × (bytes ≡ old_commit_body c))
+  pub spelling : (bytes ≡ commit_body c) ⊎ ((c.points_given ≡ c.next) × (bytes ≡ old_commit_body c))
 
 -- ---- the head alone, of a body whose list isn't at hand yet
 
@@ -76,18 +76,18 @@ head_length layout = 25 + given_length layout
 
 -- where the layout has no field for the points given, they are as many as the next number
 abbrev pub SaysGiven : Layout → ℕ → ℕ → Type 0
-SaysGiven First next given = given ≡ next
-SaysGiven Second next given = Unit {0}
+SaysGiven First next points_given = points_given ≡ next
+SaysGiven Second next points_given = Unit {0}
 
 -- the numbers fit their fields
 pub record FitsHead (h : Head) : Type 0 where
   pub dims : h.dims < 2 ^ 8
   pub leaf : h.leaf < 2 ^ 16
   pub next : h.next < 2 ^ 32
-  pub given : h.given < 2 ^ 32
+  pub points_given : h.points_given < 2 ^ 32
   pub next_segment : h.next_segment < 2 ^ 64
   pub count : h.count < 2 ^ 16
-  pub says_given : SaysGiven h.layout h.next h.given
+  pub says_given : SaysGiven h.layout h.next h.points_given
 
 -- the bytes begin with a head whose numbers are in range, and it speaks of a body of n bytes
 pub record BeginsBody (bytes : List ℕ) (n : ℕ) : Type 0 where
@@ -95,7 +95,7 @@ pub record BeginsBody (bytes : List ℕ) (n : ℕ) : Type 0 where
   pub rest : List ℕ
   pub begins : bytes ≡ spell_head head ++ rest
   pub fits : FitsHead head
-  pub ranges : AreInRange head.dims head.leaf head.next head.given head.count
+  pub ranges : AreInRange head.dims head.leaf head.next head.points_given head.count
   pub long : n ≡ head_length head.layout + 24 * head.count
 
 -- the bytes are the body of no commit

@@ -9,7 +9,7 @@ commit_data c =
       dims = c.dims;
       leaf = c.leaf;
       next = c.next;
-      given = c.given;
+      points_given = c.points_given;
       next_segment = c.next_segment;
       listed
           = c.listed.items;

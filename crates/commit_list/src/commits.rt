@@ -16,7 +16,7 @@ pub struct Commit {
     dims: u8,
     leaf: u16,
     next: u32,
-    given: u32,
+    points_given: u32,
     next_segment: u64,
     listed: Vec<Listed>,
 }
@@ -39,7 +39,7 @@ impl Commit {
         dims: u8,
         leaf: u16,
         next: u32,
-        given: u32,
+        points_given: u32,
         next_segment: u64,
         listed: Vec<Listed>,
     ) -> Commit
@@ -48,7 +48,7 @@ impl Commit {
               dims = dims;
               leaf = leaf;
               next = next;
-              given = given;
+              points_given = points_given;
               next_segment = next_segment;
               listed
                   = listed.items;
@@ -57,7 +57,7 @@ impl Commit {
           dims = dims;
           leaf = leaf;
           next = next;
-          given = given;
+          points_given = points_given;
           next_segment = next_segment;
           listed = listed.items;
         } }
@@ -66,7 +66,7 @@ impl Commit {
             dims,
             leaf,
             next,
-            given,
+            points_given,
             next_segment,
             listed,
         }
@@ -97,11 +97,11 @@ impl Commit {
     }
 
     /// How many points were ever added.
-    pub fn given(&self) -> u32
-        ensures value { result ≡ self.now.given }
+    pub fn points_given(&self) -> u32
+        ensures value { result ≡ self.now.points_given }
         ensures commit { IsCommit self.now }
     {
-        self.given
+        self.points_given
     }
 
     /// The id of the next segment, which is above those of all listed ones.

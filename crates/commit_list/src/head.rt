@@ -36,7 +36,7 @@ pub(crate) struct Head {
     pub(crate) dims: u8,
     pub(crate) leaf: u16,
     pub(crate) next: u32,
-    pub(crate) given: u32,
+    pub(crate) points_given: u32,
     pub(crate) next_segment: u64,
     /// How many segments the list has.
     pub(crate) count: u16,
@@ -45,7 +45,8 @@ pub(crate) struct Head {
 impl Head {
     /// Whether the numbers are in range.
     pub(crate) fn is_in_range(&self) -> bool
-        ensures { IsTrue result ↔ AreInRange self.now.dims self.now.leaf self.now.next self.now.given self.now.count }
+        ensures { IsTrue result ↔
+            AreInRange self.now.dims self.now.leaf self.now.next self.now.points_given self.now.count }
     {
         if self.dims == 0 {
             return false;
@@ -59,10 +60,10 @@ impl Head {
         if self.leaf > 4000 / (4 + 4 * u16::from(self.dims)) {
             return false;
         }
-        if self.next > self.given {
+        if self.next > self.points_given {
             return false;
         }
-        if self.given > MOST_POINTS {
+        if self.points_given > MOST_POINTS {
             return false;
         }
         self.count <= MOST_SEGMENTS
@@ -127,7 +128,7 @@ fn take_numbers(cursor: &mut Cursor<'_>, layout: Layout) -> Option<Head>
     let dims = cursor.take_u8().ok()?;
     let leaf = cursor.take_u16().ok()?;
     let next = cursor.take_u32().ok()?;
-    let given = take_given(cursor, layout, next)?;
+    let points_given = take_given(cursor, layout, next)?;
     let next_segment = cursor.take_u64().ok()?;
     let count = cursor.take_u16().ok()?;
     Some(Head {
@@ -135,7 +136,7 @@ fn take_numbers(cursor: &mut Cursor<'_>, layout: Layout) -> Option<Head>
         dims,
         leaf,
         next,
-        given,
+        points_given,
         next_segment,
         count,
     })

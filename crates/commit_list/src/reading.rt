@@ -42,7 +42,7 @@ pub fn decode(alloc: Global, bytes: &[u8]) -> Result<Option<Commit>, Memory>
         head.dims,
         head.leaf,
         head.next,
-        head.given,
+        head.points_given,
         head.next_segment,
         listed,
     )))

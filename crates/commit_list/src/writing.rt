@@ -27,7 +27,7 @@ pub fn encode_commit(alloc: Global, c: &Commit) -> Result<Bytes, Memory>
         dims: c.dims(),
         leaf: c.leaf(),
         next: c.next(),
-        given: c.given(),
+        points_given: c.points_given(),
         next_segment: c.next_segment(),
         count: listed.len() as u16,
     };
@@ -47,7 +47,7 @@ fn put_head(out: &mut Vec<u8>, head: Head) -> Result<(), Memory>
     put_u8(out, head.dims)?;
     put_u16(out, head.leaf)?;
     put_u32(out, head.next)?;
-    put_u32(out, head.given)?;
+    put_u32(out, head.points_given)?;
     put_u64(out, head.next_segment)?;
     put_u16(out, head.count)
 }

@@ -19,7 +19,7 @@ use Rattle.drawn_points.specs.Generated.{adds, after, deletes, document, documen
 -- ---- documents that are added
 
 abbrev filled : ℕ → ℕ → Index
-filled seed n = record (new_index 2 333) { next = n; given = n; docs = documents seed n }
+filled seed n = record (new_index 2 333) { next = n; points_given = n; docs = documents seed n }
 
 pub documents_more : (seed n : ℕ) → documents seed (n + 1) ≡ documents seed n ++ document seed n ∷ []
 documents_more seed n = map-range_with_len_more (document seed) 0 n n (omega arith)
@@ -28,7 +28,7 @@ one_added : (seed n : ℕ) → n < 2 ^ 24 → after (Some (filled seed n)) (Add 
 unfolding step_on
 one_added seed n small =
     let room : nat_lt (2 ^ 24) (n + 1) ≡ false = le-ltb (2 ^ 24) (n + 1) (omega arith) in
-    rw room (ap (λ (docs : List Document). Some (record (new_index 2 333) { next = n + 1; given = n + 1; docs = docs })) (sym (documents_more seed n)))
+    rw room (ap (λ (docs : List Document). Some (record (new_index 2 333) { next = n + 1; points_given = n + 1; docs = docs })) (sym (documents_more seed n)))
 
 all_added : (seed n : ℕ) → n ≤ 2 ^ 24 → fold after (Some (new_index 2 333)) (adds seed n) ≡ Some (filled seed n)
 all_added seed zero few = refl
@@ -90,13 +90,13 @@ tenths_deleted a (suc n) docs = go (a % 10 == 0) refl (λ later. tenths_deleted 
 -- ---- the index
 
 pub made_is : (seed n : ℕ) → n ≤ 2 ^ 24
-    → made_state seed n ≡ Some (record (new_index 2 333) { next = n; given = n; docs = kept_docs n (documents seed n) })
+    → made_state seed n ≡ Some (record (new_index 2 333) { next = n; points_given = n; docs = kept_docs n (documents seed n) })
 unfolding made_state
 made_is seed n few =
     fold-append after (Some (new_index 2 333)) (adds seed n) (deletes n)
     ∙ (ap (λ (s : State). fold after s (deletes n)) (all_added seed n few)
     ∙ (all_deleted (filled seed n) (filter (λ i. i % 10 == 0) (range_with_len 0 n))
-    ∙ ap (λ (docs : List Document). Some (record (new_index 2 333) { next = n; given = n; docs = docs }))
+    ∙ ap (λ (docs : List Document). Some (record (new_index 2 333) { next = n; points_given = n; docs = docs }))
     (tenths_deleted 0 n (documents seed n) ∙ filter_agree _ _ (λ d. apart_start n d.number) (documents seed n))))
 
 -- ---- one document after the other goes

@@ -11,7 +11,7 @@ ghost use Rattle.drawn_points.specs.Generated.{box_hits, document, documents, ke
 pub fn index_made()
     ensures { (seed n : ℕ) → n ≤ 2 ^ 24
         → made_state seed n ≡ Some
-        (record (new_index 2 333) { next = n; given = n; docs = kept_docs n (documents seed n) }) }
+        (record (new_index 2 333) { next = n; points_given = n; docs = kept_docs n (documents seed n) }) }
 {}
 
 /// Its documents come one after the other.

@@ -59,7 +59,13 @@ fn one_commit(rt: HostRuntime) -> Result<(), Fail> {
     let c = read(&rt, BODY.as_slice())?;
     same(
         &rt,
-        (c.dims(), c.leaf(), c.next(), c.given(), c.next_segment()),
+        (
+            c.dims(),
+            c.leaf(),
+            c.next(),
+            c.points_given(),
+            c.next_segment(),
+        ),
         (2, 333, 1, 2, 1),
     );
     let [listed] = c.listed() else {
@@ -98,7 +104,7 @@ fn made_by_numbers(rt: HostRuntime) -> Result<(), Fail> {
 #[test]
 fn the_layout_of_before(rt: HostRuntime) -> Result<(), Fail> {
     let c = read(&rt, OLD_BODY.as_slice())?;
-    same(&rt, (c.next(), c.given()), (1, 1));
+    same(&rt, (c.next(), c.points_given()), (1, 1));
     same(&rt, body_length(OLD_BODY.as_slice()), Some(49));
     Ok(())
 }

@@ -42,7 +42,7 @@ fn answer(rt: &impl AllocGlobal, folder: &mut MemFolder) -> Result<String, Fail>
     match read_commit(rt.alloc(), folder) {
         Ok(Some(c)) => Ok(format!(in rt.alloc();
             "{} given, {} listed",
-            c.given(),
+            c.points_given(),
             c.listed().len()
         )?),
         Ok(None) => Ok(String::from_str(rt.alloc(), "none")?),

@@ -53,11 +53,11 @@ module _ (T : Type 0) (D : ℕ) (files mid : Files) (c : CommitData) (parts : Li
 
   pub found_is_first : {X : Type 0} (findings : List Finding) (r : Result X PageFault)
       → (All (HasOwnHead D mid) parts → AllZip (IsFinding D mid) parts findings)
-      → OnDamage r (IsWrong c.listed c.given findings) → OnDamage r (IsFirstOfCommit T files c)
+      → OnDamage r (IsWrong c.listed c.points_given findings) → OnDamage r (IsFirstOfCommit T files c)
   found_is_first findings r found =
       let all : AllZip (IsFinding D files) parts findings = subst (λ (f : Files). AllZip (IsFinding D f) parts findings) same (found own) in
       let here : AllZip (IsFinding c.dims files) parts findings = subst (λ n. AllZip (IsFinding n files) parts findings) (sym dims) all in
-      on_damage_weaker r (IsWrong c.listed c.given findings) (IsFirstOfCommit T files c) (λ d wrong. InFound parts findings are_opened here wrong)
+      on_damage_weaker r (IsWrong c.listed c.points_given findings) (IsFirstOfCommit T files c) (λ d wrong. InFound parts findings are_opened here wrong)
 
 pub listed_is_first : (T : Type 0) (files mid : Files) (c : CommitData) (f : PageFault) → mid ≡ files → IsCommitFile (bytes_of (files Commit)) c
     → FaultShows (IsFirstOfCommit T mid c) f → FaultShows (IsFirst T files) f

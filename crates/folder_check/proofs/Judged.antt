@@ -91,7 +91,7 @@ module _ (files : Files) (c : CommitData) (held : List SegmentData) (findings : 
         once = pairs_from (live_entries d) few.0;
       }
 
-  pub fine_holds : AreFine c.listed c.given findings → (docs : List Document) × HoldsIndex files c docs
+  pub fine_holds : AreFine c.listed c.points_given findings → (docs : List Document) × HoldsIndex files c docs
   fine_holds fine =
       let made = docs_of_each c.next held g.alone
       (All-weaker (Contains held) (λ (d : SegmentData). MakeDocs c.next (live_entries d)) (makes fine.all fine.none) held (All-contains_itself held)) in (
@@ -102,7 +102,7 @@ module _ (files : Files) (c : CommitData) (held : List SegmentData) (findings : 
           segments = all_held files c c.listed held findings g.but g.found fine.all;
           alone = g.alone;
           are_docs = made.1;
-          few = subst (λ n. n ≤ c.given) (entries_found held findings (tallied fine.all)) fine.few;
+          few = subst (λ n. n ≤ c.points_given) (entries_found held findings (tallied fine.all)) fine.few;
         },
       )
 
@@ -158,12 +158,12 @@ module _ (files : Files) (c : CommitData) (held : List SegmentData) (findings : 
         (λ docs are few. never_crowded c.next number (live_entries e) crowded.crowded
         (All-contains (λ (d : SegmentData). MakeDocs c.next (live_entries d)) held e (each_of_docs c.next held docs are) at.1))
 
-    beyond_undefined : AllZip HasAll c.listed findings → (d : Damage) → IsBeyondGiven c.given findings d → IsUndefined files
+    beyond_undefined : AllZip HasAll c.listed findings → (d : Damage) → IsBeyondGiven c.points_given findings d → IsUndefined files
     beyond_undefined all d b =
         no_documents once files c held g.says (all_held files c c.listed held findings g.but g.found all)
         (λ docs are few. omega (arith, few, b.more, b.is (entries_fit all), entries_found held findings (tallied all)))
 
-    pub wrong_undefined : (d : Damage) → IsWrong c.listed c.given findings d → IsUndefined files
+    pub wrong_undefined : (d : Damage) → IsWrong c.listed c.points_given findings d → IsUndefined files
     wrong_undefined d (Lacking l) = lacking_undefined d l
     wrong_undefined d (Crowding all crowd) = crowding_undefined all d crowd
     wrong_undefined d (Beyond all none b) = beyond_undefined all d b

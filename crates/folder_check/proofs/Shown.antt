@@ -25,12 +25,12 @@ use Rattle.folder_check.proofs.Gathered.{HoldsBut, IsFoundIn, IsTalliedIn, all_h
 use Rattle.folder_check.proofs.Judged.{AreGathered, entries_fit}
 use Rattle.folder_check.proofs.Pairs.{get_in, zip_at, zip_over}
 
-wrong_shows : (P : ℕ → Head → Type 0) (listed : List Listed) (given : ℕ) (findings : List Finding) (d : Damage) → IsWrong listed given findings d
+wrong_shows : (P : ℕ → Head → Type 0) (listed : List Listed) (points_given : ℕ) (findings : List Finding) (d : Damage) → IsWrong listed points_given findings d
     → IsShown (LacksLeaf P) HasNoBody d
-wrong_shows P listed given findings d (Lacking l) = subst (IsShown (LacksLeaf P) HasNoBody) (sym l.tells) l.apart
-wrong_shows P listed given findings d (Crowding all (number, tells, least)) = subst (IsShown (LacksLeaf P) HasNoBody) (sym tells) tt
-wrong_shows P listed given findings d (Beyond all none b) =
-    subst (IsShown (LacksLeaf P) HasNoBody) (sym b.tells) (let more = b.more in let apart : given ≢ b.found = omega arith in apart)
+wrong_shows P listed points_given findings d (Lacking l) = subst (IsShown (LacksLeaf P) HasNoBody) (sym l.tells) l.apart
+wrong_shows P listed points_given findings d (Crowding all (number, tells, least)) = subst (IsShown (LacksLeaf P) HasNoBody) (sym tells) tt
+wrong_shows P listed points_given findings d (Beyond all none b) =
+    subst (IsShown (LacksLeaf P) HasNoBody) (sym b.tells) (let more = b.more in let apart : points_given ≢ b.found = omega arith in apart)
 
 module _ (files : Files) (c : CommitData) (held : List SegmentData) (findings : List Finding) (g : AreGathered files c held findings) where
   lacking_pair : (d : Damage) (l : IsLacking c.listed findings d)
@@ -58,39 +58,39 @@ module _ (files : Files) (c : CommitData) (held : List SegmentData) (findings : 
         crowded = crowded.crowded;
       }))
 
-  given_pair : AllZip HasAll c.listed findings → (d : Damage) (b : IsBeyondGiven c.given findings d) → IsFilePair files Commit c.given b.found
+  given_pair : AllZip HasAll c.listed findings → (d : Damage) (b : IsBeyondGiven c.points_given findings d) → IsFilePair files Commit c.points_given b.found
   given_pair all d b =
       InCommit c g.says held (all_held files c c.listed held findings g.but g.found all) refl refl
       (b.is (entries_fit files c held findings g all) ∙ entries_found held findings (tallied all))
 
-  wrong_carried : (d : Damage) → IsWrong c.listed c.given findings d → IsTrueOf (IsTwice files) files d
+  wrong_carried : (d : Damage) → IsWrong c.listed c.points_given findings d → IsTrueOf (IsTwice files) files d
   wrong_carried d (Lacking l) = subst (IsTrueOf (IsTwice files) files) (sym l.tells) (OfFiles (lacking_pair d l))
   wrong_carried d (Crowding all crowd) = crowding_carried all d crowd
   wrong_carried d (Beyond all none b) = subst (IsTrueOf (IsTwice files) files) (sym b.tells) (OfFiles (given_pair all d b))
 
-  wrong_named : (d : Damage) → IsWrong c.listed c.given findings d → NamesLooked files d
+  wrong_named : (d : Damage) → IsWrong c.listed c.points_given findings d → NamesLooked files d
   wrong_named d (Lacking l) = subst (NamesLooked files) (sym l.tells) (lacking_pair d l)
   wrong_named d (Crowding all (number, tells, least)) = subst (NamesLooked files) (sym tells) tt
   wrong_named d (Beyond all none b) = subst (NamesLooked files) (sym b.tells) (given_pair all d b)
 
 wrong_evident : (T : Type 0) (files : Files) (c : CommitData) (findings : List Finding) (d : Damage)
-    → (T → (held : List SegmentData) × AreGathered files c held findings) → IsWrong c.listed c.given findings d → IsEvident T files d
+    → (T → (held : List SegmentData) × AreGathered files c held findings) → IsWrong c.listed c.points_given findings d → IsEvident T files d
 wrong_evident T files c findings d know wrong = record {
-  shows = merely (wrong_shows HasRanges c.listed c.given findings d wrong);
+  shows = merely (wrong_shows HasRanges c.listed c.points_given findings d wrong);
   of_files = λ t. let (held, g) = know t in record {
-    shows = merely (wrong_shows (IsHeadIn files) c.listed c.given findings d wrong);
+    shows = merely (wrong_shows (IsHeadIn files) c.listed c.points_given findings d wrong);
     carries = merely (wrong_carried files c held findings g d wrong);
   };
 }
 
 pub on_wrong_evident : {X : Type 0} (T : Type 0) (files : Files) (c : CommitData) (findings : List Finding) (r : Result X PageFault)
     → (T → (held : List SegmentData) × AreGathered files c held findings)
-    → OnDamage r (IsWrong c.listed c.given findings) → OnDamage r (IsEvident T files)
+    → OnDamage r (IsWrong c.listed c.points_given findings) → OnDamage r (IsEvident T files)
 on_wrong_evident T files c findings r know =
-    on_damage_weaker r (IsWrong c.listed c.given findings) (IsEvident T files) (λ d h. wrong_evident T files c findings d know h)
+    on_damage_weaker r (IsWrong c.listed c.points_given findings) (IsEvident T files) (λ d h. wrong_evident T files c findings d know h)
 
 pub on_wrong_found : {X : Type 0} (files : Files) (c : CommitData) (findings : List Finding) (r : Result X PageFault)
     → (held : List SegmentData) × AreGathered files c held findings
-    → OnDamage r (IsWrong c.listed c.given findings) → OnDamage r (IsFound files)
+    → OnDamage r (IsWrong c.listed c.points_given findings) → OnDamage r (IsFound files)
 on_wrong_found files c findings r (held, g) =
-    on_damage_weaker r (IsWrong c.listed c.given findings) (IsFound files) (λ d wrong. merely (wrong_named files c held findings g d wrong))
+    on_damage_weaker r (IsWrong c.listed c.points_given findings) (IsFound files) (λ d wrong. merely (wrong_named files c held findings g d wrong))

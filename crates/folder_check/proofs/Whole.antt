@@ -99,18 +99,18 @@ known_of T D files mid c parts findings t same dims says opened placed found =
     (gathered D files parts findings all, gather_all T D files c parts findings t dims says opened placed all)
 
 pub handed : (P : List Listed → ℕ → List Finding → Type 0) (l m : List Listed) (g h : ℕ) (e f : List Finding) → l ≡ m → g ≡ h → e ≡ f → P l g e → P m h f
-handed P l m g h e f listed given found p = subst (λ k. P k h f) listed (subst (λ k. P l k f) given (subst (P l g) found p))
+handed P l m g h e f listed points_given found p = subst (λ k. P k h f) listed (subst (λ k. P l k f) points_given (subst (P l g) found p))
 
 pub on_wrong_undefined : {X : Type 0} (once : EntriesOnce) (files : Files) (c : CommitData) (findings : List Finding) (r : Result X PageFault)
     → (held : List SegmentData) × AreGathered files c held findings
-    → OnDamage r (IsWrong c.listed c.given findings) → OnDamage r (λ _. IsUndefined files)
+    → OnDamage r (IsWrong c.listed c.points_given findings) → OnDamage r (λ _. IsUndefined files)
 on_wrong_undefined once files c findings r (held, g) =
-    on_damage_weaker r (IsWrong c.listed c.given findings) (λ _. IsUndefined files)
+    on_damage_weaker r (IsWrong c.listed c.points_given findings) (λ _. IsUndefined files)
     (λ d wrong. wrong_undefined files c held findings g once d wrong)
 
 pub on_fine_holds : {X : Type 0} (files : Files) (c : CommitData) (findings : List Finding) (r : Result X PageFault)
     → (held : List SegmentData) × AreGathered files c held findings
-    → OnOk r (AreFine c.listed c.given findings) → OnOk r ((docs : List Document) × HoldsIndex files c docs)
+    → OnOk r (AreFine c.listed c.points_given findings) → OnOk r ((docs : List Document) × HoldsIndex files c docs)
 on_fine_holds files c findings (Ok x) (held, g) fine = fine_holds files c held findings g fine
 on_fine_holds files c findings (Err e) (held, g) fine = tt
 

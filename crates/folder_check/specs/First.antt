@@ -37,7 +37,7 @@ pub data IsFirstOfCommit (told : Type 0) (files : Files) (c : CommitData) (d : D
   -- then what was found in the leaves: by segment live numbers without an entry, the least crowded number, the points
   -- given
   InFound : (parts : List LiveSegment) (findings : List Finding) → AreOpened told files c parts
-      → AllZip (IsFinding c.dims files) parts findings → IsWrong c.listed c.given findings d
+      → AllZip (IsFinding c.dims files) parts findings → IsWrong c.listed c.points_given findings d
       → IsFirstOfCommit told files c d
 
 -- The Commit file comes before all.

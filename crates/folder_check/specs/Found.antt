@@ -81,21 +81,21 @@ abbrev pub all_entries : List Finding → ℕ
 all_entries findings = sum_by (λ f. f.entries) findings
 
 -- the damage is that they are more than the points given
-pub record IsBeyondGiven (given : ℕ) (findings : List Finding) (d : Damage) : Type 0 where
+pub record IsBeyondGiven (points_given : ℕ) (findings : List Finding) (d : Damage) : Type 0 where
   pub found : ℕ
-  pub more : given < found
+  pub more : points_given < found
   pub is : all_entries findings < 2 ^ 64 → found ≡ all_entries findings
-  pub tells : d ≡ Unequal Commit given found
+  pub tells : d ≡ Unequal Commit points_given found
 
 -- nothing is wrong with what was found
-pub record AreFine (listed : List Listed) (given : ℕ) (findings : List Finding) : Type 0 where
+pub record AreFine (listed : List Listed) (points_given : ℕ) (findings : List Finding) : Type 0 where
   pub all : AllZip HasAll listed findings
   pub none : All (λ f. f.crowded ≡ None) findings
-  pub few : all_entries findings ≤ given
+  pub few : all_entries findings ≤ points_given
 
 -- the damage is the first that is looked for
-pub data IsWrong (listed : List Listed) (given : ℕ) (findings : List Finding) (d : Damage) : Type 0 where
-  Lacking : IsLacking listed findings d → IsWrong listed given findings d
-  Crowding : AllZip HasAll listed findings → IsCrowding findings d → IsWrong listed given findings d
-  Beyond : AllZip HasAll listed findings → All (λ f. f.crowded ≡ None) findings → IsBeyondGiven given findings d
-      → IsWrong listed given findings d
+pub data IsWrong (listed : List Listed) (points_given : ℕ) (findings : List Finding) (d : Damage) : Type 0 where
+  Lacking : IsLacking listed findings d → IsWrong listed points_given findings d
+  Crowding : AllZip HasAll listed findings → IsCrowding findings d → IsWrong listed points_given findings d
+  Beyond : AllZip HasAll listed findings → All (λ f. f.crowded ≡ None) findings → IsBeyondGiven points_given findings d
+      → IsWrong listed points_given findings d

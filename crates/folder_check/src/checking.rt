@@ -142,7 +142,7 @@ pub fn check_index<const D: usize, F: Folder>(
     let findings = read_leaves(alloc, folder, &segments)?;
     // the entries of a file are one list
     one_segment();
-    judge(c.listed(), c.given(), findings.as_slice())
+    judge(c.listed(), c.points_given(), findings.as_slice())
 }
 
 /// How many documents are live, by what the commit says of its segments.

@@ -25,15 +25,19 @@ pub(crate) struct Finding {
 
 /// Whether what was found in the listed segments is that of an index with so many points given. Looked for are, in
 /// this order: a live number without an entry, a crowded number, and more live entries than points.
-pub(crate) fn judge(listed: &[Listed], given: u32, findings: &[Finding]) -> Result<(), PageFault>
+pub(crate) fn judge(
+    listed: &[Listed],
+    points_given: u32,
+    findings: &[Finding],
+) -> Result<(), PageFault>
     requires { length findings.now ≡ length listed.now }
-    ensures fine { OnOk result (AreFine listed.now given findings.now) }
-    ensures wrong { OnDamage result (IsWrong listed.now given findings.now) }
+    ensures fine { OnOk result (AreFine listed.now points_given findings.now) }
+    ensures wrong { OnDamage result (IsWrong listed.now points_given findings.now) }
     ensures no_fault { IsErrOf result page.Failed → ⊥ }
 {
     check_found(listed, findings)?;
     check_crowded(findings)?;
-    check_given(given, findings)
+    check_given(points_given, findings)
 }
 
 /// Whether each live number of each segment has an entry. Of the first segment in which one has none the file of live
@@ -101,17 +105,17 @@ fn lesser(a: Option<u32>, b: Option<u32>) -> Option<u32>
 
 /// Whether the live entries of all segments are no more than the points given. Where they are, the Commit file is
 /// named.
-fn check_given(given: u32, findings: &[Finding]) -> Result<(), PageFault>
-    ensures few { OnOk result (all_entries findings.now ≤ given) }
-    ensures more { OnDamage result (IsBeyondGiven given findings.now) }
+fn check_given(points_given: u32, findings: &[Finding]) -> Result<(), PageFault>
+    ensures few { OnOk result (all_entries findings.now ≤ points_given) }
+    ensures more { OnDamage result (IsBeyondGiven points_given findings.now) }
     ensures no_fault { IsErrOf result page.Failed → ⊥ }
 {
     let entries = live_entries(findings);
-    let given = u64::from(given);
-    if entries <= given {
+    let points_given = u64::from(points_given);
+    if entries <= points_given {
         return Ok(());
     }
-    Err(unequal(FileName::Commit, given, entries))
+    Err(unequal(FileName::Commit, points_given, entries))
 }
 
 /// How many live entries the segments have together, as far as 64 bits hold it.

@@ -47,7 +47,7 @@ created seed leaf files s faults is all empty none seen guards bare = record {
   none = none;
   guards = guards;
   made = subst (Sees 2 files s.set)
-      (ap (new_index 2) is ∙ ap (λ (docs : List Document). record (new_index 2 333) { next = 0; given = 0; docs = docs }) (sym (all ∙ empty))) seen;
+      (ap (new_index 2) is ∙ ap (λ (docs : List Document). record (new_index 2 333) { next = 0; points_given = 0; docs = docs }) (sym (all ∙ empty))) seen;
   bare = bare;
 }
 

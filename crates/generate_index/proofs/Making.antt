@@ -118,7 +118,7 @@ makes_add told seed n p a b r drawn all more_all more adds = record {
     grown = (λ j. all j ++ record { number = n; points = drawn j ∷ [] } ∷ []) ∙ sym more ∙ sym more_all
 
     one_more : with_points (drawn_index seed n 0) (p ∷ []) ≡ drawn_index seed (n + 1) 0
-    one_more = ap (λ (docs : List Document). record (new_index 2 333) { next = n + 1; given = n + 1; docs = docs }) grown
+    one_more = ap (λ (docs : List Document). record (new_index 2 333) { next = n + 1; points_given = n + 1; docs = docs }) grown
 
 -- a call that only reads
 pub makes_reads : {T : Type 0} (told : Type 0) (i : Index) (a b : SessionMoment) (r : Result T PageFault)

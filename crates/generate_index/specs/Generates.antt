@@ -16,7 +16,8 @@ use Rattle.drawn_points.specs.Generated.{documents, kept_docs}
 
 -- n drawn documents, without those below the bound whose numbers are multiples of 10
 abbrev pub drawn_index : (seed n bound : ℕ) → Index
-drawn_index seed n bound = record (new_index 2 333) { next = n; given = n; docs = kept_docs bound (documents seed n) }
+drawn_index seed n bound =
+    record (new_index 2 333) { next = n; points_given = n; docs = kept_docs bound (documents seed n) }
 
 -- those that stay in the end
 abbrev pub made_docs : (seed n : ℕ) → List Document

@@ -132,7 +132,7 @@ fn fill<R: Threads + Sync, F: Folder, G: Gate>(
     seed: u32,
 ) -> Result<Summary, PageFault>
     requires few { docs ≤ 1000000 }
-    requires none { session.old.set.given ≡ 0 }
+    requires none { session.old.set.points_given ≡ 0 }
     ensures makes { Makes (IsTrue F.told) (IsDrawn seed 0 0) (IsDrawn seed docs docs)
         (record { files = F.files folder.old; session = session.old; faults = F.faults folder.old })
         (record { files = F.files folder.new; session = session.new; faults = F.faults folder.new }) result }
@@ -166,7 +166,7 @@ fn add_drawn<R: Threads + Sync, F: Folder, G: Gate>(
     draws: &mut Draws,
 ) -> Result<(), PageFault>
     requires few { docs ≤ 1000000 }
-    requires none { session.old.set.given ≡ 0 }
+    requires none { session.old.set.points_given ≡ 0 }
     ensures makes { Makes (IsTrue F.told) (IsDrawn draws.old 0 0) (IsDrawn draws.old docs 0)
         (record { files = F.files folder.old; session = session.old; faults = F.faults folder.old })
         (record { files = F.files folder.new; session = session.new; faults = F.faults folder.new }) result }
@@ -234,7 +234,7 @@ fn ask_boxes<R: Threads + Sync, F: Folder, G: Gate>(
 {
     sums_are_small();
     // so many documents are few
-    let _given = session.given();
+    let _points_given = session.points_given();
     let mut hits: u64 = 0;
     let mut boxes = 0;
     'boxes: while boxes < BOXES {

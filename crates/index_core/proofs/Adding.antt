@@ -53,7 +53,7 @@ use Rattle.std.proofs.lemmas.Result.{on_ok_weaker}
 pub adds_none : {T : Type 0} (D : ℕ) (told : Type 0) (at : SessionMoment) (x : T) → Adds D told [] at at (Ok x)
 adds_none D told at x = record {
   seen = λ t i seen. seen;
-  given = omega arith;
+  points_given = omega arith;
   stays = record { guards = λ t guards. guards; faithful = λ t faithful. faithful; traced = λ t trusts. trusts.traced };
   kept = λ t guards. kept_itself at.files;
   canon = λ t. brings_same D at.files at.files at.session.set.parts at.session.set.parts refl refl;
@@ -69,7 +69,7 @@ adds_empty D told (p ∷ ps) at x none = absurd (omega arith)
 pub adds_no_memory : {T : Type 0} (D : ℕ) (told : Type 0) (points : List (List ℤ)) (at : SessionMoment) → Adds {T = T} D told points at at (Err page.Memory)
 adds_no_memory D told points at = record {
   seen = λ t i seen. tt;
-  given = tt;
+  points_given = tt;
   stays = record { guards = λ t guards. guards; faithful = λ t faithful. faithful; traced = λ t trusts. trusts.traced };
   kept = λ t guards. kept_itself at.files;
   canon = λ t. brings_same D at.files at.files at.session.set.parts at.session.set.parts refl refl;
@@ -82,7 +82,7 @@ pub adds_then : {T U : Type 0} (D : ℕ) (told : Type 0) (xs ys : List (List ℤ
 adds_then D told xs ys a b c x r first second = record {
   seen = λ t i seen.
       on_ok_weaker r (subst (Sees D c.files c.session.set) (sym (fold-append with_point i xs ys))) (second.seen t (with_points i xs) (first.seen t i seen));
-  given = on_ok_weaker r (λ more. let long = length-append xs ys in let some = first.given in omega arith) second.given;
+  points_given = on_ok_weaker r (λ more. let long = length-append xs ys in let some = first.points_given in omega arith) second.points_given;
   stays = record {
     guards = λ t guards. second.stays.guards t (first.stays.guards t guards);
     faithful = λ t faithful. second.stays.faithful t (first.stays.faithful t faithful);
@@ -108,7 +108,7 @@ pub adds_stopped : {T U : Type 0} (D : ℕ) (told : Type 0) (xs ys : List (List 
     → Adds {T = T} D told xs a b (Err fault) → Adds D told ys a b r
 adds_stopped {T = T} {U = U} D told xs ys a b fault r is adds = subst (Adds D told ys a b) (sym is) (record {
   seen = λ t i seen. tt;
-  given = tt;
+  points_given = tt;
   stays = adds.stays;
   kept = adds.kept;
   canon = adds.canon;
@@ -136,7 +136,7 @@ pub record IsPut (D : ℕ) (told : Type 0) (point : List ℤ) (old new : Session
   pub named : All (IsNamed old.session.set.names) old.session.set.parts
   pub second : told → AreCanonical D new.files old.session.set.names new.session.set.parts
   pub seen : told → (i : Index) → Sees D old.files old.session.set i → OnOk r (Sees D new.files new.session.set (with_point i point))
-  pub given : OnOk r (new.session.set.given ≡ old.session.set.given + 1)
+  pub points_given : OnOk r (new.session.set.points_given ≡ old.session.set.points_given + 1)
   pub cause : HasCauseOf add.Failed old.faults new.faults r
   pub whole : told → (i : Index) → Sees D old.files old.session.set i → OnAddDamage r (λ _. ⊥)
   pub faithful : told → IsFaithful D old.files old.session.set → IsFaithful D new.files new.session.set
@@ -167,7 +167,7 @@ pub adds_one : (D : ℕ) (told : Type 0) (point : List ℤ) (old new : SessionMo
     → Adds D told (point ∷ []) old new (add_result r)
 adds_one D told point old new r put = record {
   seen = λ t i seen. put_ok (Sees D new.files new.session.set (with_point i point)) r (put.seen t i seen);
-  given = put_ok (new.session.set.given ≡ old.session.set.given + 1) r put.given;
+  points_given = put_ok (new.session.set.points_given ≡ old.session.set.points_given + 1) r put.points_given;
   stays = record {
     guards = λ t guards. guards_after D told old.files new.files old.session new.session t put.commit put.refused put.keeps put.follows put.grows guards;
     faithful = put.faithful;
@@ -196,17 +196,19 @@ one_ordered point = one_in_order (slice_cmp int_cmp) (lists_total int_cmp_total)
 -- what the set's call says of the points that it got, where these are the one
 pub put_seen : (D : ℕ) (told : Type 0) (point : List ℤ) (points : List (List ℤ)) (f g : Files) (s t : SetData) (r : Result ℕ AddFault) → points ≡ point ∷ []
     → (told → (i : Index) → Sees D f s i
-    → OnOk r (Sees D g t (record i { next = i.next + 1; given = i.given + length points; docs = i.docs ++ record { number = i.next; points = points } ∷ [] })))
+    → OnOk r (Sees D g t
+    (record i { next = i.next + 1; points_given = i.points_given + length points; docs = i.docs ++ record { number = i.next; points = points } ∷ [] })))
     → told → (i : Index) → Sees D f s i → OnOk r (Sees D g t (with_point i point))
 put_seen D told point points f g s t r is seen = subst
     (λ (ps : List (List ℤ)). told → (i : Index) → Sees D f s i
-    → OnOk r (Sees D g t (record i { next = i.next + 1; given = i.given + length ps; docs = i.docs ++ record { number = i.next; points = ps } ∷ [] })))
+    → OnOk r (Sees D g t
+    (record i { next = i.next + 1; points_given = i.points_given + length ps; docs = i.docs ++ record { number = i.next; points = ps } ∷ [] })))
     is seen
 
 pub put_given : (P : Type 0) (point : List ℤ) (points : List (List ℤ)) (before now : ℕ) (r : Result ℕ AddFault) → points ≡ point ∷ []
     → OnOk r (P × (now ≡ before + length points)) → OnOk r (now ≡ before + 1)
-put_given P point points before now r is given =
-    on_ok_weaker r (λ (both : P × (now ≡ before + length points)). both.1 ∙ ap (λ (ps : List (List ℤ)). before + length ps) is) given
+put_given P point points before now r is points_given =
+    on_ok_weaker r (λ (both : P × (now ≡ before + length points)). both.1 ∙ ap (λ (ps : List (List ℤ)). before + length ps) is) points_given
 
 -- ---- of the session that the code opened
 

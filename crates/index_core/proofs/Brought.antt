@@ -75,7 +75,7 @@ brings_commit D f g s c of lives others says guards traced = record {
         dims = ap (λ (d : CommitData). d.dims) is ∙ h.dims ∙ sym of.dims;
         leaf = ap (λ (d : CommitData). d.leaf) is ∙ h.leaf ∙ sym of.leaf;
         next = omega (arith, ap (λ (d : CommitData). d.next) is, h.next, of.next);
-        given = omega (arith, ap (λ (d : CommitData). d.given) is, h.given, of.given);
+        points_given = omega (arith, ap (λ (d : CommitData). d.points_given) is, h.points_given, of.points_given);
       })
       guards;
   whole = λ l inside.
@@ -201,7 +201,7 @@ keeps_then_brings f g h first then = record {
         dims = one.dims ∙ two.dims;
         leaf = one.leaf ∙ two.leaf;
         next = omega (arith, one.next, two.next);
-        given = omega (arith, one.given, two.given);
+        points_given = omega (arith, one.points_given, two.points_given);
       })
       first;
   whole = λ l inside.

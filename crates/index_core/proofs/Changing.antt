@@ -33,18 +33,20 @@ use Rattle.segment_set.proofs.Changed.{index_with}
 
 -- ---- a document is added
 
-pub not_full : (r : Result ℕ AddFault) (given : ℕ) → nat_lt (2 ^ 24) given ≡ false → (IsErrOf r add.Full ↔ (2 ^ 24 < given)) → IsErrOf r add.Full → ⊥
-not_full r given fits full e = both_ways (nat_lt (2 ^ 24) given) fits (lt-ltb (2 ^ 24) given (full.0 e))
+pub not_full : (r : Result ℕ AddFault) (points_given : ℕ) → nat_lt (2 ^ 24) points_given ≡ false → (IsErrOf r add.Full ↔ (2 ^ 24 < points_given))
+    → IsErrOf r add.Full → ⊥
+not_full r points_given fits full e = both_ways (nat_lt (2 ^ 24) points_given) fits (lt-ltb (2 ^ 24) points_given (full.0 e))
 
 pub does_add : (D : ℕ) (old new : Files) (s t : SetData) (i : Index) (points : List (List ℤ)) (r : Result ℕ AddFault) (before after : List ℕ) → Sees D old s i
-    → nat_lt (2 ^ 24) (s.given + length points) ≡ false → (IsErrOf r add.Full → ⊥) → OnOk r (Sees D new t (index_with points i)) → OnErr r (Sees D new t i)
+    → nat_lt (2 ^ 24) (s.points_given + length points) ≡ false → (IsErrOf r add.Full → ⊥) → OnOk r (Sees D new t (index_with points i))
+    → OnErr r (Sees D new t i)
     → after ≡ before ++ doc_text s.next
     → DoesOver D new (step_on i (asks.Add points)) i t before after (add_answer r)
 unfolding step_on
 does_add D old new s t i points r before after seen fits full done refused grew =
     does_as D new (step_on i (asks.Add points)) (Done (Some (index_with points i)) (doc_text i.next)) i t before after (add_answer r)
     (ap (λ b. cond b (Refused why.Full) (Done (Some (index_with points i)) (doc_text i.next)))
-    (ap (λ n. nat_lt (2 ^ 24) (n + length points)) seen.given ∙ fits))
+    (ap (λ n. nat_lt (2 ^ 24) (n + length points)) seen.points_given ∙ fits))
     (by r full done refused)
   where
     by : (r : Result ℕ AddFault) → (IsErrOf r add.Full → ⊥) → OnOk r (Sees D new t (index_with points i)) → OnErr r (Sees D new t i)
@@ -57,13 +59,13 @@ does_add D old new s t i points r before after seen fits full done refused grew 
     by (Err add.Memory) full done refused = refused
 
 pub does_full : (D : ℕ) (files : Files) (s : SetData) (i : Index) (points : List (List ℤ)) (text : List ℕ) → Sees D files s i
-    → nat_lt (2 ^ 24) (s.given + length points) ≡ true
+    → nat_lt (2 ^ 24) (s.points_given + length points) ≡ true
     → DoesOver D files (step_on i (asks.Add points)) i s text text (Ok (applied.Refused why.Full))
 unfolding step_on
 does_full D files s i points text seen full =
     does_as D files (step_on i (asks.Add points)) (Refused why.Full) i s text text (Ok (applied.Refused why.Full))
     (ap (λ b. cond b (Refused why.Full) (Done (Some (index_with points i)) (doc_text i.next)))
-    (ap (λ n. nat_lt (2 ^ 24) (n + length points)) seen.given ∙ full))
+    (ap (λ n. nat_lt (2 ^ 24) (n + length points)) seen.points_given ∙ full))
     (refl, seen, refl)
 
 -- ---- documents are deleted

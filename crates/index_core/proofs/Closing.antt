@@ -132,7 +132,7 @@ guards_renamed D files s t before guards = record {
         dims = h.dims;
         leaf = h.leaf;
         next = h.next;
-        given = h.given;
+        points_given = h.points_given;
         named = names_listed D files s.set h.commit before.set h.says;
       }))
       guards.set;
@@ -161,11 +161,11 @@ guards_eased D told f s t is_told is guards = guards_after D told f f s (record 
 pub names_eased : (s : SessionData) (t : SetData) → t ≡ set_rested s.set → NamesOnlyListed s → NamesOnlyListed (record s { set = t })
 names_eased s t is listed m there = listed m (ap (λ (u : SetData). is_named u.names.names m) (sym is) ∙ there)
 
-pub as_same : (s t : SetData) (c : CommitData) → t.next ≡ s.next → t.given ≡ s.given → t.parts ≡ s.parts → t.buffer ≡ s.buffer → IsAsCommitted s c
+pub as_same : (s t : SetData) (c : CommitData) → t.next ≡ s.next → t.points_given ≡ s.points_given → t.parts ≡ s.parts → t.buffer ≡ s.buffer → IsAsCommitted s c
     → IsAsCommitted t c
-as_same s t c next given parts buffer same = record {
+as_same s t c next points_given parts buffer same = record {
   next = next ∙ same.next;
-  given = given ∙ same.given;
+  points_given = points_given ∙ same.points_given;
   ids = ap ids_of parts ∙ same.ids;
   counts = ap (map (λ (p : LiveSegment). length p.live.live)) parts ∙ same.counts;
   empty = buffer ∙ same.empty;
@@ -181,7 +181,7 @@ module _ (s : SessionData) (t : SetData) (new : SessionData) (eased : t ≡ set_
     done = done;
     same = as_same s.set new.set unchanged.commit
         (ap (λ (u : SetData). u.next) alone.is ∙ ap (λ (u : SetData). u.next) eased)
-        (ap (λ (u : SetData). u.given) alone.is ∙ ap (λ (u : SetData). u.given) eased)
+        (ap (λ (u : SetData). u.points_given) alone.is ∙ ap (λ (u : SetData). u.points_given) eased)
         (ap (λ (u : SetData). u.parts) alone.is ∙ ap (λ (u : SetData). u.parts) eased)
         (ap (λ (u : SetData). u.buffer) alone.is ∙ ap (λ (u : SetData). u.buffer) eased) unchanged.same;
   }

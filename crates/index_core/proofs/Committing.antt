@@ -73,7 +73,7 @@ saved_ids (l ∷ ls) (p ∷ ps) all =
 pub as_committed : (D : ℕ) (s m t : SetData) (c : CommitData) → IsCommitOf D s c → s.buffer ≡ [] → m ≡ s → StaysButFiles m t → IsAsCommitted t c
 as_committed D s m t c of empty same stays = record {
   next = ap (λ (u : SetData). u.next) stays.is ∙ ap (λ (u : SetData). u.next) same ∙ sym of.next;
-  given = ap (λ (u : SetData). u.given) stays.is ∙ ap (λ (u : SetData). u.given) same ∙ sym of.given;
+  points_given = ap (λ (u : SetData). u.points_given) stays.is ∙ ap (λ (u : SetData). u.points_given) same ∙ sym of.points_given;
   ids = ap (λ (u : SetData). ids_of u.parts) stays.is ∙ ap (λ (u : SetData). ids_of u.parts) same ∙ (saved_ids c.listed s.parts of.lists).0;
   counts =
       ap (λ (u : SetData). map (λ (p : LiveSegment). length p.live.live) u.parts) stays.is
@@ -166,15 +166,15 @@ unchanged_is_stored D files s i unchanged sound guards seen =
     docs = subst (λ n. AreDocs n (all_live_entries parts) i.docs) unchanged.same.next
         (subst (λ (xs : List Item). AreDocs s.set.next xs i.docs) (sym entries) seen.docs)
 
-    few : length (all_live_entries parts) ≤ c.given
-    few = let long = ap length entries in let most = seen.few in let given = unchanged.same.given in omega arith
+    few : length (all_live_entries parts) ≤ c.points_given
+    few = let long = ap length entries in let most = seen.few in let points_given = unchanged.same.points_given in omega arith
 
     is : index_of c i.docs ≡ at_rest i
     is = λ j. record {
       dims = (dims ∙ sym seen.dims) j;
       leaf = (leaf ∙ sym seen.leaf) j;
       next = (sym unchanged.same.next ∙ sym seen.next) j;
-      given = (sym unchanged.same.given ∙ sym seen.given) j;
+      points_given = (sym unchanged.same.points_given ∙ sym seen.points_given) j;
       docs = i.docs;
       snapshots = [];
       begun = false;

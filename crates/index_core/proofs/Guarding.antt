@@ -56,23 +56,24 @@ names_listed D files s c guards says m lists = ⊎_elim
 pub record Grows (s t : SetData) : Type 0 where
   pub leaf : t.leaf ≡ s.leaf
   pub next : s.next ≤ t.next
-  pub given : s.given ≤ t.given
+  pub points_given : s.points_given ≤ t.points_given
 
-pub grows_same : (s t : SetData) → t.leaf ≡ s.leaf → t.next ≡ s.next → t.given ≡ s.given → Grows s t
-grows_same s t leaf next given = record { leaf = leaf; next = omega (arith, next); given = omega (arith, given) }
+pub grows_same : (s t : SetData) → t.leaf ≡ s.leaf → t.next ≡ s.next → t.points_given ≡ s.points_given → Grows s t
+grows_same s t leaf next points_given = record { leaf = leaf; next = omega (arith, next); points_given = omega (arith, points_given) }
 
 pub grows_alone : (s t : SetData) → StaysAlone s t → Grows s t
-grows_alone s t stays = grows_same s t stays.leaf stays.next stays.given
+grows_alone s t stays = grows_same s t stays.leaf stays.next stays.points_given
 
 -- the whole set is another but for what has no part in it
-pub grows_like : (s t u : SetData) → t ≡ u → u.leaf ≡ s.leaf → u.next ≡ s.next → u.given ≡ s.given → Grows s t
-grows_like s t u is leaf next given = subst (Grows s) (sym is) (grows_same s u leaf next given)
+pub grows_like : (s t u : SetData) → t ≡ u → u.leaf ≡ s.leaf → u.next ≡ s.next → u.points_given ≡ s.points_given → Grows s t
+grows_like s t u is leaf next points_given = subst (Grows s) (sym is) (grows_same s u leaf next points_given)
 
 -- a document was added, or after a fault none
 pub grows_added : {T E : Type 0} (s t : SetData) (points : ℕ) (r : Result T E) → t.leaf ≡ s.leaf
-    → OnOk r ((t.next ≡ s.next + 1) × (t.given ≡ s.given + points)) → OnErr r (StaysAlone s t) → Grows s t
-grows_added s t points (Ok x) leaf given stays = record { leaf = leaf; next = omega (arith, given.0); given = omega (arith, given.1) }
-grows_added s t points (Err e) leaf given stays = grows_alone s t stays
+    → OnOk r ((t.next ≡ s.next + 1) × (t.points_given ≡ s.points_given + points)) → OnErr r (StaysAlone s t) → Grows s t
+grows_added s t points (Ok x) leaf points_given stays =
+    record { leaf = leaf; next = omega (arith, points_given.0); points_given = omega (arith, points_given.1) }
+grows_added s t points (Err e) leaf points_given stays = grows_alone s t stays
 
 pub set_after : (D : ℕ) (told : Type 0) (f g : Files) (s t : SetData) → told → KeepsNamed told s.names t.names f g → Grows s t → GuardsSet D f s
     → GuardsSet D g t
@@ -84,7 +85,7 @@ set_after D told f g s t is_told keeps grows guards = ⊎_elim
       dims = h.dims;
       leaf = h.leaf ∙ sym grows.leaf;
       next = omega (arith, h.next, grows.next);
-      given = omega (arith, h.given, grows.given);
+      points_given = omega (arith, h.points_given, grows.points_given);
       named = λ m lists. keeps.more m (h.named m lists);
     }))
     guards
@@ -199,7 +200,7 @@ set_written D files s c of says = inr (record {
   dims = of.dims;
   leaf = of.leaf;
   next = omega (arith, of.next);
-  given = omega (arith, of.given);
+  points_given = omega (arith, of.points_given);
   named = of.named;
 })
 
@@ -242,7 +243,7 @@ guards_refused D f g s c refused of guards which = record {
         dims = h.dims;
         leaf = h.leaf;
         next = h.next;
-        given = h.given;
+        points_given = h.points_given;
         named = h.named;
       }))
       guards)

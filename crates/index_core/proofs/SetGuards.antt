@@ -30,7 +30,7 @@ guards_attached D files s c is dims says rest names lives = record {
     dims = dims;
     leaf = sym rest.leaf;
     next = omega (arith, rest.as_committed.next);
-    given = omega (arith, rest.as_committed.given);
+    points_given = omega (arith, rest.as_committed.points_given);
     named = λ m lists. (names m).1 lists;
   });
   last = λ done. subst (IsLast files s.set) (sym is) (record {

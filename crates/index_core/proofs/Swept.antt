@@ -25,7 +25,7 @@ pub record IsSwept (f g : Files) (s t : SetData) (c : CommitData) : Type 0 where
   pub parts : t.parts ≡ s.parts
   pub leaf : t.leaf ≡ s.leaf
   pub next : t.next ≡ s.next
-  pub given : t.given ≡ s.given
+  pub points_given : t.points_given ≡ s.points_given
 
 pub guards_swept : (D : ℕ) (f g : Files) (s t : SetData) (c : CommitData) → IsSwept f g s t c
     → Guards D f (record { set = s; commit = Some c; refused = false }) → Guards D g (record { set = t; commit = Some c; refused = false })
@@ -39,9 +39,9 @@ guards_swept D f g s t c swept guards = record {
         (λ none. absurd (says_some f c none last.says))
         (λ (h : ListsOnlyNamed D f s). omega (arith, ap (λ (d : CommitData). d.next) (same h), h.next, swept.next))
         guards.set;
-    given = ⊎_elim
+    points_given = ⊎_elim
         (λ none. absurd (says_some f c none last.says))
-        (λ (h : ListsOnlyNamed D f s). omega (arith, ap (λ (d : CommitData). d.given) (same h), h.given, swept.given))
+        (λ (h : ListsOnlyNamed D f s). omega (arith, ap (λ (d : CommitData). d.points_given) (same h), h.points_given, swept.points_given))
         guards.set;
     named = λ m lists. swept.named m (inl lists) (names_listed D f s c guards.set last.says m lists);
   });

@@ -43,7 +43,7 @@ pub record IsLater (old new : CommitData) : Type 0 where
   pub dims : old.dims ≡ new.dims
   pub leaf : old.leaf ≡ new.leaf
   pub next : old.next ≤ new.next
-  pub given : old.given ≤ new.given
+  pub points_given : old.points_given ≤ new.points_given
 
 -- The Commit file says a commit that is no earlier one than it said before, if it said one. Each segment that it lists
 -- is whole.

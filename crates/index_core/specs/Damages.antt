@@ -26,23 +26,23 @@ pub record ShowsLeaf {T : Type 0} (D : ℕ) (told : Type 0) (files : Files) (s :
 -- is the latter.
 pub record ShowsMerge {T : Type 0} (D : ℕ) (told : Type 0) (old new : Files) (s t : SetData)
     (result : Result T PageFault) : Type 0 where
-  pub shown : OnDamage result (IsMergeDamage D s.given s.names t.names s.parts)
-  pub damage : told → Agrees old s.cache → OnDamage result (IsMergeDamageOf new s.given)
+  pub shown : OnDamage result (IsMergeDamage D s.points_given s.names t.names s.parts)
+  pub damage : told → Agrees old s.cache → OnDamage result (IsMergeDamageOf new s.points_given)
   pub doubled : told → Agrees old s.cache → (c : Contents) → AreRead D old c s.parts
-      → OnDamage result (IsDoubt s.given (live_in_parts c s.parts))
+      → OnDamage result (IsDoubt s.points_given (live_in_parts c s.parts))
 
 -- of what commits and attaches anew: the same, or a damage of a file that the commit lists
 pub record ShowsAnew {T : Type 0} (D : ℕ) (told : Type 0) (old new : Files) (s t : SetData)
     (commit : Option CommitData) (result : Result T PageFault) : Type 0 where
   pub shown : OnDamage result
-      (λ d. IsMergeDamage D s.given s.names t.names s.parts d
+      (λ d. IsMergeDamage D s.points_given s.names t.names s.parts d
       ⊎ ((c : CommitData) × (commit ≡ Some c) × IsAttachDamage c d))
   pub damage : told → Agrees old s.cache
       → OnDamage result
-      (λ d. IsMergeDamageOf new s.given d ⊎ ((c : CommitData) × (commit ≡ Some c) × IsAttachDamageOf new c d))
+      (λ d. IsMergeDamageOf new s.points_given d ⊎ ((c : CommitData) × (commit ≡ Some c) × IsAttachDamageOf new c d))
   pub doubled : told → Agrees old s.cache → (contents : Contents) → AreRead D old contents s.parts
       → OnDamage result
-      (λ d. IsDoubt s.given (live_in_parts contents s.parts) d
+      (λ d. IsDoubt s.points_given (live_in_parts contents s.parts) d
       ⊎ ((c : CommitData) × (commit ≡ Some c) × IsAttachDamageOf new c d))
 
 -- what the damage shows that the request answers; all else answers none

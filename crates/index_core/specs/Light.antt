@@ -40,7 +40,7 @@ points_in _ = 0
 -- the set alone says that it is refused: more points would be given than ever may be, or no merge is begun that could
 -- end
 abbrev pub IsBarred : Request → SetData → Type 0
-IsBarred (asks.Add points) s = 2 ^ 24 < s.given + length points
+IsBarred (asks.Add points) s = 2 ^ 24 < s.points_given + length points
 IsBarred asks.MergeEnd s = s.begun ≡ None
 IsBarred _ s = ⊥
 

@@ -40,7 +40,7 @@ pub record ListsOnlyNamed (D : ℕ) (files : Files) (s : SetData) : Type 0 where
   pub dims : commit.dims ≡ D
   pub leaf : commit.leaf ≡ s.leaf
   pub next : commit.next ≤ s.next
-  pub given : commit.given ≤ s.given
+  pub points_given : commit.points_given ≤ s.points_given
   pub named : (m : FileName) → ListsFile commit m → is_named s.names.names m ≡ true
 
 abbrev pub GuardsSet : ℕ → Files → SetData → Type 0

@@ -26,7 +26,7 @@ abbrev pub with_point : Index → List ℤ → Index
 with_point i point =
     record i {
       next = i.next + 1;
-      given = i.given + 1;
+      points_given = i.points_given + 1;
       docs = i.docs ++ record { number = i.next; points = point ∷ [] }
           ∷ [];
     }
@@ -47,7 +47,7 @@ pub record Adds {T : Type 0} (D : ℕ) (told : Type 0) (points : List (List ℤ)
     (result : Result T PageFault) : Type 0 where
   pub seen : told → (i : Index) → Sees D old.files old.session.set i
       → OnOk result (Sees D new.files new.session.set (with_points i points))
-  pub given : OnOk result (new.session.set.given ≡ old.session.set.given + length points)
+  pub points_given : OnOk result (new.session.set.points_given ≡ old.session.set.points_given + length points)
   pub stays : StaysTrue D told old.files new.files old.session new.session
   pub kept : told → Guards D old.files old.session → SameKept old.files new.files
   pub canon : told → BringsCanonical D old.files new.files old.session.set.parts new.session.set.parts

@@ -62,7 +62,7 @@ impl<const D: usize> Session<D> {
             → StaysLight (IsTrue F.told) (length points.now) (F.files folder.old)
             (F.files folder.new) self.old self.new }
         ensures unread { OnRefused result (F.reads folder.new ≡ F.reads folder.old) }
-        ensures barred { 2 ^ 24 < self.old.set.given + length points.now → IsOk result }
+        ensures barred { 2 ^ 24 < self.old.set.points_given + length points.now → IsOk result }
     {
         if self.is_full(points) {
             return Ok(Applied::Refused(Refusal::Full));
@@ -73,11 +73,11 @@ impl<const D: usize> Session<D> {
 
     /// Whether more points would be given with these than ever may be.
     fn is_full(&self, points: &Points<D>) -> bool
-        ensures full { result ≡ nat_lt (2 ^ 24) (self.now.set.given + length points.now) }
+        ensures full { result ≡ nat_lt (2 ^ 24) (self.now.set.points_given + length points.now) }
         ensures named { All (IsNamed self.now.set.names) self.now.set.parts }
     {
         let _leaf = self.set.leaf();
-        self.set.given() + points.as_slice().len() as u32 > MOST_POINTS
+        self.set.points_given() + points.as_slice().len() as u32 > MOST_POINTS
     }
 
     /// Deletes a document. The reply that it was live is written first, since it can't be brought back.

@@ -31,19 +31,19 @@ impl<const D: usize> Session<D> {
     /// The number of the next document.
     pub fn next(&self) -> u32
         ensures value { result ≡ self.now.set.next }
-        ensures most { self.now.set.next ≤ self.now.set.given }
+        ensures most { self.now.set.next ≤ self.now.set.points_given }
     {
         let _leaf = self.set.leaf();
         self.set.next()
     }
 
     /// How many points were ever given.
-    pub fn given(&self) -> u32
-        ensures value { result ≡ self.now.set.given }
-        ensures most { self.now.set.given ≤ 2 ^ 24 }
+    pub fn points_given(&self) -> u32
+        ensures value { result ≡ self.now.set.points_given }
+        ensures most { self.now.set.points_given ≤ 2 ^ 24 }
     {
         let _leaf = self.set.leaf();
-        self.set.given()
+        self.set.points_given()
     }
 
     /// Adds a document of one point. What is kept stays, whatever is answered.
@@ -55,7 +55,7 @@ impl<const D: usize> Session<D> {
         point: &Point<D>,
         gate: &G,
     ) -> Result<(), PageFault>
-        requires { self.old.set.given + 1 ≤ 2 ^ 24 }
+        requires { self.old.set.points_given + 1 ≤ 2 ^ 24 }
         ensures { Adds D (IsTrue F.told) (point.now.c ∷ [])
             (record { files = F.files folder.old; session = self.old; faults = F.faults folder.old })
             (record { files = F.files folder.new; session = self.new; faults = F.faults folder.new }) result }
@@ -77,7 +77,7 @@ impl<const D: usize> Session<D> {
         points: &[Point<D>],
         gate: &G,
     ) -> Result<(), PageFault>
-        requires { self.old.set.given + length points.now ≤ 2 ^ 24 }
+        requires { self.old.set.points_given + length points.now ≤ 2 ^ 24 }
         ensures { Adds D (IsTrue F.told) (coordinates_of points.now)
             (record { files = F.files folder.old; session = self.old; faults = F.faults folder.old })
             (record { files = F.files folder.new; session = self.new; faults = F.faults folder.new }) result }
@@ -98,7 +98,7 @@ impl<const D: usize> Session<D> {
         points: &[Point<D>],
         gate: &G,
     ) -> Result<(), PageFault>
-        requires { self.old.set.given + length points.now ≤ 2 ^ 24 }
+        requires { self.old.set.points_given + length points.now ≤ 2 ^ 24 }
         ensures { Adds D (IsTrue F.told) (coordinates_of points.now)
             (record { files = F.files folder.old; session = self.old; faults = F.faults folder.old })
             (record { files = F.files folder.new; session = self.new; faults = F.faults folder.new }) result }
@@ -119,7 +119,7 @@ impl<const D: usize> Session<D> {
         one: &mut Points<D>,
         gate: &G,
     ) -> Result<(), PageFault>
-        requires { self.old.set.given + length points.now ≤ 2 ^ 24 }
+        requires { self.old.set.points_given + length points.now ≤ 2 ^ 24 }
         ensures { Adds D (IsTrue F.told) (coordinates_of points.now)
             (record { files = F.files folder.old; session = self.old; faults = F.faults folder.old })
             (record { files = F.files folder.new; session = self.new; faults = F.faults folder.new }) result }
@@ -141,7 +141,7 @@ impl<const D: usize> Session<D> {
         one: &mut Points<D>,
         gate: &G,
     ) -> Result<(), PageFault>
-        requires { self.old.set.given + 1 ≤ 2 ^ 24 }
+        requires { self.old.set.points_given + 1 ≤ 2 ^ 24 }
         ensures { Adds D (IsTrue F.told) (point.now.c ∷ [])
             (record { files = F.files folder.old; session = self.old; faults = F.faults folder.old })
             (record { files = F.files folder.new; session = self.new; faults = F.faults folder.new }) result }

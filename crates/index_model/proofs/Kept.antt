@@ -14,11 +14,12 @@ kept_fewer test (x ∷ xs) = elim (test x) as (λ b. length (cond b (x ∷ filte
   | false ↦ omega (arith, kept_fewer test xs)
 ]
 
-pub still_given : (next given : ℕ) (docs : List Document) (test : Document → Bool) → AreGiven next given docs → AreGiven next given (filter test docs)
-still_given next given docs test h = record { fewer = h.fewer; limit = h.limit; docs = omega (arith, h.docs, kept_fewer test docs) }
+pub still_given : (next points_given : ℕ) (docs : List Document) (test : Document → Bool)
+    → AreGiven next points_given docs → AreGiven next points_given (filter test docs)
+still_given next points_given docs test h = record { fewer = h.fewer; limit = h.limit; docs = omega (arith, h.docs, kept_fewer test docs) }
 
-pub few_hits : (next given : ℕ) (docs : List Document) (test : List ℤ → Bool) → AreGiven next given docs → length (hits test docs) ≤ 2 ^ 24
-few_hits next given docs test h =
+pub few_hits : (next points_given : ℕ) (docs : List Document) (test : List ℤ → Bool) → AreGiven next points_given docs → length (hits test docs) ≤ 2 ^ 24
+few_hits next points_given docs test h =
     let same : length (hits test docs) ≡ length (filter (passes test) docs) = length-map (filter (passes test) docs) (λ d. d.number) in
     omega (arith, h.docs, h.fewer, h.limit, kept_fewer (passes test) docs)
 

@@ -20,7 +20,7 @@ Does (Refused cause) old new before after (Err e) = (new ≡ old) × (take (leng
 
 -- each document has a number of its own and a point at least, so there are no more documents than numbers, and no more
 -- numbers are given than points
-pub record AreGiven (next given : ℕ) (kept : List Document) : Type 0 where
-  pub fewer : next ≤ given
-  pub limit : given ≤ 2 ^ 24
+pub record AreGiven (next points_given : ℕ) (kept : List Document) : Type 0 where
+  pub fewer : next ≤ points_given
+  pub limit : points_given ≤ 2 ^ 24
   pub docs : length kept ≤ next

@@ -16,7 +16,7 @@ pub record Index : Type 0 where
   pub dims : ℕ
   pub leaf : ℕ
   pub next : ℕ
-  pub given : ℕ
+  pub points_given : ℕ
   pub docs : List Document
   pub snapshots : List Snapshot
   pub begun : Bool
@@ -27,7 +27,8 @@ State = Option Index
 
 -- an index of so many dimensions and this leaf size, to which nothing was added yet
 abbrev pub new_index : ℕ → ℕ → Index
-new_index dims leaf = record { dims = dims; leaf = leaf; next = 0; given = 0; docs = []; snapshots = []; begun = false }
+new_index dims leaf =
+    record { dims = dims; leaf = leaf; next = 0; points_given = 0; docs = []; snapshots = []; begun = false }
 
 -- the snapshot of this name
 abbrev pub snapshot_of : List ℕ → List Snapshot → Option Snapshot
@@ -45,4 +46,4 @@ at_rest i = record i { snapshots = []; begun = false }
 -- how many points were ever given
 abbrev pub given_of : State → ℕ
 given_of None = 0
-given_of (Some i) = i.given
+given_of (Some i) = i.points_given

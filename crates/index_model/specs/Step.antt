@@ -30,11 +30,11 @@ query_outcome i (Some docs) text = Done (Some i) (text docs)
 -- a document of the next number is added, where no more than 16,777,216 points are given with it
 abbrev pub add_outcome : List (List ℤ) → Index → Outcome
 add_outcome points i =
-    if nat_lt (2 ^ 24) (i.given + length points) then Refused why.Full
+    if nat_lt (2 ^ 24) (i.points_given + length points) then Refused why.Full
     else Done
     (Some (record i {
       next = i.next + 1;
-      given = i.given + length points;
+      points_given = i.points_given + length points;
       docs = i.docs ++ record
           { number = i.next; points = points } ∷ [];
     }))

@@ -27,7 +27,7 @@ pub enum Applied {
 pub struct ListSession<const D: usize> {
     pub(crate) leaf: u16,
     next: u32,
-    given: u32,
+    points_given: u32,
     pub(crate) docs: Vec<HeldDocument<D>>,
     pub(crate) snapshots: Vec<HeldSnapshot<D>>,
     begun: bool,
@@ -43,13 +43,13 @@ impl<const D: usize> Model for ListSession<D> {
       dims = D;
       leaf = s.leaf;
       next = s.next;
-      given = s.given;
+      points_given = s.points_given;
       docs = s.docs.items;
       snapshots = s.snapshots.items;
       begun = s.begun;
     } };
 
-    ghost invariant = { λ s. AreGiven s.next s.given s.docs.items };
+    ghost invariant = { λ s. AreGiven s.next s.points_given s.docs.items };
 }
 
 #[tactic(auto, unfolding(crate::specs::Step::step_on))]
@@ -63,7 +63,7 @@ impl<const D: usize> ListSession<D> {
         ListSession {
             leaf,
             next: 0,
-            given: 0,
+            points_given: 0,
             docs: Vec::new(alloc),
             snapshots: Vec::new(alloc),
             begun: false,
@@ -126,14 +126,14 @@ impl<const D: usize> ListSession<D> {
         ensures { Does (add_outcome points.now self.old) self.old self.new out.old.items out.new.items result }
     {
         let count = points.as_slice().len() as u32;
-        if self.given + count > MOST_POINTS {
+        if self.points_given + count > MOST_POINTS {
             return Ok(Applied::Refused(Refusal::Full));
         }
         put_doc(out, self.next)?;
         self.docs
             .push(HeldDocument::new(alloc, self.next, points)?)?;
         self.next += 1;
-        self.given += count;
+        self.points_given += count;
         Ok(Applied::Done)
     }
 

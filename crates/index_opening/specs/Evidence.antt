@@ -96,7 +96,8 @@ pub data IsFilePair (files : Files) (file : FileName) (said found : ℕ) : Type 
       → found ≡ count_by (λ number. has_entry number d.entries) d.live.live → IsFilePair files file said found
   InCommit : (c : CommitData) → IsCommitFile (bytes_of (files Commit)) c → (parts : List SegmentData)
       → HoldAll files c parts
-      → file ≡ Commit → said ≡ c.given → found ≡ length (all_live_entries parts) → IsFilePair files file said found
+      → file ≡ Commit → said ≡ c.points_given → found ≡ length (all_live_entries parts)
+      → IsFilePair files file said found
 
 -- Where entries are about to be merged that are more than the points given, the Commit file is named too, and the
 -- numbers need be none of files.

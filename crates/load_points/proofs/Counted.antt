@@ -24,12 +24,12 @@ full_true m n h = grind (arith, nat_tests)
 
 -- ---- one document and then more
 
-one_more : (i : Index) (point : List ℤ) → i.given + 1 ≤ 2 ^ 24 → with_document (Some i) point ≡ Some (with_point i point)
+one_more : (i : Index) (point : List ℤ) → i.points_given + 1 ≤ 2 ^ 24 → with_document (Some i) point ≡ Some (with_point i point)
 unfolding step_on
 one_more i point fits =
-    ap (λ b. left_by (Some i) (cond b (Refused why.Full) (Done (Some (with_point i point)) (doc_text i.next)))) (fits_false (2 ^ 24) (i.given + 1) fits)
+    ap (λ b. left_by (Some i) (cond b (Refused why.Full) (Done (Some (with_point i point)) (doc_text i.next)))) (fits_false (2 ^ 24) (i.points_given + 1) fits)
 
-all_more : (i : Index) (points : List (List ℤ)) → i.given + length points ≤ 2 ^ 24 → fold with_document (Some i) points ≡ Some (with_points i points)
+all_more : (i : Index) (points : List (List ℤ)) → i.points_given + length points ≤ 2 ^ 24 → fold with_document (Some i) points ≡ Some (with_points i points)
 all_more i [] fits = refl
 all_more i (p ∷ ps) fits =
     ap (λ (s : State). fold with_document s ps) (one_more i p (omega (arith, fits))) ∙ all_more (with_point i p) ps (omega (arith, fits))
@@ -41,9 +41,9 @@ rest_with i (p ∷ ps) = rest_with (with_point i p) ps
 
 -- ---- the index that is there, or a new one
 
-given_opened : (D : ℕ) (stored : State) (i : Index) → opened_state D stored ≡ Some i → given_of stored ≡ i.given
-given_opened D None i e = ap (λ (j : Index). j.given) (some_inj _ _ e)
-given_opened D (Some j) i e = ap (λ (k : Index). k.given) (some_inj _ _ e)
+given_opened : (D : ℕ) (stored : State) (i : Index) → opened_state D stored ≡ Some i → given_of stored ≡ i.points_given
+given_opened D None i e = ap (λ (j : Index). j.points_given) (some_inj _ _ e)
+given_opened D (Some j) i e = ap (λ (k : Index). k.points_given) (some_inj _ _ e)
 
 next_opened : (D : ℕ) (stored : State) (i : Index) → opened_state D stored ≡ Some i → next_of stored ≡ i.next
 next_opened D None i e = ap (λ (j : Index). j.next) (some_inj _ _ e)
@@ -68,23 +68,23 @@ matched_not D i points other = ap (λ b. cond b (refusal (Some i) (dims_text i.d
     other_dims m n h = grind (arith, nat_tests)
 
 -- where not all points fit, the answer is that it is full
-pub full_is : (D : ℕ) (stored : State) (i : Index) (points : List (List ℤ)) → opened_state D stored ≡ Some i → 2 ^ 24 + 1 ≤ i.given + length points
+pub full_is : (D : ℕ) (stored : State) (i : Index) (points : List (List ℤ)) → opened_state D stored ≡ Some i → 2 ^ 24 + 1 ≤ i.points_given + length points
     → points_answer D stored points ≡ refusal stored full_text
 full_is D stored i points e many =
     ap (λ b. cond b (refusal stored full_text)
     (record { state = with_documents D stored points; text = loaded_text (length points) (next_of stored + length points); refused = 0 }))
-    (ap (λ n. nat_lt (2 ^ 24) (n + length points)) (given_opened D stored i e) ∙ full_true (2 ^ 24) (i.given + length points) many)
+    (ap (λ n. nat_lt (2 ^ 24) (n + length points)) (given_opened D stored i e) ∙ full_true (2 ^ 24) (i.points_given + length points) many)
 
 -- where all points fit, the answer says how many there are
 abbrev pub done_answer : Index → List (List ℤ) → Answer
 done_answer i points = record { state = Some (with_points i points); text = loaded_text (length points) (i.next + length points); refused = 0 }
 
-pub added_is : (D : ℕ) (stored : State) (i : Index) (points : List (List ℤ)) → opened_state D stored ≡ Some i → i.given + length points ≤ 2 ^ 24
+pub added_is : (D : ℕ) (stored : State) (i : Index) (points : List (List ℤ)) → opened_state D stored ≡ Some i → i.points_given + length points ≤ 2 ^ 24
     → points_answer D stored points ≡ done_answer i points
 added_is D stored i points e fits =
     ap (λ b. cond b (refusal stored full_text)
     (record { state = with_documents D stored points; text = loaded_text (length points) (next_of stored + length points); refused = 0 }))
-    (ap (λ n. nat_lt (2 ^ 24) (n + length points)) (given_opened D stored i e) ∙ fits_false (2 ^ 24) (i.given + length points) fits)
+    (ap (λ n. nat_lt (2 ^ 24) (n + length points)) (given_opened D stored i e) ∙ fits_false (2 ^ 24) (i.points_given + length points) fits)
     ∙ (λ j. record {
       state = (ap (λ (s : State). fold with_document s points) e ∙ all_more i points fits) j;
       text = loaded_text (length points) (next_opened D stored i e j + length points);

@@ -207,21 +207,21 @@ points_begun i (p ∷ ps) = points_begun (with_point i p) ps
 
 -- where not all points fit, the file is refused
 pub loading_full : (D : ℕ) (told trusts : Type 0) (files : Files) (s : SessionData) (faults : ℕ) (points : List (List ℤ)) (before after : List ℕ)
-    → after ≡ before ++ text_line full_text → 2 ^ 24 + 1 ≤ s.set.given + length points
+    → after ≡ before ++ text_line full_text → 2 ^ 24 + 1 ≤ s.set.points_given + length points
     → Loads told trusts (IsLoading D files s) (λ stored. columns_answer D stored points) (record { files = files; faults = faults; text = before })
     (record { files = files; faults = faults; text = after }) (Ok true)
 loading_full D told trusts files s faults points before after grew many =
     loads_refused told trusts (IsLoading D files s) _ files faults before after full_text grew (λ stored l. l.keeps)
     (λ stored l. matched_is D stored l.index points l.is l.seen.dims
-    ∙ full_is D stored l.index points l.is (subst (λ n. 2 ^ 24 + 1 ≤ n + length points) (sym l.seen.given) many))
+    ∙ full_is D stored l.index points l.is (subst (λ n. 2 ^ 24 + 1 ≤ n + length points) (sym l.seen.points_given) many))
 
 -- the answer where all fit
 fitting : (D : ℕ) (files : Files) (s : SessionData) (stored : State) (points : List (List ℤ)) (l : IsLoading D files s stored)
-    → s.set.given + length points ≤ 2 ^ 24
+    → s.set.points_given + length points ≤ 2 ^ 24
     → columns_answer D stored points ≡ done_answer l.index points
 fitting D files s stored points l fits =
     matched_is D stored l.index points l.is l.seen.dims
-    ∙ added_is D stored l.index points l.is (subst (λ n. n + length points ≤ 2 ^ 24) (sym l.seen.given) fits)
+    ∙ added_is D stored l.index points l.is (subst (λ n. n + length points ≤ 2 ^ 24) (sym l.seen.points_given) fits)
 
 -- the files are trusted then as they were
 adds_trusts : {T : Type 0} (D : ℕ) (told : Type 0) (points : List (List ℤ)) (a b : SessionMoment) (r : Result T PageFault) → Adds D told points a b r → told
@@ -244,7 +244,7 @@ adding_stopped {T = T} D told answer points a b before after fault r is adds =
 -- a fault of the commit after them: what was stored is, or all of it
 pub commit_stopped : {T U : Type 0} (D : ℕ) (told : Type 0) (points : List (List ℤ)) (a b c : SessionMoment) (x : U) (before after : List ℕ) (fault : PageFault)
     (r : Result Bool PageFault) → r ≡ Err fault
-    → a.session.set.given + length points ≤ 2 ^ 24 → Adds D told points a b (Ok x) → CommitSays {T = T} D told b c (Err fault)
+    → a.session.set.points_given + length points ≤ 2 ^ 24 → Adds D told points a b (Ok x) → CommitSays {T = T} D told b c (Err fault)
     → Loads told (Trusts D a.files a.session) (IsLoading D a.files a.session) (λ stored. columns_answer D stored points)
     (record { files = a.files; faults = a.faults; text = before }) (record { files = c.files; faults = c.faults; text = after }) r
 commit_stopped {T = T} D told points a b c x before after fault r is fits adds commits =
@@ -263,7 +263,7 @@ commit_stopped {T = T} D told points a b c x before after fault r is fits adds c
 
 -- all came, and are stored
 pub all_loaded : {T U : Type 0} (D : ℕ) (told : Type 0) (points : List (List ℤ)) (a b c : SessionMoment) (x : U) (y : T) (next : ℕ) (before after : List ℕ)
-    → a.session.set.given + length points ≤ 2 ^ 24 → next ≡ a.session.set.next → after ≡ before ++ loaded_text (length points) (next + length points)
+    → a.session.set.points_given + length points ≤ 2 ^ 24 → next ≡ a.session.set.next → after ≡ before ++ loaded_text (length points) (next + length points)
     → Adds D told points a b (Ok x) → CommitSays D told b c (Ok y)
     → Loads told (Trusts D a.files a.session) (IsLoading D a.files a.session) (λ stored. columns_answer D stored points)
     (record { files = a.files; faults = a.faults; text = before }) (record { files = c.files; faults = c.faults; text = after }) (Ok false)

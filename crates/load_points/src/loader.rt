@@ -236,7 +236,7 @@ fn add_all<const D: usize, R: Threads + Sync, F: Folder, G: Gate>(
         (record { files = F.files folder.old; faults = F.faults folder.old; text = text.old.items })
         (record { files = F.files folder.new; faults = F.faults folder.new; text = text.new.items }) result }
 {
-    match fitting(session.given(), points.len()) {
+    match fitting(session.points_given(), points.len()) {
         Some(count) => add_fitting(work, session, points, count, folder, text),
         None => {
             put_full(text)?;
@@ -246,11 +246,11 @@ fn add_all<const D: usize, R: Threads + Sync, F: Folder, G: Gate>(
 }
 
 /// How many points these are, where they fit behind those that were given.
-fn fitting(given: u32, count: usize) -> Option<u32>
-    requires { given ≤ 2 ^ 24 }
-    ensures { MatchOption result (2 ^ 24 < given + count) (λ n. (n ≡ count) × (given + count ≤ 2 ^ 24)) }
+fn fitting(points_given: u32, count: usize) -> Option<u32>
+    requires { points_given ≤ 2 ^ 24 }
+    ensures { MatchOption result (2 ^ 24 < points_given + count) (λ n. (n ≡ count) × (points_given + count ≤ 2 ^ 24)) }
 {
-    if count > (MOST_POINTS - given) as usize {
+    if count > (MOST_POINTS - points_given) as usize {
         return None;
     }
     Some(count as u32)
@@ -267,7 +267,7 @@ fn add_fitting<const D: usize, R: Threads + Sync, F: Folder, G: Gate>(
 ) -> Result<bool, PageFault>
     requires few { D ≤ 8 }
     requires counted { count ≡ length points.now }
-    requires fits { session.old.set.given + length points.now ≤ 2 ^ 24 }
+    requires fits { session.old.set.points_given + length points.now ≤ 2 ^ 24 }
     ensures { Loads (IsTrue F.told) (Trusts D (F.files folder.old) session.old)
         (IsLoading D (F.files folder.old) session.old) (λ stored. columns_answer D stored (coordinates_of points.now))
         (record { files = F.files folder.old; faults = F.faults folder.old; text = text.old.items })

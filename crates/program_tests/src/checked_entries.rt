@@ -76,19 +76,25 @@ fn stored(alloc: Global) -> Result<MemFolder, Fail> {
 }
 
 /// The folder where the last entry has this number, and so many points were given.
-fn changed(alloc: Global, number: u8, given: u8) -> Result<MemFolder, Fail> {
+fn changed(alloc: Global, number: u8, points_given: u8) -> Result<MemFolder, Fail> {
     let mut folder = stored(alloc)?;
     reseal(alloc, &mut folder, &SEGMENT, SEGMENT, &[(LAST, &[number])])?;
     let commit = FileName::Commit;
-    reseal(alloc, &mut folder, &commit, commit, &[(18, &[given])])?;
+    reseal(
+        alloc,
+        &mut folder,
+        &commit,
+        commit,
+        &[(18, &[points_given])],
+    )?;
     Ok(folder)
 }
 
 #[test]
 fn entries_of_other_numbers(rt: HostRuntime) -> Result<(), Fail> {
-    for (number, given, want) in ROWS {
+    for (number, points_given, want) in ROWS {
         // opening reads no leaf, so it doesn't show this
-        let mut folder = changed(rt.alloc(), number, given)?;
+        let mut folder = changed(rt.alloc(), number, points_given)?;
         assert_said(&rt, rt.alloc(), &mut folder, want, false)?;
     }
     Ok(())

@@ -153,7 +153,12 @@ fn loads_again_and_again(rt: HostRuntime) -> Result<(), Fail> {
     let commit = read_commit(alloc, &mut folder)?.ok_or("no commit")?;
     same(
         &rt,
-        (commit.dims(), commit.leaf(), commit.next(), commit.given()),
+        (
+            commit.dims(),
+            commit.leaf(),
+            commit.next(),
+            commit.points_given(),
+        ),
         (2, 333, 3, 3),
     );
     Ok(())
@@ -188,8 +193,8 @@ const FULL: &[Load] = &[
 fn refuses_what_does_not_fit(rt: HostRuntime) -> Result<(), Fail> {
     let alloc = rt.alloc();
     let mut folder = MemFolder::new(alloc, Vec::new(alloc));
-    let given = (1 << 24) - 2;
-    let commit = Commit::new(1, 500, 7, given, 0, Vec::new(alloc));
+    let points_given = (1 << 24) - 2;
+    let commit = Commit::new(1, 500, 7, points_given, 0, Vec::new(alloc));
     write_commit(alloc, &mut folder, &commit)?;
     for (names, file, answer, is_refused) in FULL {
         let (text, refused) = loaded(&rt, alloc, &mut folder, names, file)?;

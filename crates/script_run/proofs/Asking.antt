@@ -55,7 +55,8 @@ Asks test i r = IsRefusal (step_on i r) ⊎ (test r ≡ true)
 -- what requests that may be refused leave, where they aren't
 abbrev pub more : List (List ℤ) → Index → Outcome
 more points i =
-    Done (Some (record i { next = i.next + 1; given = i.given + length points; docs = i.docs ++ record { number = i.next; points = points } ∷ [] }))
+    Done (Some
+    (record i { next = i.next + 1; points_given = i.points_given + length points; docs = i.docs ++ record { number = i.next; points = points } ∷ [] }))
     (doc_text i.next)
 
 abbrev pub taken : List ℕ → Index → Outcome
@@ -65,7 +66,7 @@ abbrev pub let_go : List ℕ → Index → Outcome
 let_go name i = done_ok (record i { snapshots = filter (λ s. not (bytes_eq s.name name)) i.snapshots })
 
 abbrev pub is_full : List (List ℤ) → Index → Bool
-is_full points i = nat_lt (2 ^ 24) (i.given + length points)
+is_full points i = nat_lt (2 ^ 24) (i.points_given + length points)
 
 abbrev pub is_taken : List ℕ → Index → Bool
 is_taken name i = is_some (snapshot_of name i.snapshots)
@@ -113,27 +114,27 @@ request_rests line i r ask e = e
 abbrev Grows : ℕ → State → Type 0
 Grows n state = n ≤ given_of state
 
-request_gives : (line : ℕ) (i : Index) (r : Request) → i.given ≤ given_of (answer_to line (Some i) (step_on i r)).state
+request_gives : (line : ℕ) (i : Index) (r : Request) → i.points_given ≤ given_of (answer_to line (Some i) (step_on i r)).state
 unfolding step_on
-request_gives line i (asks.Add points) = either (Grows i.given) line i (is_full points i) (Refused why.Full) (more points i) (omega arith) (omega arith)
-request_gives line i (asks.InBox view lo hi) = queried (Grows i.given) line i (viewed_docs view i) _ (omega arith)
-request_gives line i (asks.InPolygon view rings) = queried (Grows i.given) line i (viewed_docs view i) _ (omega arith)
-request_gives line i (asks.Nearest view k at) = queried (Grows i.given) line i (viewed_docs view i) _ (omega arith)
+request_gives line i (asks.Add points) = either (Grows i.points_given) line i (is_full points i) (Refused why.Full) (more points i) (omega arith) (omega arith)
+request_gives line i (asks.InBox view lo hi) = queried (Grows i.points_given) line i (viewed_docs view i) _ (omega arith)
+request_gives line i (asks.InPolygon view rings) = queried (Grows i.points_given) line i (viewed_docs view i) _ (omega arith)
+request_gives line i (asks.Nearest view k at) = queried (Grows i.points_given) line i (viewed_docs view i) _ (omega arith)
 request_gives line i (asks.MergeBegin positions) =
-    either (Grows i.given) line i i.begun (Refused why.Begun) (done_ok (record i { begun = true })) (omega arith) (omega arith)
+    either (Grows i.points_given) line i i.begun (Refused why.Begun) (done_ok (record i { begun = true })) (omega arith) (omega arith)
 request_gives line i asks.MergeEnd =
-    either (Grows i.given) line i i.begun (done_ok (record i { begun = false })) (Refused why.NotBegun) (omega arith) (omega arith)
+    either (Grows i.points_given) line i i.begun (done_ok (record i { begun = false })) (Refused why.NotBegun) (omega arith) (omega arith)
 request_gives line i (asks.Snapshot name) =
-    either (Grows i.given) line i (is_taken name i) (Refused why.NameTaken) (taken_if name i) (omega arith)
-    (either (Grows i.given) line i (are_many i) (Refused why.TooManySnapshots) (taken name i) (omega arith) (omega arith))
+    either (Grows i.points_given) line i (is_taken name i) (Refused why.NameTaken) (taken_if name i) (omega arith)
+    (either (Grows i.points_given) line i (are_many i) (Refused why.TooManySnapshots) (taken name i) (omega arith) (omega arith))
 request_gives line i (asks.Release name) =
-    either (Grows i.given) line i (is_taken name i) (let_go name i) (Refused why.UnknownSnapshot) (omega arith) (omega arith)
+    either (Grows i.points_given) line i (is_taken name i) (let_go name i) (Refused why.UnknownSnapshot) (omega arith) (omega arith)
 request_gives line i r = omega arith
 
 -- where it is done, as many more as the request adds
 module _ (line : ℕ) (i : Index) where
   abbrev Gives : ℕ → Outcome → Type 0
-  Gives n o = (IsRefusal o → ⊥) → given_of (answer_to line (Some i) o).state ≡ i.given + n
+  Gives n o = (IsRefusal o → ⊥) → given_of (answer_to line (Some i) o).state ≡ i.points_given + n
 
   both : (n : ℕ) (b : Bool) (o p : Outcome) → Gives n o → Gives n p → Gives n (if b then o else p)
   both n true o p x y = x
@@ -170,9 +171,9 @@ full_by n true o e none h = grind (arith, nat_tests)
 full_by n false o e none h = absurd (none h)
 
 -- an addition is refused where more points would be given than may be
-pub full_of : (i : Index) (points : List (List ℤ)) → IsRefusal (step_on i (asks.Add points)) → 2 ^ 24 < i.given + length points
+pub full_of : (i : Index) (points : List (List ℤ)) → IsRefusal (step_on i (asks.Add points)) → 2 ^ 24 < i.points_given + length points
 unfolding step_on
-full_of i points h = full_by (i.given + length points) (is_full points i) (more points i) refl (λ f. f) h
+full_of i points h = full_by (i.points_given + length points) (is_full points i) (more points i) refl (λ f. f) h
 
 added_by : (line : ℕ) (i : Index) (n : ℕ) (b : Bool) (o : Outcome) → given_of (answer_to line (Some i) o).state ≡ n
     → IsRefusal (if b then Refused why.Full else o) ⊎ (given_of (answer_to line (Some i) (if b then Refused why.Full else o)).state ≡ n)
@@ -181,9 +182,9 @@ added_by line i n false o e = inr e
 
 -- and else they are given
 pub full_or_given : (line : ℕ) (i : Index) (points : List (List ℤ))
-    → IsRefusal (step_on i (asks.Add points)) ⊎ (given_of (answer_to line (Some i) (step_on i (asks.Add points))).state ≡ i.given + length points)
+    → IsRefusal (step_on i (asks.Add points)) ⊎ (given_of (answer_to line (Some i) (step_on i (asks.Add points))).state ≡ i.points_given + length points)
 unfolding step_on
-full_or_given line i points = added_by line i (i.given + length points) (is_full points i) (more points i) refl
+full_or_given line i points = added_by line i (i.points_given + length points) (is_full points i) (more points i) refl
 
 -- ---- the same state
 
@@ -257,9 +258,9 @@ line_gives : (lang : Language) → (line : ℕ) (state : State) (bytes : List �
 line_gives lang line None bytes = omega arith
 line_gives lang line (Some i) bytes = by (line_request lang (Some i.dims) bytes) refl
   where
-    by : (reading : LineRequest) → line_request lang (Some i.dims) bytes ≡ reading → i.given ≤ given_of (answer lang line (Some i) bytes).state
-    by (Ok r) is = subst (λ (a : Answer). i.given ≤ given_of a.state) (sym (answer_is lang line (Some i) bytes (Ok r) is)) (request_gives line i r)
-    by (Err f) is = subst (λ (a : Answer). i.given ≤ given_of a.state) (sym (answer_is lang line (Some i) bytes (Err f) is)) (omega arith)
+    by : (reading : LineRequest) → line_request lang (Some i.dims) bytes ≡ reading → i.points_given ≤ given_of (answer lang line (Some i) bytes).state
+    by (Ok r) is = subst (λ (a : Answer). i.points_given ≤ given_of a.state) (sym (answer_is lang line (Some i) bytes (Ok r) is)) (request_gives line i r)
+    by (Err f) is = subst (λ (a : Answer). i.points_given ≤ given_of a.state) (sym (answer_is lang line (Some i) bytes (Err f) is)) (omega arith)
 
 pub lines_give : (lang : Language) → (line : ℕ) (state : State) (lines : List (List ℕ))
     → given_of state ≤ given_of (state_after (meaning lang) line state lines)

@@ -41,13 +41,13 @@ is_empty (x ∷ xs) = inr (λ e. absurd cc)
 
 as_committed : (s : SetData) (c : CommitData) → OrNot (IsAsCommitted s c)
 as_committed s c = or_as
-    (λ (h : ((s.next ≡ c.next) × (s.given ≡ c.given))
+    (λ (h : ((s.next ≡ c.next) × (s.points_given ≡ c.points_given))
     × ((ids_of s.parts ≡ map (λ (l : Listed). l.segment) c.listed)
     × (map (λ (p : LiveSegment). length p.live.live) s.parts ≡ map (λ (l : Listed). l.live) c.listed))
     × (s.buffer ≡ [])).
-    record { next = h.0.0; given = h.0.1; ids = h.1.0; counts = h.1.1; empty = h.2 })
-    (λ (a : IsAsCommitted s c). ((a.next, a.given), (a.ids, a.counts), a.empty))
-    (three (and_too (same_numbers s.next c.next) (same_numbers s.given c.given))
+    record { next = h.0.0; points_given = h.0.1; ids = h.1.0; counts = h.1.1; empty = h.2 })
+    (λ (a : IsAsCommitted s c). ((a.next, a.points_given), (a.ids, a.counts), a.empty))
+    (three (and_too (same_numbers s.next c.next) (same_numbers s.points_given c.points_given))
     (and_too (same_lists (ids_of s.parts) (map (λ (l : Listed). l.segment) c.listed))
     (same_lists (map (λ (p : LiveSegment). length p.live.live) s.parts) (map (λ (l : Listed). l.live) c.listed)))
     (is_empty s.buffer))
@@ -76,7 +76,7 @@ unchanged_or_not s = by s.commit s.refused refl refl
 
 committed_still : (s t : SetData) (c : CommitData) → StaysButCache s t → IsAsCommitted s c → IsAsCommitted t c
 committed_still s t c stays same = subst (λ (u : SetData). IsAsCommitted u c) (sym stays.is)
-    (record { next = same.next; given = same.given; ids = same.ids; counts = same.counts; empty = same.empty })
+    (record { next = same.next; points_given = same.points_given; ids = same.ids; counts = same.counts; empty = same.empty })
 
 pub unchanged_still : (told : Type 0) (f g : Files) (s t : SessionData) → IsStill told f g s t → IsUnchanged s → IsUnchanged t
 unchanged_still told f g s t still u = record {

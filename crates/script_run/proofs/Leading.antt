@@ -108,9 +108,9 @@ pub record LedLight (lang : Language) (heads : List Head) (i0 : Index) (line : �
     (before all : ℕ) : Type 0 where
   pub rested : i.begun ≡ false
   pub asks : AllAsk lang is_light line (Some i) rest
-  pub points : given_of (state_after (meaning lang) line (Some i) rest) ≤ i0.given + 16384
+  pub points : given_of (state_after (meaning lang) line (Some i) rest) ≤ i0.points_given + 16384
   pub looks : LooksAt heads now.session.set
-  pub waits : length now.session.set.buffer + i0.given ≤ i.given
+  pub waits : length now.session.set.buffer + i0.points_given ≤ i.points_given
   pub left : ℕ
   pub touches : TouchesLines lang heads line (Some i) rest left
   pub fits : now.reads + left ≤ before + all
@@ -124,7 +124,7 @@ pub record Led (lang : Language) (D line0 : ℕ) (i0 : Index) (lines : List (Lis
       → (i.begun ≡ false) × AllAsk lang is_query line (Some i) rest × (now.files ≡ start.files) × IsIdle now.session
   pub light : (heads : List Head) → LooksAt heads start.session.set → start.session.set.buffer ≡ [] → i0.begun ≡ false
       → AllAsk lang is_light line0 (Some i0) lines
-      → given_of (state_after (meaning lang) line0 (Some i0) lines) ≤ i0.given + 16384 → (n : ℕ) → TouchesLines lang heads line0 (Some i0) lines n
+      → given_of (state_after (meaning lang) line0 (Some i0) lines) ≤ i0.points_given + 16384 → (n : ℕ) → TouchesLines lang heads line0 (Some i0) lines n
       → LedLight lang heads i0 line i rest now start.reads n
 
 pub led_first : (lang : Language) → (D line : ℕ) (i : Index) (lines : List (List ℕ)) (s : LineMoment) → Led lang D line i lines s line i lines s
@@ -157,8 +157,8 @@ module _ (lang : Language) (D line0 : ℕ) (i0 : Index) (lines : List (List ℕ)
   room_here heads before all l =
       let grows = lines_give lang (line + 1) (answer lang line (Some i) x).state more in
       let same = state_rest lang line (Some i) (answer lang line (Some i) x).state rest x more is refl in
-      let most : given_of (state_after (meaning lang) (line + 1) (answer lang line (Some i) x).state more) ≤ i0.given + 16384 =
-      subst (λ (s : State). given_of s ≤ i0.given + 16384) (sym same) l.points in
+      let most : given_of (state_after (meaning lang) (line + 1) (answer lang line (Some i) x).state more) ≤ i0.points_given + 16384 =
+      subst (λ (s : State). given_of s ≤ i0.points_given + 16384) (sym same) l.points in
       omega (arith, grows, most, l.waits)
 
   module _ {T E : Type 0} (y : T) (p : Passes {T = T} {E = E} lang D line i x now new (Ok y)) (j : Index)
@@ -171,16 +171,16 @@ module _ (lang : Language) (D line0 : ℕ) (i0 : Index) (lines : List (List ℕ)
         let few = p.looks heads l.looks l.rested ask room in
         let parts = touches_parts lang line (Some i) (Some j) rest x more is leads heads l.left l.touches in
         let reads = p.reads heads l.looks l.rested ask room parts.0 parts.2 in
-        let given : given_of (answer lang line (Some i) x).state ≡ j.given = ap given_of leads in
+        let points_given : given_of (answer lang line (Some i) x).state ≡ j.points_given = ap given_of leads in
         record {
           rested = rests_on (answer lang line (Some i) x).state j leads
               (line_rests lang line i x
               (all_first lang line (Some i) (Some j) rest x more is leads begins_no_merge
               (all_weaker lang is_light begins_no_merge light_begins line (Some i) rest l.asks)) l.rested);
           asks = all_rest lang line (Some i) (Some j) rest x more is leads is_light l.asks;
-          points = subst (λ (s : State). given_of s ≤ i0.given + 16384) (sym (state_rest lang line (Some i) (Some j) rest x more is leads)) l.points;
+          points = subst (λ (s : State). given_of s ≤ i0.points_given + 16384) (sym (state_rest lang line (Some i) (Some j) rest x more is leads)) l.points;
           looks = few.looks;
-          waits = omega (arith, few.waits, given, l.waits);
+          waits = omega (arith, few.waits, points_given, l.waits);
           left = parts.1;
           touches = parts.3;
           fits = omega (arith, reads, parts.4, l.fits);
@@ -213,7 +213,7 @@ module _ (lang : Language) (D line0 : ℕ) (i0 : Index) (lines : List (List ℕ)
 
   -- lines that are all queries are light lines too
   either_light : (heads : List Head) → (IsIdle start.session × AllAsk lang is_query line0 (Some i0) lines) ⊎ AreLight lang heads line0 (Some i0) lines
-      → AllAsk lang is_light line0 (Some i0) lines × (given_of (state_after (meaning lang) line0 (Some i0) lines) ≤ i0.given + 16384)
+      → AllAsk lang is_light line0 (Some i0) lines × (given_of (state_after (meaning lang) line0 (Some i0) lines) ≤ i0.points_given + 16384)
   either_light heads (inr l) = (l.asks, l.points)
   either_light heads (inl (u, asks)) =
       let same = ap given_of (queries_stay lang line0 (Some i0) lines asks) in
@@ -256,9 +256,9 @@ led_ends lang D line0 i0 lines start line i rest now led seen new r c = record {
         → TouchesLines lang heads line0 (Some i0) lines n
         → (IsIdle start.session × AllAsk lang is_query line0 (Some i0) lines) ⊎ AreLight lang heads line0 (Some i0) lines → new.reads ≤ start.reads + n
     by_which heads looks empty rested n touches (inl (u, asks)) =
-        let given = ap given_of (queries_stay lang line0 (Some i0) lines asks) in
+        let points_given = ap given_of (queries_stay lang line0 (Some i0) lines asks) in
         let l =
-        led.light heads looks empty rested (all_weaker lang is_query is_light query_light line0 (Some i0) lines asks) (omega (arith, given)) n touches in
+        led.light heads looks empty rested (all_weaker lang is_query is_light query_light line0 (Some i0) lines asks) (omega (arith, points_given)) n touches in
         let same = c.reads (inl (led.still rested u asks).3.unchanged) in
         omega (arith, same, l.fits)
     by_which heads looks empty rested n touches (inr light) =
@@ -282,9 +282,9 @@ led_breaks lang D line0 i0 lines start line i rest now led e = record {
         → TouchesLines lang heads line0 (Some i0) lines n
         → (IsIdle start.session × AllAsk lang is_query line0 (Some i0) lines) ⊎ AreLight lang heads line0 (Some i0) lines → now.reads ≤ start.reads + n
     by_which heads looks empty rested n touches (inl (u, asks)) =
-        let given = ap given_of (queries_stay lang line0 (Some i0) lines asks) in
+        let points_given = ap given_of (queries_stay lang line0 (Some i0) lines asks) in
         let l =
-        led.light heads looks empty rested (all_weaker lang is_query is_light query_light line0 (Some i0) lines asks) (omega (arith, given)) n touches in
+        led.light heads looks empty rested (all_weaker lang is_query is_light query_light line0 (Some i0) lines asks) (omega (arith, points_given)) n touches in
         omega (arith, l.fits)
     by_which heads looks empty rested n touches (inr light) =
         let l = led.light heads looks empty rested light.asks light.points n touches in

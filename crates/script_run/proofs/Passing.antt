@@ -145,7 +145,7 @@ module _ (D : ℕ) (told : Type 0) (is_told : told) (i : Index) (old new : LineM
       → IsApplied D told i (asks.Add points) old new before after result → new.reads ≡ old.reads
   full_reads points (Ok applied.Done) h a = absurd (not_done D new.files i new.session.set before after (step_on i (asks.Add points)) h a.does)
   full_reads points (Ok (applied.Refused why)) h a = a.unread
-  full_reads points (Err fault) h a = no (a.barred (subst (λ n. 2 ^ 24 < n + length points) seen.given (full_of i points h)))
+  full_reads points (Err fault) h a = no (a.barred (subst (λ n. 2 ^ 24 < n + length points) seen.points_given (full_of i points h)))
 
   -- a light request, or one that is refused, reads no more than it touches
   reads_few : (line : ℕ) (r : Request) (result : Result Applied PageFault) → Asks is_light i r
@@ -195,7 +195,7 @@ module _ (D : ℕ) (told : Type 0) (is_told : told) (i : Index) (old new : LineM
   refused_few line r why a =
       let h = a_refusal D new.files i new.session.set before after (step_on i r) why a.does in
       let still = refused_still told i r old.files new.files old.session new.session why h a.still in
-      let same : given_of (answer_to line (Some i) (step_on i r)).state ≡ i.given = ap given_of (refusal_state line (Some i) (step_on i r) h) in
+      let same : given_of (answer_to line (Some i) (step_on i r)).state ≡ i.points_given = ap given_of (refusal_state line (Some i) (step_on i r) h) in
       record {
         looks = looks_still heads old.session.set new.session.set still.set looks;
         waits = omega (arith, same, buffer_still old.session.set new.session.set still.set);
@@ -222,10 +222,11 @@ pub passes_applied : (lang : Language) → (D : ℕ) (told : Type 0) → told
 passes_applied lang D told is_told line i bytes r old new before after result seen says a = record {
   canon = a.canon;
   levels = λ rested. levels_after D told i r old new before after result a (begins_none D old.files old.session.set i seen rested);
-  still = λ rested u ask. still_files D told is_told i old new before after rested (begins_none D old.files old.session.set i seen rested) seen.given r result
+  still = λ rested u ask.
+      still_files D told is_told i old new before after rested (begins_none D old.files old.session.set i seen rested) seen.points_given r result
       (asked lang is_query line i bytes r is ask) (unchanged_room old.session u) a;
   idle = λ rested u ask. still_session D told is_told i old new before after rested
-      (begins_none D old.files old.session.set i seen rested) seen.given r result (asked lang is_query line i bytes r is ask) u a;
+      (begins_none D old.files old.session.set i seen rested) seen.points_given r result (asked lang is_query line i bytes r is ask) u a;
   reads = λ heads looks rested ask room n touches.
       reads_few D told is_told i old new before after seen rested heads looks line r result (asked lang is_light line i bytes r is ask)
       (subst (λ (w : Answer). HasRoom old.session.set i w.state) answers room) a n (subst (λ (x : LineRequest). TouchesHeard (Some i) heads x n) is touches);

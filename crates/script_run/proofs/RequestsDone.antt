@@ -117,14 +117,14 @@ module _ (D : ℕ) (told : Type 0) (i : Index) (r : Request) (old new : LineMome
 
 module _ (D : ℕ) (told : Type 0) (is_told : told) (i : Index) (old new : LineMoment) (before after : List ℕ) (rested : i.begun ≡ false)
     (none : old.session.set.begun ≡ None)
-    (given : i.given ≡ old.session.set.given) where
+    (points_given : i.points_given ≡ old.session.set.points_given) where
   -- a request that the definition refuses ends with a fault, and no file changed
   fault_files : (r : Request) (fault : PageFault) → IsRefusal (step_on i r) → length old.session.set.buffer ≤ 16384
       → IsApplied D told i r old new before after (Err fault) → new.files ≡ old.files
   unfolding step_on
   fault_files asks.Blank fault h room a = absurd h
   fault_files (asks.Create dims leaf) fault h room a = (a.light refl (omega (arith, room))).files is_told
-  fault_files (asks.Add points) fault h room a = no (a.barred (subst (λ n. 2 ^ 24 < n + length points) given (full_of i points h)))
+  fault_files (asks.Add points) fault h room a = no (a.barred (subst (λ n. 2 ^ 24 < n + length points) points_given (full_of i points h)))
   fault_files (asks.Delete doc) fault h room a = absurd h
   fault_files (asks.DeleteBox lo hi) fault h room a = absurd h
   fault_files (asks.InBox view lo hi) fault h room a = a.still.files is_told

@@ -92,7 +92,7 @@ opens_new D dims leaf files reads s i stored d seen bare from = record {
 
     no_entries : Sees D files s.set (new_index D leaf) → s.set.buffer ≡ []
     no_entries sees = back_none (live_in_parts sees.contents s.set.parts) s.set.buffer
-        (no_length _ (let few = sees.few in let given = sees.given in omega (arith, few, given)))
+        (no_length _ (let few = sees.few in let points_given = sees.points_given in omega (arith, few, points_given)))
 
 module _ (D : ℕ) (old new : Files) (before now : ℕ) (commit : CommitData) (i : Index) (stored : State) (dims : commit.dims ≡ D) (same : new ≡ old)
     (from : IsFrom old (origin.Stored commit) i stored)

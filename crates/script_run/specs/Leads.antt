@@ -31,12 +31,12 @@ pub record LineMoment : Type 0 where
 
 -- what waits in the buffer and what a line adds, which leaves this state, have room in it
 abbrev pub HasRoom : SetData → Index → State → Type 0
-HasRoom s i after = length s.buffer + given_of after ≤ i.given + 16384
+HasRoom s i after = length s.buffer + given_of after ≤ i.points_given + 16384
 
 -- the same segments are looked at, and no more waits than was given since
 pub record StaysFew (heads : List Head) (i : Index) (after : State) (s t : SetData) : Type 0 where
   pub looks : LooksAt heads t
-  pub waits : length t.buffer + i.given ≤ length s.buffer + given_of after
+  pub waits : length t.buffer + i.points_given ≤ length s.buffer + given_of after
 
 -- From the one spot to the other a line is done, refused or left. Each segment that it writes is canonical. Where no
 -- merge is begun: a commit that is done lists few segments of each level; a query, or a line that is refused, changes

@@ -116,7 +116,7 @@ abbrev pub attached : CommitData → NameList → List LiveSegment → PageCache
 attached c names parts cache = record {
   leaf = c.leaf;
   next = c.next;
-  given = c.given;
+  points_given = c.points_given;
   names = names;
   parts = parts;
   buffer = [];
@@ -150,7 +150,7 @@ sees_attached D files c names parts cache i dims says stored heads lives agrees 
       dims = dims;
       leaf = refl;
       next = refl;
-      given = refl;
+      points_given = refl;
       begun = refl;
       docs = subst (λ (xs : List Item). AreDocs c.next xs docs) (sym entries) held.are_docs;
       few = let long = ap length entries in let few = held.few in omega arith;
@@ -228,7 +228,7 @@ at_rest_attached told files c names parts cache all next = record {
   leaf = refl;
   as_committed = record {
     next = refl;
-    given = refl;
+    points_given = refl;
     ids = zip_same (IsOpened told files c) (λ (s : Listed). s.segment) (λ (p : LiveSegment). p.head.id) (λ s p one. one.listed.id) c.listed parts all;
     counts =
         zip_same (IsOpened told files c) (λ (s : Listed). s.live) (λ (p : LiveSegment). length p.live.live) (λ s p one. one.listed.live) c.listed parts all;
@@ -243,8 +243,9 @@ at_rest_attached told files c names parts cache all next = record {
 }
 
 -- the set as a call makes it
-pub attached_is : (c : CommitData) (names : NameList) (parts : List LiveSegment) (cache : PageCache) (leaf next given : ℕ) (buffer : List Item)
-    (snapshots : List NamedView) → leaf ≡ c.leaf → next ≡ c.next → given ≡ c.given → buffer ≡ [] → snapshots ≡ []
-    → record (attached c names parts cache) { leaf = leaf; next = next; given = given; buffer = buffer; snapshots = snapshots } ≡ attached c names parts cache
-attached_is c names parts cache leaf next given buffer snapshots l n g b s =
-    λ i. record (attached c names parts cache) { leaf = l i; next = n i; given = g i; buffer = b i; snapshots = s i }
+pub attached_is : (c : CommitData) (names : NameList) (parts : List LiveSegment) (cache : PageCache) (leaf next points_given : ℕ) (buffer : List Item)
+    (snapshots : List NamedView) → leaf ≡ c.leaf → next ≡ c.next → points_given ≡ c.points_given → buffer ≡ [] → snapshots ≡ []
+    → record (attached c names parts cache) { leaf = leaf; next = next; points_given = points_given; buffer = buffer; snapshots = snapshots }
+    ≡ attached c names parts cache
+attached_is c names parts cache leaf next points_given buffer snapshots l n g b s =
+    λ i. record (attached c names parts cache) { leaf = l i; next = n i; points_given = g i; buffer = b i; snapshots = s i }

@@ -80,7 +80,7 @@ sees_but D number files s i seen = record {
   dims = seen.dims;
   leaf = seen.leaf;
   next = seen.next;
-  given = seen.given;
+  points_given = seen.points_given;
   begun = seen.begun ∙ flag s.begun;
   docs = subst (λ (xs : List Item). AreDocs s.next xs (docs_without number i.docs)) (sym (seen_but number seen.contents s))
       (but_one s.next (entries_seen seen.contents s.parts s.buffer) i.docs number seen.docs);
@@ -114,7 +114,7 @@ live_seen D number files s i seen =
 
 abbrev pub index_with : List (List ℤ) → Index → Index
 index_with points i =
-    record i { next = i.next + 1; given = i.given + length points; docs = i.docs ++ record { number = i.next; points = points } ∷ [] }
+    record i { next = i.next + 1; points_given = i.points_given + length points; docs = i.docs ++ record { number = i.next; points = points } ∷ [] }
 
 pub sees_with : (D : ℕ) (files : Files) (s : SetData) (i : Index) (points : List (List ℤ)) → ArePoints points → Sees D files s i
     → Sees D files (set_with points s) (index_with points i)
@@ -124,7 +124,7 @@ sees_with D files s i points ok seen = record {
   dims = seen.dims;
   leaf = seen.leaf;
   next = ap (λ n. n + 1) seen.next;
-  given = ap (λ n. n + length points) seen.given;
+  points_given = ap (λ n. n + length points) seen.points_given;
   begun = seen.begun;
   docs = subst (λ n. AreDocs (s.next + 1) (entries_seen seen.contents s.parts (s.buffer ++ mine)) (i.docs ++ record { number = n; points = points } ∷ []))
       (sym seen.next)
@@ -149,11 +149,11 @@ sees_with D files s i points ok seen = record {
     whole = append_assoc (live_in_parts seen.contents s.parts) s.buffer mine
 
 -- whether it may be added
-pub full_given : {b : Bool} (given n m : ℕ) → IsTrue b ↔ (2 ^ 24 < given + n) → b ≡ true → n ≡ m → 2 ^ 24 < given + m
-full_given given n m full is same = subst (λ k. 2 ^ 24 < given + k) same (full.0 is)
+pub full_given : {b : Bool} (points_given n m : ℕ) → IsTrue b ↔ (2 ^ 24 < points_given + n) → b ≡ true → n ≡ m → 2 ^ 24 < points_given + m
+full_given points_given n m full is same = subst (λ k. 2 ^ 24 < points_given + k) same (full.0 is)
 
-pub not_full : {b : Bool} (given n m : ℕ) → IsTrue b ↔ (2 ^ 24 < given + n) → b ≡ false → n ≡ m → 2 ^ 24 < given + m → ⊥
-not_full {b} given n m full never same more = both_ways b never (full.1 (subst (λ k. 2 ^ 24 < given + k) (sym same) more))
+pub not_full : {b : Bool} (points_given n m : ℕ) → IsTrue b ↔ (2 ^ 24 < points_given + n) → b ≡ false → n ≡ m → 2 ^ 24 < points_given + m → ⊥
+not_full {b} points_given n m full never same more = both_ways b never (full.1 (subst (λ k. 2 ^ 24 < points_given + k) (sym same) more))
 
 -- it leaves the segments and adds its points to the buffer
 pub parts_with : (s t u : SetData) (points : List (List ℤ)) → t ≡ s → u ≡ set_with points t
@@ -185,7 +185,7 @@ pub stays_but : (number : ℕ) (s : SetData) → StaysAlone s (set_but number s)
 stays_but number s = record {
   leaf = refl;
   next = refl;
-  given = refl;
+  points_given = refl;
   snapshots = refl;
   begun = flag s.begun;
   live = λ n e. left_of (is_live_in s n) (not (eqb n number)) (sym (live_but number n s) ∙ e);
@@ -236,7 +236,8 @@ docs_hit test docs up =
     filter_alike (λ (d : Document). not (is_among (hits test docs) d.number)) (λ d. not (passes test d)) docs (λ d h. ap not (among_hits test docs up d h))
 
 -- the parts that an addition changes
-pub set_with_is : (points : List (List ℤ)) (s : SetData) (next given : ℕ) (buffer : List Item) → next ≡ s.next + 1 → given ≡ s.given + length points
+pub set_with_is : (points : List (List ℤ)) (s : SetData) (next points_given : ℕ) (buffer : List Item) → next ≡ s.next + 1
+    → points_given ≡ s.points_given + length points
     → buffer ≡ s.buffer ++ entries_of (record { number = s.next; points = points })
-    → record s { next = next; given = given; buffer = buffer } ≡ set_with points s
-set_with_is points s next given buffer n m b = λ i. record s { next = n i; given = m i; buffer = b i }
+    → record s { next = next; points_given = points_given; buffer = buffer } ≡ set_with points s
+set_with_is points s next points_given buffer n m b = λ i. record s { next = n i; points_given = m i; buffer = b i }

@@ -168,15 +168,16 @@ ordered_with n buffer (p ∷ ps) below up =
     more : (x : Item) → Contains (buffer ++ entry_of n p ∷ []) x → x.doc ≤ n
     more x h = ⊎_elim (below x) (λ e. subst (λ (y : Item). y.doc ≤ n) e (omega arith)) (Contains-push_cases buffer (entry_of n p) x h)
 
-pub well_with : (D : ℕ) (s : SetData) (points : List (List ℤ)) → ArePoints points → length s.buffer + length points ≤ 16384 → s.given + length points ≤ 2 ^ 24
+pub well_with : (D : ℕ) (s : SetData) (points : List (List ℤ)) → ArePoints points → length s.buffer + length points ≤ 16384
+    → s.points_given + length points ≤ 2 ^ 24
     → IsWell D s → IsWell D (set_with points s)
-well_with D s points ok room given well = record {
+well_with D s points ok room points_given well = record {
   some_dims = well.some_dims;
   few_dims = well.few_dims;
   least_leaf = well.least_leaf;
   greatest_leaf = well.greatest_leaf;
   numbered = omega (arith, well.numbered, ok.some);
-  most_given = given;
+  most_given = points_given;
   spread = record { alone = alone; below = below };
   room = omega (arith, room, length-append s.buffer mine, length-map points (entry_of s.next));
   ordered = ordered_with s.next s.buffer points under well.ordered;

@@ -21,15 +21,16 @@ pub whole_shows : {T : Type 0} (P : Damage → Type 0) (r : Result T PageFault) 
 whole_shows P r whole = on_damage (λ _. ⊥) P r (λ d h. absurd h) whole
 
 -- a damage of some of the segments is one of them
-pub part_shown : (D given : ℕ) (names now : NameList) (ids : List ℕ) (parts : List LiveSegment) (d : Damage) → IsPartDamage D (parts_among ids parts) d
-    → IsMergeDamage D given names now parts d
-part_shown D given names now ids parts d h = Read h.0 (of_filter (λ (p : LiveSegment). is_among ids p.head.id) parts h.0 h.1).0 h.2
+pub part_shown : (D points_given : ℕ) (names now : NameList) (ids : List ℕ) (parts : List LiveSegment) (d : Damage) → IsPartDamage D (parts_among ids parts) d
+    → IsMergeDamage D points_given names now parts d
+part_shown D points_given names now ids parts d h = Read h.0 (of_filter (λ (p : LiveSegment). is_among ids p.head.id) parts h.0 h.1).0 h.2
 
 -- what is doubted of the live entries of some of the segments is doubted of those of all
-pub doubt_among : (given : ℕ) (c : Contents) (ids : List ℕ) (parts : List LiveSegment) (d : Damage) → IsDoubt given (live_in_parts c (parts_among ids parts)) d
-    → IsDoubt given (live_in_parts c parts) d
-doubt_among given c ids parts =
-    doubt_more given (live_in_parts c parts) (live_in_parts c (parts_among ids parts))
+pub doubt_among : (points_given : ℕ) (c : Contents) (ids : List ℕ) (parts : List LiveSegment) (d : Damage)
+    → IsDoubt points_given (live_in_parts c (parts_among ids parts)) d
+    → IsDoubt points_given (live_in_parts c parts) d
+doubt_among points_given c ids parts =
+    doubt_more points_given (live_in_parts c parts) (live_in_parts c (parts_among ids parts))
     (omega (arith, counts (live_in_parts c parts), counts (live_in_parts c (parts_among ids parts)), live_parted (λ _. 1) c ids parts))
     (λ f. omega (arith, live_parted f c ids parts))
   where

@@ -19,7 +19,7 @@ abbrev pub empty_set : ℕ → NameList → PageCache → SetData
 empty_set leaf names cache = record {
   leaf = leaf;
   next = 0;
-  given = 0;
+  points_given = 0;
   names = names;
   parts = [];
   buffer = [];
@@ -77,7 +77,7 @@ sees_empty D leaf names cache files agrees = record {
   dims = refl;
   leaf = refl;
   next = refl;
-  given = refl;
+  points_given = refl;
   begun = refl;
   docs = no_docs 0;
   few = omega arith;

@@ -20,18 +20,18 @@ use Rattle.segment_set.proofs.Crowds.{among_crowded}
 
 -- ---- entries that are none of documents
 
-doubt_shows : (P : ℕ → Head → Type 0) (given : ℕ) (items : List Item) (d : Damage) → IsDoubt given items d → IsShown (LacksLeaf P) HasNoBody d
-doubt_shows P given items (Unequal file said found) h =
-    let is : said ≡ given = h.1 in
-    let more : given < found = h.2 in
+doubt_shows : (P : ℕ → Head → Type 0) (points_given : ℕ) (items : List Item) (d : Damage) → IsDoubt points_given items d → IsShown (LacksLeaf P) HasNoBody d
+doubt_shows P points_given items (Unequal file said found) h =
+    let is : said ≡ points_given = h.1 in
+    let more : points_given < found = h.2 in
     let apart : said ≢ found = omega arith in apart
-doubt_shows P given items (Doubled doc) h = tt
-doubt_shows P given items (Page file number bytes) h = absurd h
-doubt_shows P given items (Leaf file number offset len bytes) h = absurd h
-doubt_shows P given items (Body file bytes) h = absurd h
-doubt_shows P given items (Missing file) h = absurd h
-doubt_shows P given items (Size file size needed) h = absurd h
-doubt_shows P given items (Beyond doc next) h = absurd h
+doubt_shows P points_given items (Doubled doc) h = tt
+doubt_shows P points_given items (Page file number bytes) h = absurd h
+doubt_shows P points_given items (Leaf file number offset len bytes) h = absurd h
+doubt_shows P points_given items (Body file bytes) h = absurd h
+doubt_shows P points_given items (Missing file) h = absurd h
+doubt_shows P points_given items (Size file size needed) h = absurd h
+doubt_shows P points_given items (Beyond doc next) h = absurd h
 
 -- what is known to be there of each is there of all
 all_merely : {A : Type 0} (P : A → Type 0) (xs : List A) → All (λ x. ∥ P x ∥₁) xs → ∥ All P xs ∥₁
@@ -44,29 +44,29 @@ pub gathered_of_files : (D : ℕ) (files : Files) (ids : List ℕ) (parts : List
     → (All (HasOwnHead D files) parts → AreHeld D files (parts_among ids parts) items) → ∥ AreHeld D files (parts_among ids parts) items ∥₁
 gathered_of_files D files ids parts items heads held = ∥∥₁_map (all_merely (HasOwnHead D files) parts heads) held
 
-doubt_carried : (D : ℕ) (files : Files) (given : ℕ) (ids : List ℕ) (parts : List LiveSegment) (items : List Item) → AreAlone parts
-    → AreHeld D files (parts_among ids parts) items → (d : Damage) → IsDoubt given items d
+doubt_carried : (D : ℕ) (files : Files) (points_given : ℕ) (ids : List ℕ) (parts : List LiveSegment) (items : List Item) → AreAlone parts
+    → AreHeld D files (parts_among ids parts) items → (d : Damage) → IsDoubt points_given items d
     → IsTrueOf (IsCrowdedIn D files parts) files d
-doubt_carried D files given ids parts items alone held (Unequal file said found) h =
-    let is : said ≡ given = h.1 in
-    let more : given < found = h.2 in
+doubt_carried D files points_given ids parts items alone held (Unequal file said found) h =
+    let is : said ≡ points_given = h.1 in
+    let more : points_given < found = h.2 in
     OfGiven h.0 (omega arith)
-doubt_carried D files given ids parts items alone held (Doubled doc) h = among_crowded D files ids parts items doc alone held h
-doubt_carried D files given ids parts items alone held (Page file number bytes) h = absurd h
-doubt_carried D files given ids parts items alone held (Leaf file number offset len bytes) h = absurd h
-doubt_carried D files given ids parts items alone held (Body file bytes) h = absurd h
-doubt_carried D files given ids parts items alone held (Missing file) h = absurd h
-doubt_carried D files given ids parts items alone held (Size file size needed) h = absurd h
-doubt_carried D files given ids parts items alone held (Beyond doc next) h = absurd h
+doubt_carried D files points_given ids parts items alone held (Doubled doc) h = among_crowded D files ids parts items doc alone held h
+doubt_carried D files points_given ids parts items alone held (Page file number bytes) h = absurd h
+doubt_carried D files points_given ids parts items alone held (Leaf file number offset len bytes) h = absurd h
+doubt_carried D files points_given ids parts items alone held (Body file bytes) h = absurd h
+doubt_carried D files points_given ids parts items alone held (Missing file) h = absurd h
+doubt_carried D files points_given ids parts items alone held (Size file size needed) h = absurd h
+doubt_carried D files points_given ids parts items alone held (Beyond doc next) h = absurd h
 
-pub doubt_evident : (T : Type 0) (D : ℕ) (files : Files) (given : ℕ) (ids : List ℕ) (parts : List LiveSegment) (items : List Item) (d : Damage)
+pub doubt_evident : (T : Type 0) (D : ℕ) (files : Files) (points_given : ℕ) (ids : List ℕ) (parts : List LiveSegment) (items : List Item) (d : Damage)
     → (T → AreAlone parts)
     → (T → ∥ AreHeld D files (parts_among ids parts) items ∥₁)
-    → IsDoubt given items d → IsEvidentIn D parts T files d
-doubt_evident T D files given ids parts items d alone held h = record {
-  shows = merely (doubt_shows HasRanges given items d h);
+    → IsDoubt points_given items d → IsEvidentIn D parts T files d
+doubt_evident T D files points_given ids parts items d alone held h = record {
+  shows = merely (doubt_shows HasRanges points_given items d h);
   of_files = λ t. record {
-    shows = merely (doubt_shows (IsHeadIn files) given items d h);
-    carries = ∥∥₁_map (held t) (λ read. doubt_carried D files given ids parts items (alone t) read d h);
+    shows = merely (doubt_shows (IsHeadIn files) points_given items d h);
+    carries = ∥∥₁_map (held t) (λ read. doubt_carried D files points_given ids parts items (alone t) read d h);
   };
 }

@@ -55,8 +55,8 @@ held_with next live held points wait is = record {
     same : All (λ x. came x ≡ next) mine
     same = All-map (λ x. came x ≡ next) (entry_of next) points (λ k d lt. came_waiting next wait)
 
-pub few_numbers : (next given : ℕ) → next ≤ given → given ≤ 2 ^ 24 → next ≤ 2 ^ 24
-few_numbers next given numbered most = omega arith
+pub few_numbers : (next points_given : ℕ) → next ≤ points_given → points_given ≤ 2 ^ 24 → next ≤ 2 ^ 24
+few_numbers next points_given numbered most = omega arith
 
 pub few_entries : (n : ℕ) → n ≤ 16384 → n ≤ 2 ^ 24
 few_entries n few = omega arith

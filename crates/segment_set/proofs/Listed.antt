@@ -40,12 +40,12 @@ sets_parts parts all k p lt =
 
 pub as_committed : (s : SetData) (k : CommitData) (heads : List Head) (lives : List LiveSet) (listed : List Listed) → heads ≡ heads_of s.parts
     → lives ≡ lives_of s.parts → listed ≡ k.listed
-    → s.next ≡ k.next → s.given ≡ k.given → s.buffer ≡ []
+    → s.next ≡ k.next → s.points_given ≡ k.points_given → s.buffer ≡ []
     → (map (λ (h : Head). h.id) heads ≡ map (λ (l : Listed). l.segment) listed)
     × (map (λ (v : LiveSet). length v.live) lives ≡ map (λ (l : Listed). l.live) listed) → IsAsCommitted s k
-as_committed s k heads lives listed h v l next given empty same = record {
+as_committed s k heads lives listed h v l next points_given empty same = record {
   next = next;
-  given = given;
+  points_given = points_given;
   ids = ids_heads s.parts ∙ ap (map (λ (x : Head). x.id)) (sym h) ∙ same.0 ∙ ap (map (λ (x : Listed). x.segment)) l;
   counts = sym (counts_lives s.parts) ∙ ap (map (λ (x : LiveSet). length x.live)) (sym v) ∙ same.1 ∙ ap (map (λ (x : Listed). x.live)) l;
   empty = empty;

@@ -137,7 +137,7 @@ module _ (D : ℕ) (told : Type 0) (files new_files : Files) (s : SetData) (name
 
   pub stays_moved : (begun : Option BegunMerge) (cache : PageCache) → is_some begun ≡ is_some s.begun → StaysAlone s (moved s names parts left begun cache)
   stays_moved begun cache same =
-      record { leaf = refl; next = refl; given = refl; snapshots = refl; begun = same; live = λ number live. live_before number begun cache live }
+      record { leaf = refl; next = refl; points_given = refl; snapshots = refl; begun = same; live = λ number live. live_before number begun cache live }
 
   -- ---- the segments
 
@@ -175,7 +175,7 @@ module _ (D : ℕ) (told : Type 0) (files new_files : Files) (s : SetData) (name
         begun = stands g.after g.alike;
         agrees = agrees_other files new_files cache (λ id keeps. m.kept.files is_told (Segment id) (cached id keeps)) agrees;
       })
-      (record { leaf = refl; next = refl; given = refl; snapshots = refl })
+      (record { leaf = refl; next = refl; points_given = refl; snapshots = refl })
       (λ f.
       omega (
         arith,

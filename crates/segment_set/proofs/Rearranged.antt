@@ -112,43 +112,44 @@ entries_merged D told files new_files {s} well names ids parts cache kept agrees
 
 -- ---- what a damage says of the set before
 
-damage_named : (D given : ℕ) (a b : SetData) (now : NameList) (told : Type 0) (f g : Files) → Rearranges D told f g a b → All (IsNamed now) b.parts
-    → (d : Damage) → IsMergeDamage D given b.names now b.parts d → IsMergeDamage D given a.names now a.parts d
-damage_named D given a b now told f g moves named d (Read p there shows) = ⊎_elim
+damage_named : (D points_given : ℕ) (a b : SetData) (now : NameList) (told : Type 0) (f g : Files) → Rearranges D told f g a b → All (IsNamed now) b.parts
+    → (d : Damage) → IsMergeDamage D points_given b.names now b.parts d → IsMergeDamage D points_given a.names now a.parts d
+damage_named D points_given a b now told f g moves named d (Read p there shows) = ⊎_elim
     (λ fresh. New p.head fresh (All-contains (IsNamed now) b.parts p named there) shows)
     (λ old. Read old.0 old.1 (subst (λ h. IsReadDamage D h d) old.2 shows))
     (moves.follows.each p there)
-damage_named D given a b now told f g moves named d (New head fresh written shows) =
+damage_named D points_given a b now told f g moves named d (New head fresh written shows) =
     New head (unnamed_before a.names.names b.names.names (Segment head.id) (moves.kept.more (Segment head.id)) fresh) written shows
-damage_named D given a b now told f g moves named d (Doubt items doubt) = Doubt items doubt
+damage_named D points_given a b now told f g moves named d (Doubt items doubt) = Doubt items doubt
 
 -- names that the list has now are those of before, and what came since
 pub damage_before : (D : ℕ) (told : Type 0) (f g : Files) (a b : SetData) (now : NameList) → Rearranges D told f g a b → All (IsNamed b.names) b.parts
     → ((m : FileName) → is_named b.names.names m ≡ true → is_named now.names m ≡ true)
-    → (d : Damage) → IsMergeDamage D b.given b.names now b.parts d → IsMergeDamage D a.given a.names now a.parts d
+    → (d : Damage) → IsMergeDamage D b.points_given b.names now b.parts d → IsMergeDamage D a.points_given a.names now a.parts d
 damage_before D told f g a b now moves named more d shows =
-    damage_named D a.given a b now told f g moves
+    damage_named D a.points_given a b now told f g moves
     (All-weaker (IsNamed b.names) (IsNamed now) (λ (p : LiveSegment) there. more (Segment p.head.id) there) b.parts named)
-    d (subst (λ n. IsMergeDamage D n b.names now b.parts d) moves.stays.given shows)
+    d (subst (λ n. IsMergeDamage D n b.names now b.parts d) moves.stays.points_given shows)
 
 -- what is doubted of some entries is doubted of more
-pub doubt_more : (given : ℕ) (xs ys : List Item) → length ys ≤ length xs → ((f : Item → ℕ) → sum_by f ys ≤ sum_by f xs) → (d : Damage) → IsDoubt given ys d
-    → IsDoubt given xs d
-doubt_more given xs ys long fewer (Unequal file said found) h = (h.0, h.1, h.2, omega (arith, long, h.3))
-doubt_more given xs ys long fewer (Doubled doc) h = ⊎_elim
+pub doubt_more : (points_given : ℕ) (xs ys : List Item) → length ys ≤ length xs → ((f : Item → ℕ) → sum_by f ys ≤ sum_by f xs)
+    → (d : Damage) → IsDoubt points_given ys d
+    → IsDoubt points_given xs d
+doubt_more points_given xs ys long fewer (Unequal file said found) h = (h.0, h.1, h.2, omega (arith, long, h.3))
+doubt_more points_given xs ys long fewer (Doubled doc) h = ⊎_elim
     (λ many. inl (omega (arith, many, fewer (λ x. cond (eqb x.doc doc) 1 0))))
     (λ twice. inr (twice.0, twice.1, omega (arith, twice.2, fewer (λ x. cond (same_item twice.0 x) 1 0))))
     h
-doubt_more given xs ys long fewer (Page file number bytes) h = h
-doubt_more given xs ys long fewer (Leaf file number offset len bytes) h = h
-doubt_more given xs ys long fewer (Body file bytes) h = h
-doubt_more given xs ys long fewer (Missing file) h = h
-doubt_more given xs ys long fewer (Size file size needed) h = h
-doubt_more given xs ys long fewer (Beyond doc next) h = h
+doubt_more points_given xs ys long fewer (Page file number bytes) h = h
+doubt_more points_given xs ys long fewer (Leaf file number offset len bytes) h = h
+doubt_more points_given xs ys long fewer (Body file bytes) h = h
+doubt_more points_given xs ys long fewer (Missing file) h = h
+doubt_more points_given xs ys long fewer (Size file size needed) h = h
+doubt_more points_given xs ys long fewer (Beyond doc next) h = h
 
 -- and of segments with the same live entries
-pub doubt_same : (given : ℕ) (xs ys : List Item) → SameTotals xs ys → (d : Damage) → IsDoubt given ys d → IsDoubt given xs d
-doubt_same given xs ys same d h = doubt_more given xs ys (omega (arith, totals_length xs ys same)) (λ f. omega (arith, same f)) d h
+pub doubt_same : (points_given : ℕ) (xs ys : List Item) → SameTotals xs ys → (d : Damage) → IsDoubt points_given ys d → IsDoubt points_given xs d
+doubt_same points_given xs ys same d h = doubt_more points_given xs ys (omega (arith, totals_length xs ys same)) (λ f. omega (arith, same f)) d h
 
 -- ---- what waits in the buffer
 

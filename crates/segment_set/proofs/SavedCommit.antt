@@ -44,7 +44,7 @@ saved_lines told last before after files n listed parts same =
     (λ l p there saved. (saved.line.segment, subst (λ m. IsListed m l) (sym same) saved.may))
 
 pub is_commit : (D : ℕ) (s : SetData) (n : ℕ) (listed : List Listed) → IsWell D s → IsStrictlyIncreasing (ids_of s.parts) → AllZip (IsLine n) listed s.parts
-    → IsCommit (record { dims = D; leaf = s.leaf; next = s.next; given = s.given; next_segment = n; listed = listed })
+    → IsCommit (record { dims = D; leaf = s.leaf; next = s.next; points_given = s.points_given; next_segment = n; listed = listed })
 is_commit D s n listed well ascend all = record {
   ranges = record {
     some_dims = well.some_dims;
@@ -91,17 +91,18 @@ listed_named told last before files names c parts named all CommitNew none = abs
 pub commit_of_set : (D : ℕ) (told : Type 0) (last : List Listed) (before : NameList) (files : Files) (s : SetData) (n : ℕ) (listed : List Listed)
     → n ≡ s.names.next_segment
     → IsWell D s → AllZip (IsSaved told last before s.names files) listed s.parts
-    → IsCommitOf D s (record { dims = D; leaf = s.leaf; next = s.next; given = s.given; next_segment = n; listed = listed })
+    → IsCommitOf D s (record { dims = D; leaf = s.leaf; next = s.next; points_given = s.points_given; next_segment = n; listed = listed })
 commit_of_set D told last before files s n listed same well all = record {
   dims = refl;
   leaf = refl;
   next = refl;
-  given = refl;
+  points_given = refl;
   next_segment = same;
   lists = zip_moved (IsSaved told last before s.names files)
       (λ (l : Listed) (p : LiveSegment). (l.segment ≡ p.head.id) × (l.entries ≡ p.head.entries) × (l.live ≡ length p.live.live)) listed s.parts
       (λ l p there saved. (saved.line.segment, saved.line.entries, saved.line.live)) all;
-  named = listed_named told last before files s.names (record { dims = D; leaf = s.leaf; next = s.next; given = s.given; next_segment = n; listed = listed })
+  named = listed_named told last before files s.names
+      (record { dims = D; leaf = s.leaf; next = s.next; points_given = s.points_given; next_segment = n; listed = listed })
       s.parts
       well.named all;
 }
@@ -170,15 +171,15 @@ saved_is_stored D now s c i well empty commit all seen files says same =
     docs =
         subst (λ n. AreDocs n (all_live_entries parts) i.docs) (sym commit.next) (subst (λ (xs : List Item). AreDocs s.next xs i.docs) (sym entries) seen.docs)
 
-    few : length (all_live_entries parts) ≤ c.given
-    few = let long = ap length entries in let most = seen.few in let given = commit.given in omega arith
+    few : length (all_live_entries parts) ≤ c.points_given
+    few = let long = ap length entries in let most = seen.few in let points_given = commit.points_given in omega arith
 
     is : index_of c i.docs ≡ at_rest i
     is = λ j. record {
       dims = (commit.dims ∙ sym seen.dims) j;
       leaf = (commit.leaf ∙ sym seen.leaf) j;
       next = (commit.next ∙ sym seen.next) j;
-      given = (commit.given ∙ sym seen.given) j;
+      points_given = (commit.points_given ∙ sym seen.points_given) j;
       docs = i.docs;
       snapshots = [];
       begun = false;

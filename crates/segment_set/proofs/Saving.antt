@@ -99,7 +99,7 @@ well_saved D told before after s t well keeps alone = subst (IsWell D) (sym is) 
     is = λ i. record {
       leaf = alone.leaf i;
       next = alone.next i;
-      given = alone.given i;
+      points_given = alone.points_given i;
       names = t.names;
       parts = alone.parts i;
       buffer = alone.buffer i;
@@ -113,7 +113,7 @@ pub but_saved : (s v : SetData) → v ≡ s → (names : NameList) (saved : Opti
 but_saved s v same names saved = record {
   leaf = ap (λ (u : SetData). u.leaf) same;
   next = ap (λ (u : SetData). u.next) same;
-  given = ap (λ (u : SetData). u.given) same;
+  points_given = ap (λ (u : SetData). u.points_given) same;
   parts = ap (λ (u : SetData). u.parts) same;
   buffer = ap (λ (u : SetData). u.buffer) same;
   snapshots = ap (λ (u : SetData). u.snapshots) same;
@@ -126,7 +126,8 @@ pub sees_saved : (D : ℕ) (told : Type 0) (before after : Files) (s t : SetData
     → StaysButSaved s t → Sees D before s i → Sees D after t i
 sees_saved D told before after s t i to well keeps alone seen =
     let there = sees_alike D before after s i well told to t.names keeps seen in
-    sees_like D after s t i (record { leaf = alone.leaf; next = alone.next; given = alone.given; snapshots = alone.snapshots }) alone.parts alone.buffer
+    sees_like D after s t i (record { leaf = alone.leaf; next = alone.next; points_given = alone.points_given; snapshots = alone.snapshots })
+    alone.parts alone.buffer
     alone.begun
     (subst (Agrees after) (sym alone.cache) there.stands.agrees) there
 
@@ -134,7 +135,7 @@ pub stays_saved : (s t : SetData) → StaysButSaved s t → StaysAlone s t
 stays_saved s t alone = record {
   leaf = alone.leaf;
   next = alone.next;
-  given = alone.given;
+  points_given = alone.points_given;
   snapshots = alone.snapshots;
   begun = ap is_some alone.begun;
   live = λ number live.

@@ -19,9 +19,9 @@ module _ (D : ℕ) (told : Type 0) (files new_files : Files) (s t : SetData) whe
       → ShowsMergeDamage D told files new_files s t Om
   shows_on On Om h carry = record {
     whole = λ is i seen. carry (λ _. ⊥) (h.whole is i seen);
-    shown = carry (IsMergeDamage D s.given s.names t.names s.parts) h.shown;
-    damage = λ is agrees. carry (IsMergeDamageOf new_files s.given) (h.damage is agrees);
-    doubled = λ is agrees c reads. carry (IsDoubt s.given (live_in_parts c s.parts)) (h.doubled is agrees c reads);
+    shown = carry (IsMergeDamage D s.points_given s.names t.names s.parts) h.shown;
+    damage = λ is agrees. carry (IsMergeDamageOf new_files s.points_given) (h.damage is agrees);
+    doubled = λ is agrees c reads. carry (IsDoubt s.points_given (live_in_parts c s.parts)) (h.doubled is agrees c reads);
     evident = carry (IsEvidentIn D s.parts (told × IsFaithful D files s) new_files) h.evident;
   }
 
@@ -29,9 +29,9 @@ module _ (D : ℕ) (told : Type 0) (files new_files : Files) (s t : SetData) whe
   pub shows_none : (On : (Damage → Type 0) → Type 0) → ((P : Damage → Type 0) → On P) → ShowsMergeDamage D told files new_files s t On
   shows_none On none = record {
     whole = λ is i seen. none (λ _. ⊥);
-    shown = none (IsMergeDamage D s.given s.names t.names s.parts);
-    damage = λ is agrees. none (IsMergeDamageOf new_files s.given);
-    doubled = λ is agrees c reads. none (IsDoubt s.given (live_in_parts c s.parts));
+    shown = none (IsMergeDamage D s.points_given s.names t.names s.parts);
+    damage = λ is agrees. none (IsMergeDamageOf new_files s.points_given);
+    doubled = λ is agrees c reads. none (IsDoubt s.points_given (live_in_parts c s.parts));
     evident = none (IsEvidentIn D s.parts (told × IsFaithful D files s) new_files);
   }
 
@@ -45,7 +45,7 @@ alone_of D told files new_files s t m = record { saved = m.saved; begun = m.begu
 
 -- Full isn't answered, and the points are few enough
 pub never_refuses : (told : Type 0) (files new_files : Files) (s t : SetData) (reads new_reads points : ℕ) (r : Result ℕ AddFault)
-    → (IsErrOf r add.Full → ⊥) → (2 ^ 24 < s.given + points → ⊥) → RefusesFull told files new_files s t reads new_reads points r
+    → (IsErrOf r add.Full → ⊥) → (2 ^ 24 < s.points_given + points → ⊥) → RefusesFull told files new_files s t reads new_reads points r
 never_refuses told files new_files s t reads new_reads points r not_full few = record {
   full = (λ is. absurd (not_full is), λ more. absurd (few more));
   kept_full = λ is. absurd (not_full is);

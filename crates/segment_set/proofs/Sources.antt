@@ -50,7 +50,7 @@ merge_docs D files s i h ids =
 
 -- and no more than the points given
 pub merge_few : (D : ℕ) (files : Files) (s : SetData) (i : Index) (h : Sees D files s i) (ids : List ℕ)
-    → length (live_in_parts h.contents (parts_among ids s.parts)) ≤ s.given
+    → length (live_in_parts h.contents (parts_among ids s.parts)) ≤ s.points_given
 merge_few D files s i h ids =
     let some = live_in_parts h.contents (parts_among ids s.parts) in
     let rest = live_in_parts h.contents (parts_but ids s.parts) ++ s.buffer in
@@ -129,7 +129,7 @@ begun_seen D files s i h b cache merges agrees = record {
   dims = h.dims;
   leaf = h.leaf;
   next = h.next;
-  given = h.given;
+  points_given = h.points_given;
   begun = refl;
   docs = h.docs;
   few = h.few;

@@ -171,7 +171,7 @@ sees_alike D old new s i well told t more keeps seen = record {
   dims = seen.dims;
   leaf = seen.leaf;
   next = seen.next;
-  given = seen.given;
+  points_given = seen.points_given;
   begun = seen.begun;
   docs = seen.docs;
   few = seen.few;
@@ -182,11 +182,11 @@ sees_alike D old new s i well told t more keeps seen = record {
 pub record IsLike (s t : SetData) : Type 0 where
   pub leaf : t.leaf ≡ s.leaf
   pub next : t.next ≡ s.next
-  pub given : t.given ≡ s.given
+  pub points_given : t.points_given ≡ s.points_given
   pub snapshots : t.snapshots ≡ s.snapshots
 
 pub like_itself : (s : SetData) → IsLike s s
-like_itself s = record { leaf = refl; next = refl; given = refl; snapshots = refl }
+like_itself s = record { leaf = refl; next = refl; points_given = refl; snapshots = refl }
 
 -- another set over other files, with the same entries in whatever order
 pub sees_moved : (D : ℕ) (old new : Files) (s t : SetData) (i : Index) (d : Contents) (seen : Sees D old s i) → IsWell D s
@@ -199,14 +199,14 @@ sees_moved D old new s t i d seen well same stands like totals = record {
   dims = seen.dims;
   leaf = seen.leaf ∙ sym like.leaf;
   next = seen.next ∙ sym like.next;
-  given = seen.given ∙ sym like.given;
+  points_given = seen.points_given ∙ sym like.points_given;
   begun = refl;
   docs = subst (λ n. AreDocs n (entries_seen d t.parts t.buffer) i.docs) (sym like.next)
       (reordered s.next (entries_seen seen.contents s.parts s.buffer) (entries_seen d t.parts t.buffer) i.docs seen.docs
       (permuted (entries_seen seen.contents s.parts s.buffer) (entries_seen d t.parts t.buffer) totals));
   few = let long = totals_length (entries_seen seen.contents s.parts s.buffer) (entries_seen d t.parts t.buffer) totals in
       let few = seen.few in
-      let given = like.given in
+      let points_given = like.points_given in
       omega arith;
   snapshots = subst (λ n. AllZip (ShowsSnapshot d n) t.snapshots i.snapshots) (sym like.next)
       (subst (λ (vs : List NamedView). AllZip (ShowsSnapshot d s.next) vs i.snapshots) (sym like.snapshots)
@@ -225,11 +225,11 @@ sees_like D files s t i like parts buffer begun agrees seen = record {
   dims = seen.dims;
   leaf = seen.leaf ∙ sym like.leaf;
   next = seen.next ∙ sym like.next;
-  given = seen.given ∙ sym like.given;
+  points_given = seen.points_given ∙ sym like.points_given;
   begun = seen.begun ∙ sym (ap is_some begun);
   docs = subst (λ n. AreDocs n (entries_seen seen.contents t.parts t.buffer) i.docs) (sym like.next)
       (subst (λ (xs : List Item). AreDocs s.next xs i.docs) (sym entries) seen.docs);
-  few = let few = seen.few in let long = ap length entries in let given = like.given in omega arith;
+  few = let few = seen.few in let long = ap length entries in let points_given = like.points_given in omega arith;
   snapshots = subst (λ n. AllZip (ShowsSnapshot seen.contents n) t.snapshots i.snapshots) (sym like.next)
       (subst (λ (vs : List NamedView). AllZip (ShowsSnapshot seen.contents s.next) vs i.snapshots) (sym like.snapshots) seen.snapshots);
 }

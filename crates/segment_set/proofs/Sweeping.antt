@@ -155,7 +155,7 @@ module _ (D : ℕ) (s : SetData) (k : CommitData) (name : FileName) (cache : Pag
   sees_swept before after t i same agrees like parts buffer begun is seen =
       let mid : SetData = record s { names = names_but name s.names; cache = cache } in
       let first : Sees D before mid i =
-      sees_like D before s mid i (record { leaf = refl; next = refl; given = refl; snapshots = refl }) refl refl refl agrees seen in
+      sees_like D before s mid i (record { leaf = refl; next = refl; points_given = refl; snapshots = refl }) refl refl refl agrees seen in
       let second : Sees D after mid i = record {
         contents = first.contents;
         stands = stands_alike D before after first.contents first.contents mid well_swept
@@ -163,13 +163,13 @@ module _ (D : ℕ) (s : SetData) (k : CommitData) (name : FileName) (cache : Pag
         dims = first.dims;
         leaf = first.leaf;
         next = first.next;
-        given = first.given;
+        points_given = first.points_given;
         begun = first.begun;
         docs = first.docs;
         few = first.few;
         snapshots = first.snapshots;
       } in
-      sees_like D after mid t i (record { leaf = like.leaf; next = like.next; given = like.given; snapshots = like.snapshots }) parts buffer begun
+      sees_like D after mid t i (record { leaf = like.leaf; next = like.next; points_given = like.points_given; snapshots = like.snapshots }) parts buffer begun
       (subst (Agrees after) (sym is) second.stands.agrees) second
     where
       not_it : (m : FileName) → is_named (names_but name s.names).names m ≡ true → m ≢ name

@@ -16,20 +16,21 @@ use Rattle.file_names.specs.Names.{NameList, is_named}
 
 -- entries from which a segment was to be built are more than the points given, or a number has more than 16 of them or
 -- one twice
-abbrev pub IsDoubt : (given : ℕ) → List Item → Damage → Type 0
-IsDoubt given items (Unequal file said found) = (file ≡ Commit) × (said ≡ given) × (given < found)
+abbrev pub IsDoubt : (points_given : ℕ) → List Item → Damage → Type 0
+IsDoubt points_given items (Unequal file said found) = (file ≡ Commit) × (said ≡ points_given) × (points_given < found)
     × (found ≤ length items)
-IsDoubt given items (Doubled doc) = IsCrowded doc items
-IsDoubt given items _ = ⊥
+IsDoubt points_given items (Doubled doc) = IsCrowded doc items
+IsDoubt points_given items _ = ⊥
 
 -- Merging these segments, or such as the call wrote itself under names that the list didn't have and has now, shows a
 -- leaf to be damaged, or live entries to be none of documents.
-pub data IsMergeDamage (D given : ℕ) (names now : NameList) (parts : List LiveSegment) (d : Damage) : Type 0 where
-  Read : (p : LiveSegment) → Contains parts p → IsReadDamage D p.head d → IsMergeDamage D given names now parts d
+pub data IsMergeDamage (D points_given : ℕ) (names now : NameList) (parts : List LiveSegment)
+    (d : Damage) : Type 0 where
+  Read : (p : LiveSegment) → Contains parts p → IsReadDamage D p.head d → IsMergeDamage D points_given names now parts d
   New : (head : Head) → is_named names.names (Segment head.id) ≡ false → is_named now.names (Segment head.id) ≡ true
-      → IsReadDamage D head d → IsMergeDamage D given names now parts d
-  Doubt : (items : List Item) → IsDoubt given items d → IsMergeDamage D given names now parts d
+      → IsReadDamage D head d → IsMergeDamage D points_given names now parts d
+  Doubt : (items : List Item) → IsDoubt points_given items d → IsMergeDamage D points_given names now parts d
 
 -- and it is true of the files
 abbrev pub IsMergeDamageOf : Files → ℕ → Damage → Type 0
-IsMergeDamageOf files given d = IsLeafDamageOf files d ⊎ ((items : List Item) × IsDoubt given items d)
+IsMergeDamageOf files points_given d = IsLeafDamageOf files d ⊎ ((items : List Item) × IsDoubt points_given items d)

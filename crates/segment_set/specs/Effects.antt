@@ -47,10 +47,10 @@ pub record Rewrites (D : ℕ) (told : Type 0) (files new_files : Files) (s t : S
 pub record ShowsMergeDamage (D : ℕ) (told : Type 0) (files new_files : Files) (s t : SetData)
     (On : (Damage → Type 0) → Type 0) : Type 0 where
   pub whole : told → (i : Index) → Sees D files s i → On (λ _. ⊥)
-  pub shown : On (IsMergeDamage D s.given s.names t.names s.parts)
-  pub damage : told → Agrees files s.cache → On (IsMergeDamageOf new_files s.given)
+  pub shown : On (IsMergeDamage D s.points_given s.names t.names s.parts)
+  pub damage : told → Agrees files s.cache → On (IsMergeDamageOf new_files s.points_given)
   pub doubled : told → Agrees files s.cache → (c : Contents) → AreRead D files c s.parts
-      → On (IsDoubt s.given (live_in_parts c s.parts))
+      → On (IsDoubt s.points_given (live_in_parts c s.parts))
   pub evident : On (IsEvidentIn D s.parts (told × IsFaithful D files s) new_files)
 
 -- The damage comes of a query of these segments: where the set is seen as an index there is none; a leaf of one of them
@@ -107,14 +107,14 @@ pub record DeletesAlone (s t : SetData) : Type 0 where
 -- Full is answered exactly where too many points would be given, and leaves everything
 pub record RefusesFull (told : Type 0) (files new_files : Files) (s t : SetData) (reads new_reads points : ℕ)
     (result : Result ℕ AddFault) : Type 0 where
-  pub full : IsErrOf result add.Full ↔ (2 ^ 24 < s.given + points)
+  pub full : IsErrOf result add.Full ↔ (2 ^ 24 < s.points_given + points)
   pub kept_full : IsErrOf result add.Full → (t ≡ s) × (new_reads ≡ reads)
   pub files_full : told → IsErrOf result add.Full → new_files ≡ files
 
 -- the next number is answered, and its points are counted
 pub record GivesNumber (s t : SetData) (points : ℕ) (result : Result ℕ AddFault) : Type 0 where
   pub number : IfOk result (λ n. n ≡ s.next)
-  pub given : OnOk result ((t.next ≡ s.next + 1) × (t.given ≡ s.given + points))
+  pub points_given : OnOk result ((t.next ≡ s.next + 1) × (t.points_given ≡ s.points_given + points))
 
 -- where the buffer has room nothing is read or written
 pub record AddsInRoom (told : Type 0) (files new_files : Files) (s t : SetData) (reads new_reads points : ℕ)

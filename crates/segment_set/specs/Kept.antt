@@ -31,7 +31,7 @@ pub record KeepsNamed (told : Type 0) (old new : NameList) (before after : Files
 pub record StaysAlone (old new : SetData) : Type 0 where
   pub leaf : new.leaf ≡ old.leaf
   pub next : new.next ≡ old.next
-  pub given : new.given ≡ old.given
+  pub points_given : new.points_given ≡ old.points_given
   pub snapshots : new.snapshots ≡ old.snapshots
   pub begun : is_some new.begun ≡ is_some old.begun
   pub live : (number : ℕ) → is_live_in new number ≡ true → is_live_in old number ≡ true
@@ -73,7 +73,7 @@ AreCanonical D files names parts = (p : LiveSegment) → Contains parts p
 -- buffer
 pub record IsAsCommitted (s : SetData) (c : CommitData) : Type 0 where
   pub next : s.next ≡ c.next
-  pub given : s.given ≡ c.given
+  pub points_given : s.points_given ≡ c.points_given
   pub ids : ids_of s.parts ≡ map (λ l. l.segment) c.listed
   pub counts : map (λ p. length p.live.live) s.parts ≡ map (λ l. l.live) c.listed
   pub empty : s.buffer ≡ []
@@ -84,7 +84,7 @@ pub record IsCommitOf (D : ℕ) (s : SetData) (c : CommitData) : Type 0 where
   pub dims : c.dims ≡ D
   pub leaf : c.leaf ≡ s.leaf
   pub next : c.next ≡ s.next
-  pub given : c.given ≡ s.given
+  pub points_given : c.points_given ≡ s.points_given
   pub next_segment : c.next_segment ≡ s.names.next_segment
   pub lists : AllZip
       (λ l p. (l.segment ≡ p.head.id) × (l.entries ≡ p.head.entries) × (l.live ≡ length p.live.live)) c.listed s.parts

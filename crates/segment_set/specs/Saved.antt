@@ -81,7 +81,7 @@ pub record IsSaved (told : Type 0) (last : List Listed) (before after : NameList
 pub record StaysButSaved (old new : SetData) : Type 0 where
   pub leaf : new.leaf ≡ old.leaf
   pub next : new.next ≡ old.next
-  pub given : new.given ≡ old.given
+  pub points_given : new.points_given ≡ old.points_given
   pub parts : new.parts ≡ old.parts
   pub buffer : new.buffer ≡ old.buffer
   pub snapshots : new.snapshots ≡ old.snapshots

@@ -52,8 +52,8 @@ pub record Sees (D : ℕ) (files : Files) (s : SetData) (i : Index) : Type 0 whe
   pub dims : i.dims ≡ D
   pub leaf : i.leaf ≡ s.leaf
   pub next : i.next ≡ s.next
-  pub given : i.given ≡ s.given
+  pub points_given : i.points_given ≡ s.points_given
   pub begun : i.begun ≡ is_some s.begun
   pub docs : AreDocs s.next (entries_seen contents s.parts s.buffer) i.docs
-  pub few : length (entries_seen contents s.parts s.buffer) ≤ s.given
+  pub few : length (entries_seen contents s.parts s.buffer) ≤ s.points_given
   pub snapshots : AllZip (ShowsSnapshot contents s.next) s.snapshots i.snapshots

@@ -38,7 +38,7 @@ pub record BegunMerge : Type 0 where
 pub record SetData : Type 0 where
   pub leaf : ℕ
   pub next : ℕ
-  pub given : ℕ
+  pub points_given : ℕ
   pub names : NameList
   pub parts : List LiveSegment
   pub buffer : List Item
@@ -97,7 +97,7 @@ abbrev pub set_with : List (List ℤ) → SetData → SetData
 set_with points s =
     record s {
       next = s.next + 1;
-      given = s.given + length points;
+      points_given = s.points_given + length points;
       buffer = s.buffer ++ entries_of
           (record { number = s.next; points = points });
     }
@@ -178,8 +178,8 @@ pub record IsWell (D : ℕ) (s : SetData) : Type 0 where
   pub few_dims : D ≤ 8
   pub least_leaf : 2 ≤ s.leaf
   pub greatest_leaf : s.leaf ≤ leaf_limit D
-  pub numbered : s.next ≤ s.given
-  pub most_given : s.given ≤ 2 ^ 24
+  pub numbered : s.next ≤ s.points_given
+  pub most_given : s.points_given ≤ 2 ^ 24
   pub spread : IsSpread s.next s.parts s.buffer
   pub room : length s.buffer ≤ 16384
   pub ordered : IsNonDecreasingBy (λ x. x.doc) s.buffer

@@ -67,7 +67,7 @@ impl<const D: usize> SegmentSet<D> {
         Ok(SegmentSet {
             leaf: c.leaf(),
             forks: settings.forks,
-            given: c.given(),
+            points_given: c.points_given(),
             names,
             segments,
             buffer: Buffer::new(alloc, c.next()),
@@ -88,7 +88,7 @@ impl<const D: usize> SegmentSet<D> {
     {
         self.leaf = set.leaf;
         self.forks = set.forks;
-        self.given = set.given;
+        self.points_given = set.points_given;
         self.segments = set.segments;
         self.buffer = set.buffer;
         self.snapshots = set.snapshots;

@@ -9,10 +9,10 @@ ghost use Rattle.leaf_codec.specs.Leaves.{leaf_limit};
 pub(crate) struct BuildPlan<const D: usize> {
     pub(crate) leaf: u16,
     pub(crate) forks: u8,
-    pub(crate) given: u32,
+    pub(crate) points_given: u32,
     ghost some_dims: { 1 ≤ D },
     ghost few_dims: { D ≤ 8 },
     ghost least_leaf: { 2 ≤ leaf },
     ghost greatest_leaf: { leaf ≤ leaf_limit D },
-    ghost most_given: { given ≤ 2 ^ 24 },
+    ghost most_given: { points_given ≤ 2 ^ 24 },
 }

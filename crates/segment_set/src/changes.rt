@@ -46,7 +46,7 @@ impl<const D: usize> SegmentSet<D> {
             → OnOk result (Sees D (F.files folder.new) self.new
             (record i {
               next = i.next + 1;
-              given = i.given + length points.now;
+              points_given = i.points_given + length points.now;
               docs = i.docs ++ record
                   { number = i.next; points = points.now } ∷ [];
             })) }
@@ -86,7 +86,7 @@ impl<const D: usize> SegmentSet<D> {
     /// changes.
     fn push(&mut self, points: &Points<D>) -> Result<u32, AllocError>
         requires room { length self.old.buffer + length points.now ≤ 16384 }
-        requires given { self.old.given + length points.now ≤ 2 ^ 24 }
+        requires points_given { self.old.points_given + length points.now ≤ 2 ^ 24 }
         ensures put { OnOk result (self.new ≡ set_with points.now self.old) }
         ensures number { IfOk result (λ n. n ≡ self.old.next) }
         ensures refused { OnErr result (self.new ≡ self.old) }
@@ -94,7 +94,7 @@ impl<const D: usize> SegmentSet<D> {
     {
         let count = points.as_slice().len() as u32;
         let number = self.buffer.put(points)?;
-        self.given += count;
+        self.points_given += count;
         Ok(number)
     }
 
@@ -136,10 +136,10 @@ impl<const D: usize> SegmentSet<D> {
     /// Whether so many points more would be too many.
     fn is_full(&self, count: u32) -> bool
         requires { count ≤ 16 }
-        ensures full { IsTrue result ↔ (2 ^ 24 < self.now.given + count) }
+        ensures full { IsTrue result ↔ (2 ^ 24 < self.now.points_given + count) }
         ensures named { All (IsNamed self.now.names) self.now.parts }
     {
-        self.given + count > MOST_POINTS
+        self.points_given + count > MOST_POINTS
     }
 
     /// Whether the buffer has room for so many entries more.

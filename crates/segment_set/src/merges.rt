@@ -170,12 +170,12 @@ impl<const D: usize> SegmentSet<D> {
     /// The plan by which this set's segments are built: its leaf size, levels that fork, and points given.
     pub(crate) fn plan(&self) -> BuildPlan<D>
         ensures leaf { result.leaf ≡ self.now.leaf }
-        ensures given { result.given ≡ self.now.given }
+        ensures points_given { result.points_given ≡ self.now.points_given }
     {
         BuildPlan {
             leaf: self.leaf,
             forks: self.forks,
-            given: self.given,
+            points_given: self.points_given,
         }
     }
 

@@ -43,21 +43,22 @@ use std::thread::Threads;
 fn check_entries<const D: usize>(
     alloc: Global,
     entries: &[Entry<D>],
-    given: u32,
+    points_given: u32,
 ) -> Result<(), PageFault>
-    ensures few { OnOk result (length entries.now ≤ given) }
+    ensures few { OnOk result (length entries.now ≤ points_given) }
     ensures once { OnOk result (NoneTwice (items_of entries.now)) }
     ensures uncrowded { OnOk result (AreUncrowded (items_of entries.now)) }
     ensures unfailed { IsErrOf result fault.Failed → ⊥ }
-    ensures shown { OnDamage result (IsDoubt given (items_of entries.now)) }
-    ensures whole { (next : ℕ) → MakeDocs next (items_of entries.now) → length entries.now ≤ given → NotDamaged result }
+    ensures shown { OnDamage result (IsDoubt points_given (items_of entries.now)) }
+    ensures whole { (next : ℕ) → MakeDocs next (items_of entries.now) → length entries.now ≤ points_given
+        → NotDamaged result }
 {
     fits_docs();
     let found = entries.len() as u64;
-    if found > u64::from(given) {
+    if found > u64::from(points_given) {
         return Err(PageFault::Damaged(Damage::Unequal {
             file: FileName::Commit,
-            said: u64::from(given),
+            said: u64::from(points_given),
             found,
         }));
     }
@@ -85,11 +86,11 @@ fn build_of<const D: usize, R: Threads + Sync, G: Gate>(
     ensures leaf { IfOk result (λ n. n.leaf ≡ plan.now.leaf) }
     ensures uncrowded { OnOk result (AreUncrowded (items_of entries.old)) }
     ensures unfailed { IsErrOf result fault.Failed → ⊥ }
-    ensures shown { OnDamage result (IsDoubt plan.now.given (items_of entries.old)) }
-    ensures whole { (next : ℕ) → MakeDocs next (items_of entries.old) → length entries.old ≤ plan.now.given
+    ensures shown { OnDamage result (IsDoubt plan.now.points_given (items_of entries.old)) }
+    ensures whole { (next : ℕ) → MakeDocs next (items_of entries.old) → length entries.old ≤ plan.now.points_given
         → NotDamaged result }
 {
-    check_entries(alloc, entries, plan.given)?;
+    check_entries(alloc, entries, plan.points_given)?;
     Ok(build_segment(rt, alloc, entries, plan.leaf, plan.forks, gate)?)
 }
 
@@ -114,13 +115,13 @@ pub(crate) fn gathered<const D: usize, R: Threads + Sync, F: Pages, G: Gate>(
     ensures cause { HasPageCause (F.faults folder.old) (F.faults folder.new) result }
     ensures whole { IsTrue F.told → (c : Contents) → AreRead D (F.files folder.old) c segments.now
         → (next : ℕ) → MakeDocs next (live_in_parts c (parts_among ids.now segments.now))
-        → length (live_in_parts c (parts_among ids.now segments.now)) ≤ plan.now.given
+        → length (live_in_parts c (parts_among ids.now segments.now)) ≤ plan.now.points_given
         → NotDamaged result }
     ensures shown { (names now : NameList)
-        → OnDamage result (IsMergeDamage D plan.now.given names now segments.now) }
-    ensures damage { IsTrue F.told → OnDamage result (IsMergeDamageOf (F.files folder.new) plan.now.given) }
+        → OnDamage result (IsMergeDamage D plan.now.points_given names now segments.now) }
+    ensures damage { IsTrue F.told → OnDamage result (IsMergeDamageOf (F.files folder.new) plan.now.points_given) }
     ensures doubled { IsTrue F.told → (c : Contents) → AreRead D (F.files folder.old) c segments.now
-        → OnDamage result (IsDoubt plan.now.given (live_in_parts c segments.now)) }
+        → OnDamage result (IsDoubt plan.now.points_given (live_in_parts c segments.now)) }
     ensures evident { OnDamage result
         (IsEvidentIn D segments.now
         (IsTrue F.told × All (HasFileHead D (F.files folder.old)) segments.now × AreAlone segments.now)
@@ -216,12 +217,12 @@ pub(crate) fn merge<const D: usize, R: Threads + Sync, F: Folder, G: Gate>(
     ensures cause { HasPageCause (F.faults folder.old) (F.faults folder.new) result }
     ensures whole { IsTrue F.told → (c : Contents) → AreRead D (F.files folder.old) c segments.old
         → (next : ℕ) → MakeDocs next (live_in_parts c (parts_among ids.now segments.old))
-        → length (live_in_parts c (parts_among ids.now segments.old)) ≤ plan.now.given
+        → length (live_in_parts c (parts_among ids.now segments.old)) ≤ plan.now.points_given
         → NotDamaged result }
-    ensures shown { OnDamage result (IsMergeDamage D plan.now.given names.old names.new segments.old) }
-    ensures damage { IsTrue F.told → OnDamage result (IsMergeDamageOf (F.files folder.new) plan.now.given) }
+    ensures shown { OnDamage result (IsMergeDamage D plan.now.points_given names.old names.new segments.old) }
+    ensures damage { IsTrue F.told → OnDamage result (IsMergeDamageOf (F.files folder.new) plan.now.points_given) }
     ensures doubled { IsTrue F.told → (c : Contents) → AreRead D (F.files folder.old) c segments.old
-        → OnDamage result (IsDoubt plan.now.given (live_in_parts c segments.old)) }
+        → OnDamage result (IsDoubt plan.now.points_given (live_in_parts c segments.old)) }
     ensures evident { OnDamage result
         (IsEvidentIn D segments.old
         (IsTrue F.told × All (HasFileHead D (F.files folder.old)) segments.old × AreAlone segments.old)

@@ -107,9 +107,23 @@ impl<const D: usize> SegmentSet<D> {
         let again = Vec::from_slice(alloc, listed.as_slice())?;
         let next_segment = self.names.next_segment();
         let next = self.buffer.next();
-        let kept = Commit::new(D as u8, self.leaf, next, self.given, next_segment, again);
+        let kept = Commit::new(
+            D as u8,
+            self.leaf,
+            next,
+            self.points_given,
+            next_segment,
+            again,
+        );
         self.saved = Some(kept);
-        Ok(Commit::new(D as u8, self.leaf, next, self.given, next_segment, listed))
+        Ok(Commit::new(
+            D as u8,
+            self.leaf,
+            next,
+            self.points_given,
+            next_segment,
+            listed,
+        ))
     }
 }
 

@@ -40,7 +40,7 @@ impl<const D: usize> Model for Begun<D> {
 pub struct SegmentSet<const D: usize> {
     pub(crate) leaf: u16,
     pub(crate) forks: u8,
-    pub(crate) given: u32,
+    pub(crate) points_given: u32,
     pub(crate) names: FileNames,
     pub(crate) segments: Segments<D>,
     // the entries that wait, and the number of the next document
@@ -59,7 +59,7 @@ impl<const D: usize> Model for SegmentSet<D> {
     ghost view = { λ s. record {
       leaf = s.leaf;
       next = s.buffer.next;
-      given = s.given;
+      points_given = s.points_given;
       names = s.names;
       parts = s.segments;
       buffer = s.buffer.items;
@@ -72,7 +72,7 @@ impl<const D: usize> Model for SegmentSet<D> {
     ghost invariant = { λ s. IsWell D (record {
       leaf = s.leaf;
       next = s.buffer.next;
-      given = s.given;
+      points_given = s.points_given;
       names = s.names;
       parts = s.segments;
       buffer = s.buffer.items;
@@ -104,7 +104,7 @@ impl<const D: usize> SegmentSet<D> {
         Ok(SegmentSet {
             leaf,
             forks: settings.forks,
-            given: 0,
+            points_given: 0,
             names: FileNames::new(alloc),
             segments: Segments::new(alloc),
             buffer: Buffer::new(alloc, 0),
@@ -123,10 +123,10 @@ impl<const D: usize> SegmentSet<D> {
     }
 
     /// How many points were ever given.
-    pub fn given(&self) -> u32
-        ensures { result ≡ self.now.given }
+    pub fn points_given(&self) -> u32
+        ensures { result ≡ self.now.points_given }
     {
-        self.given
+        self.points_given
     }
 
     /// The greatest number of entries of a leaf.
@@ -150,7 +150,10 @@ impl<const D: usize> SegmentSet<D> {
         ensures same { (result ≡ false) ↔ IsAsCommitted self.now c.now }
         ensures sets { result ≡ false → All (λ p. IsLiveSet p.live) self.now.parts }
     {
-        if self.buffer.next() != c.next() || self.given != c.given() || !self.buffer.is_empty() {
+        if self.buffer.next() != c.next()
+            || self.points_given != c.points_given()
+            || !self.buffer.is_empty()
+        {
             return true;
         }
         !are_listed(self.segments.heads(), self.segments.lives(), c.listed())

@@ -84,10 +84,10 @@ in_two files c sets number says have two =
     omega (arith, held.alone number, subst (λ (ss : List LiveSet). 2 ≤ places number ss) (sets_are files c held.parts sets held.segments have) two))
 
 pub no_documents : EntriesOnce → (files : Files) (c : CommitData) (parts : List SegmentData) → IsCommitFile (bytes_of (files Commit)) c → HoldAll files c parts
-    → ((docs : List Document) → AreDocs c.next (all_live_entries parts) docs → length (all_live_entries parts) ≤ c.given → ⊥) → IsUndefined files
+    → ((docs : List Document) → AreDocs c.next (all_live_entries parts) docs → length (all_live_entries parts) ≤ c.points_given → ⊥) → IsUndefined files
 no_documents once files c parts says all none =
     none_held files c says
     (λ docs held.
     let same : held.parts ≡ parts = all_once once files c held.parts parts held.segments all in
     none docs (subst (λ (ds : List SegmentData). AreDocs c.next (all_live_entries ds) docs) same held.are_docs)
-    (subst (λ (ds : List SegmentData). length (all_live_entries ds) ≤ c.given) same held.few))
+    (subst (λ (ds : List SegmentData). length (all_live_entries ds) ≤ c.points_given) same held.few))

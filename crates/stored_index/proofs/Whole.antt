@@ -52,7 +52,7 @@ held_for files c (Some i) p says =
 
 pub stored_from : (files : Files) (c : CommitData) (parts : List SegmentData) (docs : List Document) → IsCommitFile (bytes_of (files Commit)) c
     → HoldAll files c parts
-    → ((number : ℕ) → places number (live_sets parts) ≤ 1) → AreDocs c.next (all_live_entries parts) docs → length (all_live_entries parts) ≤ c.given
+    → ((number : ℕ) → places number (live_sets parts) ≤ 1) → AreDocs c.next (all_live_entries parts) docs → length (all_live_entries parts) ≤ c.points_given
     → IsStored files (Some (index_of c docs))
 stored_from files c parts docs says held alone are few = record {
   commit = c;

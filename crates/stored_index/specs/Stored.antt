@@ -51,12 +51,20 @@ pub record HoldsIndex (files : Files) (c : CommitData) (docs : List Document) : 
   pub segments : HoldAll files c parts
   pub alone : (number : ℕ) → places number (live_sets parts) ≤ 1
   pub are_docs : AreDocs c.next (all_live_entries parts) docs
-  pub few : length (all_live_entries parts) ≤ c.given
+  pub few : length (all_live_entries parts) ≤ c.points_given
 
 -- the index of a commit and its documents: it has no snapshots, and no merge is begun
 abbrev pub index_of : CommitData → List Document → Index
 index_of c docs =
-    record { dims = c.dims; leaf = c.leaf; next = c.next; given = c.given; docs = docs; snapshots = []; begun = false }
+    record {
+      dims = c.dims;
+      leaf = c.leaf;
+      next = c.next;
+      points_given = c.points_given;
+      docs = docs;
+      snapshots = [];
+      begun = false;
+    }
 
 -- the files hold this index
 pub record HoldsState (files : Files) (i : Index) : Type 0 where

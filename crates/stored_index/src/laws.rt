@@ -133,7 +133,7 @@ pub fn index_is_stored()
         → IsCommitFile (bytes_of (files Commit)) c
         → HoldAll files c parts → ((number : ℕ) → places number (live_sets parts) ≤ 1)
         → AreDocs c.next (all_live_entries parts) docs
-        → length (all_live_entries parts) ≤ c.given → IsStored files (Some (index_of c docs)) }
+        → length (all_live_entries parts) ≤ c.points_given → IsStored files (Some (index_of c docs)) }
 {}
 
 /// Where the Commit file says a commit, what is stored is the index that is held for it.
@@ -196,7 +196,7 @@ pub fn damage_is_undefined()
         → IsCommitFile (bytes_of (files Commit)) c
         → HoldAll files c parts
         → ((docs : List Document) → AreDocs c.next (all_live_entries parts) docs
-        → length (all_live_entries parts) ≤ c.given → ⊥) → IsUndefined files }
+        → length (all_live_entries parts) ≤ c.points_given → ⊥) → IsUndefined files }
 {
     one_segment();
 }

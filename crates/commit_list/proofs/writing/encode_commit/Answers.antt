@@ -11,7 +11,7 @@ returns-clause-spelling c =
       dims = c.dims.ensures.value i;
       leaf = c.leaf.ensures.value i;
       next = c.next.ensures.value i;
-      given = c.given.ensures.value i;
+      points_given = c.points_given.ensures.value i;
       next_segment = c.next_segment.ensures.value i;
       count = ap length c.listed-listed.ensures.value i;
     })
@@ -27,7 +27,7 @@ returns-clause-spells c =
       dims = c.dims.ensures.value i;
       leaf = c.leaf.ensures.value i;
       next = c.next.ensures.value i;
-      given = c.given.ensures.value i;
+      points_given = c.points_given.ensures.value i;
       next_segment = c.next_segment.ensures.value i;
       count = ap length c.listed-listed.ensures.value i;
     })

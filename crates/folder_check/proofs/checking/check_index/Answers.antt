@@ -82,7 +82,7 @@ returns-clause-holds g c = λ told says.
     (known_of (IsTrue g.F.Pages.told) g.row.D (g.F.Pages.files c.args.folder.now) (g.F.Pages.files c.open_index.new.folder) c.args.c.now
     c.in_ok-segments.segments c.in_ok-findings.findings.items told (c.in_ok-segments.ensures.files told) c.requires says
     c.in_ok-segments.ensures.opened c.in_ok-segments.ensures.placed (c.in_ok-findings.ensures.found told))
-    (handed (λ ls n fs. OnOk c.judge.result (AreFine ls n fs)) _ _ _ _ _ _ c.listed.ensures.value c.given.ensures.value c.as_slice.ensures.value
+    (handed (λ ls n fs. OnOk c.judge.result (AreFine ls n fs)) _ _ _ _ _ _ c.listed.ensures.value c.points_given.ensures.value c.as_slice.ensures.value
     c.judge.ensures.fine)
 
 pub returns-clause-files : goal.returns-clause-files
@@ -105,7 +105,7 @@ returns-clause-undefined g c = λ told says.
     (known_of (IsTrue g.F.Pages.told) g.row.D (g.F.Pages.files c.args.folder.now) (g.F.Pages.files c.open_index.new.folder) c.args.c.now
     c.in_ok-segments.segments c.in_ok-findings.findings.items told (c.in_ok-segments.ensures.files told) c.requires says
     c.in_ok-segments.ensures.opened c.in_ok-segments.ensures.placed (c.in_ok-findings.ensures.found told))
-    (handed (λ ls n fs. OnDamage c.judge.result (IsWrong ls n fs)) _ _ _ _ _ _ c.listed.ensures.value c.given.ensures.value c.as_slice.ensures.value
+    (handed (λ ls n fs. OnDamage c.judge.result (IsWrong ls n fs)) _ _ _ _ _ _ c.listed.ensures.value c.points_given.ensures.value c.as_slice.ensures.value
     c.judge.ensures.wrong)
 
 pub returns-clause-evident : goal.returns-clause-evident
@@ -116,7 +116,7 @@ returns-clause-evident g c =
     (λ t. known_of (IsTrue g.F.Pages.told) g.row.D (g.F.Pages.files c.args.folder.now) (g.F.Pages.files c.open_index.new.folder) c.args.c.now
     c.in_ok-segments.segments c.in_ok-findings.findings.items t.0 (c.in_ok-segments.ensures.files t.0) c.requires t.1
     c.in_ok-segments.ensures.opened c.in_ok-segments.ensures.placed (c.in_ok-findings.ensures.found t.0))
-    (handed (λ ls n fs. OnDamage c.judge.result (IsWrong ls n fs)) _ _ _ _ _ _ c.listed.ensures.value c.given.ensures.value c.as_slice.ensures.value
+    (handed (λ ls n fs. OnDamage c.judge.result (IsWrong ls n fs)) _ _ _ _ _ _ c.listed.ensures.value c.points_given.ensures.value c.as_slice.ensures.value
     c.judge.ensures.wrong)
 
 pub returns-in_err-findings-clause-named : goal.returns-in_err-findings-clause-named
@@ -136,7 +136,7 @@ returns-clause-named g c = λ told says.
     c.in_ok-findings.findings.items told (c.in_ok-segments.ensures.files told) c.requires says
     c.in_ok-segments.ensures.opened c.in_ok-segments.ensures.placed (c.in_ok-findings.ensures.found told))
     (handed (λ ls n fs. OnDamage c.judge.result (IsWrong ls n fs)) _ _ _ _ _ _
-    c.listed.ensures.value c.given.ensures.value c.as_slice.ensures.value c.judge.ensures.wrong)
+    c.listed.ensures.value c.points_given.ensures.value c.as_slice.ensures.value c.judge.ensures.wrong)
 
 pub returns-in_err-segments-clause-first : goal.returns-in_err-segments-clause-first
 returns-in_err-segments-clause-first g c = λ told.
@@ -163,4 +163,4 @@ returns-clause-first g c = λ told.
     told (c.in_ok-segments.ensures.files told) c.requires c.in_ok-segments.ensures.opened c.in_ok-segments.ensures.placed
     c.in_ok-findings.findings.items c.judge.result (c.in_ok-findings.ensures.found told)
     (handed (λ ls n fs. OnDamage c.judge.result (IsWrong ls n fs)) _ _ _ _ _ _
-    c.listed.ensures.value c.given.ensures.value c.as_slice.ensures.value c.judge.ensures.wrong)
+    c.listed.ensures.value c.points_given.ensures.value c.as_slice.ensures.value c.judge.ensures.wrong)

@@ -7,11 +7,11 @@ use Rattle.generate_index.proofs.Making.{makes_add, makes_for, makes_none, makes
 use Rattle.generate_index.proofs.generator.add_drawn.Goals as goal
 
 pub add_point-requires-after_bounds : goal.add_point-requires-after_bounds
-add_point-requires-after_bounds g c κs = λ _. (lit< tt, (lit< tt, omega (arith, c.adds.invariant.given, c.adds-test.true, c.requires.few)))
+add_point-requires-after_bounds g c κs = λ _. (lit< tt, (lit< tt, omega (arith, c.adds.invariant.points_given, c.adds-test.true, c.requires.few)))
 
 pub adds-init : goal.adds-init
 unfolding draw
-adds-init g c = record { makes = makes_none _ _ _ tt; given = c.requires.none; drawn = refl; within = omega arith }
+adds-init g c = record { makes = makes_none _ _ _ tt; points_given = c.requires.none; drawn = refl; within = omega arith }
 
 pub adds-preserved : goal.adds-preserved
 adds-preserved g c = record {
@@ -20,7 +20,7 @@ adds-preserved g c = record {
       (c.documents_deleted.ensures.none c.args.draws.now c.adds.number)
       (c.documents_deleted.ensures.none c.args.draws.now (c.adds.number + 1)) (c.documents_added.ensures.more c.args.draws.now c.adds.number)
       c.in_ok-add_point.ensures);
-  given = c.in_ok-add_point.ensures.given ∙ ap (λ n. n + 1) c.adds.invariant.given;
+  points_given = c.in_ok-add_point.ensures.points_given ∙ ap (λ n. n + 1) c.adds.invariant.points_given;
   drawn = c.point-point.ensures.after c.args.draws.now c.adds.number c.adds.invariant.drawn;
   within = omega (arith, c.adds-test.true);
 }

@@ -9,7 +9,7 @@ invariant-adds g l = record {
   makes : Makes {T = Unit {0}} (IsTrue g.F.Pages.told) (IsDrawn l.initial.draws 0 0) (IsDrawn l.initial.draws l.number 0)
       (record { files = g.F.Pages.files l.initial.folder; session = l.initial.session; faults = g.F.Pages.faults l.initial.folder })
       (record { files = g.F.Pages.files l.folder; session = l.session; faults = g.F.Pages.faults l.folder }) (Ok tt);
-  given : l.session.set.given ≡ l.number;
+  points_given : l.session.set.points_given ≡ l.number;
   drawn : l.draws ≡ draw l.initial.draws (2 * l.number);
   within : l.number ≤ l.docs;
 }

@@ -30,7 +30,7 @@ boxes-preserved g c = record {
   hits = λ told seed n before drawn.
       let at = c.boxes.invariant.drawn seed n drawn in
       let sees = (c.boxes.invariant.makes seed n).made told before in
-      let few : n ≤ 2 ^ 24 = omega (arith, before.given, c.given-given.ensures.most) in
+      let few : n ≤ 2 ^ 24 = omega (arith, before.points_given, c.points_given-points_given.ensures.most) in
       let count : c.len.result ≡ length (hits (in_box c.new-shape.result.bounds) (made_docs seed n)) =
       c.len.ensures ∙ (c.in_ok-found.found.docs.ok.0 ∙ ap length (c.in_ok-found.ensures.found told (drawn_index seed n n) sees)) in
       c.saturating_add-hits.ensures

@@ -23,7 +23,7 @@ pub fill-requires-clause-few : goal.fill-requires-clause-few
 fill-requires-clause-few g c κs within = c.requires
 
 pub fill-requires-clause-none : goal.fill-requires-clause-none
-fill-requires-clause-none g c κs within = sym (c.in_ok-session.ensures.seen (g.F.Pages.files c.args.folder.now)).given
+fill-requires-clause-none g c κs within = sym (c.in_ok-session.ensures.seen (g.F.Pages.files c.args.folder.now)).points_given
 
 pub returns-in_err-session-clause-generates : goal.returns-in_err-session-clause-generates
 returns-in_err-session-clause-generates g c told none =

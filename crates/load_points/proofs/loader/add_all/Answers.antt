@@ -10,13 +10,13 @@ use Rattle.index_core.proofs.Sizes.{session_fits}
 use Rattle.load_points.proofs.Loading.{loading_full, loads_no_memory}
 use Rattle.load_points.proofs.loader.add_all.Goals as goal
 
-pub given-requires : goal.given-requires
-given-requires g c = session_fits g.row.D c.requires
+pub points_given-requires : goal.points_given-requires
+points_given-requires g c = session_fits g.row.D c.requires
 
 pub add_fitting-requires-after_bounds : goal.add_fitting-requires-after_bounds
 add_fitting-requires-after_bounds g c κs = λ _. (
   session_fits g.row.D c.requires,
-  (point_fits g.row.D c.requires, (c.requires, (c.in-Some.ensures.0, omega (arith, c.in-Some.ensures.1, c.given.ensures.value)))),
+  (point_fits g.row.D c.requires, (c.requires, (c.in-Some.ensures.0, omega (arith, c.in-Some.ensures.1, c.points_given.ensures.value)))),
 )
 
 pub returns-in-Some : goal.returns-in-Some
@@ -31,4 +31,4 @@ pub returns-in_ok-put_full-in-None : goal.returns-in_ok-put_full-in-None
 returns-in_ok-put_full-in-None g c =
     let long = length-map c.args.points.now (λ (q : Point g.row.D). q.c) in
     loading_full g.row.D _ _ _ _ _ (coordinates_of c.args.points.now) _ _ c.in_ok-put_full-in-None.ensures
-    (omega (arith, long, c.in-None.ensures, c.given.ensures.value))
+    (omega (arith, long, c.in-None.ensures, c.points_given.ensures.value))

@@ -196,14 +196,15 @@ returns-in_err-entries-clause-shown g c =
     let p = err_from_is_err_and c.from_residual-in_err-entries.result c.from_residual-in_err-entries.ensures.1 in
     λ names now. rw (p.1, p.2)
     (on_damage {T = Unit {0}} (IsPartDamage g.row.D (parts_among c.args.ids.now c.args.segments.now))
-    (IsMergeDamage g.row.D c.args.plan.now.given names now c.args.segments.now) (Err c.in_err-entries.field-0.0)
-    (part_shown g.row.D c.args.plan.now.given names now c.args.ids.now c.args.segments.now) c.in_err-entries.ensures.shown)
+    (IsMergeDamage g.row.D c.args.plan.now.points_given names now c.args.segments.now) (Err c.in_err-entries.field-0.0)
+    (part_shown g.row.D c.args.plan.now.points_given names now c.args.ids.now c.args.segments.now) c.in_err-entries.ensures.shown)
 
 pub returns-in_err-entries-clause-damage : goal.returns-in_err-entries-clause-damage
 returns-in_err-entries-clause-damage g c =
     let p = err_from_is_err_and c.from_residual-in_err-entries.result c.from_residual-in_err-entries.ensures.1 in
     λ told. rw (p.1, p.2)
-    (on_damage {T = Unit {0}} (IsLeafDamageOf (g.F.Pages.files c.args.folder.now)) (IsMergeDamageOf (g.F.Pages.files c.gather.new.folder) c.args.plan.now.given)
+    (on_damage {T = Unit {0}} (IsLeafDamageOf (g.F.Pages.files c.args.folder.now))
+    (IsMergeDamageOf (g.F.Pages.files c.gather.new.folder) c.args.plan.now.points_given)
     (Err c.in_err-entries.field-0.0)
     (λ d h. inl (subst (λ f. IsLeafDamageOf f d) (sym (c.in_err-entries.ensures.calm.files told)) h))
     (c.in_err-entries.ensures.damage told (c.in_ok-once.ensures.agrees (g.F.Pages.files c.args.folder.now))))
@@ -212,23 +213,23 @@ pub returns-in_err-entries-clause-doubled : goal.returns-in_err-entries-clause-d
 returns-in_err-entries-clause-doubled g c =
     let p = err_from_is_err_and c.from_residual-in_err-entries.result c.from_residual-in_err-entries.ensures.1 in
     λ told contents reads. rw (p.1, p.2)
-    (whole_shows {T = Unit {0}} (IsDoubt c.args.plan.now.given (live_in_parts contents c.args.segments.now)) (Err c.in_err-entries.field-0.0)
+    (whole_shows {T = Unit {0}} (IsDoubt c.args.plan.now.points_given (live_in_parts contents c.args.segments.now)) (Err c.in_err-entries.field-0.0)
     (c.in_err-entries.ensures.whole told (c.in_ok-once.ensures.agrees (g.F.Pages.files c.args.folder.now)) contents reads))
 
 pub returns-in_err-build_of-clause-shown : goal.returns-in_err-build_of-clause-shown
 returns-in_err-build_of-clause-shown g c =
     let p = err_from_is_err_and c.from_residual-in_err-build_of.result c.from_residual-in_err-build_of.ensures.1 in
     λ names now. rw (p.1, p.2)
-    (on_damage {T = Unit {0}} (IsDoubt c.args.plan.now.given (items_of c.as_mut_slice.result.now))
-    (IsMergeDamage g.row.D c.args.plan.now.given names now c.args.segments.now) (Err c.in_err-build_of.field-0.0)
+    (on_damage {T = Unit {0}} (IsDoubt c.args.plan.now.points_given (items_of c.as_mut_slice.result.now))
+    (IsMergeDamage g.row.D c.args.plan.now.points_given names now c.args.segments.now) (Err c.in_err-build_of.field-0.0)
     (λ d h. Doubt (items_of c.as_mut_slice.result.now) h) c.in_err-build_of.ensures.shown)
 
 pub returns-in_err-build_of-clause-damage : goal.returns-in_err-build_of-clause-damage
 returns-in_err-build_of-clause-damage g c =
     let p = err_from_is_err_and c.from_residual-in_err-build_of.result c.from_residual-in_err-build_of.ensures.1 in
     λ told. rw (p.1, p.2)
-    (on_damage {T = Unit {0}} (IsDoubt c.args.plan.now.given (items_of c.as_mut_slice.result.now))
-    (IsMergeDamageOf (g.F.Pages.files c.gather.new.folder) c.args.plan.now.given) (Err c.in_err-build_of.field-0.0)
+    (on_damage {T = Unit {0}} (IsDoubt c.args.plan.now.points_given (items_of c.as_mut_slice.result.now))
+    (IsMergeDamageOf (g.F.Pages.files c.gather.new.folder) c.args.plan.now.points_given) (Err c.in_err-build_of.field-0.0)
     (λ d h. inr (items_of c.as_mut_slice.result.now, h)) c.in_err-build_of.ensures.shown)
 
 pub returns-in_err-build_of-clause-doubled : goal.returns-in_err-build_of-clause-doubled
@@ -239,10 +240,10 @@ returns-in_err-build_of-clause-doubled g c =
     ap items_of c.as_mut_slice.ensures.value
     ∙ c.in_ok-entries.ensures.entries told (c.in_ok-once.ensures.agrees (g.F.Pages.files c.args.folder.now)) contents reads in
     rw (p.1, p.2)
-    (on_damage {T = Unit {0}} (IsDoubt c.args.plan.now.given (items_of c.as_mut_slice.result.now))
-    (IsDoubt c.args.plan.now.given (live_in_parts contents c.args.segments.now)) (Err c.in_err-build_of.field-0.0)
-    (λ d h. doubt_among c.args.plan.now.given contents c.args.ids.now c.args.segments.now d
-    (subst (λ (xs : List Item). IsDoubt c.args.plan.now.given xs d) same h)) c.in_err-build_of.ensures.shown)
+    (on_damage {T = Unit {0}} (IsDoubt c.args.plan.now.points_given (items_of c.as_mut_slice.result.now))
+    (IsDoubt c.args.plan.now.points_given (live_in_parts contents c.args.segments.now)) (Err c.in_err-build_of.field-0.0)
+    (λ d h. doubt_among c.args.plan.now.points_given contents c.args.ids.now c.args.segments.now d
+    (subst (λ (xs : List Item). IsDoubt c.args.plan.now.points_given xs d) same h)) c.in_err-build_of.ensures.shown)
 
 pub returns-in_err-entries-clause-evident : goal.returns-in_err-entries-clause-evident
 returns-in_err-entries-clause-evident g c =
@@ -267,9 +268,9 @@ returns-in_err-build_of-clause-evident g c =
     let some = parts_among c.args.ids.now parts in
     let told = IsTrue g.F.Pages.told × All (HasFileHead g.row.D files) parts × AreAlone parts in
     rw (p.1, p.2)
-    (on_damage {T = Unit {0}} (IsDoubt c.args.plan.now.given (items_of c.as_mut_slice.result.now)) (IsEvidentIn g.row.D parts told after)
+    (on_damage {T = Unit {0}} (IsDoubt c.args.plan.now.points_given (items_of c.as_mut_slice.result.now)) (IsEvidentIn g.row.D parts told after)
     (Err c.in_err-build_of.field-0.0)
-    (λ d h. doubt_evident told g.row.D after c.args.plan.now.given c.args.ids.now parts (items_of c.as_mut_slice.result.now) d (λ t. t.2)
+    (λ d h. doubt_evident told g.row.D after c.args.plan.now.points_given c.args.ids.now parts (items_of c.as_mut_slice.result.now) d (λ t. t.2)
     (λ t. subst (λ (f : Files). ∥ AreHeld g.row.D f some (items_of c.as_mut_slice.result.now) ∥₁) (sym (c.gather.ensures.calm.files t.0))
     (subst (λ (es : List (Entry g.row.D)). ∥ AreHeld g.row.D files some (items_of es) ∥₁) (sym c.as_mut_slice.ensures.value)
     (gathered_of_files g.row.D files c.args.ids.now parts (items_of c.in_ok-entries.entries.items) t.1

@@ -56,15 +56,16 @@ returns-in_err-built-clause-doubled g c =
 
 pub returns-clause-shown : goal.returns-clause-shown
 returns-clause-shown g c =
-    whole_shows (IsMergeDamage g.row.D c.args.plan.now.given c.args.names.now c.replace.new.names c.args.segments.now) c.replace.result c.replace.ensures.whole
+    whole_shows (IsMergeDamage g.row.D c.args.plan.now.points_given c.args.names.now c.replace.new.names c.args.segments.now)
+    c.replace.result c.replace.ensures.whole
 
 pub returns-clause-damage : goal.returns-clause-damage
 returns-clause-damage g c = λ told.
-    whole_shows (IsMergeDamageOf (g.F.Pages.files c.replace.new.folder) c.args.plan.now.given) c.replace.result c.replace.ensures.whole
+    whole_shows (IsMergeDamageOf (g.F.Pages.files c.replace.new.folder) c.args.plan.now.points_given) c.replace.result c.replace.ensures.whole
 
 pub returns-clause-doubled : goal.returns-clause-doubled
 returns-clause-doubled g c = λ told contents reads.
-    whole_shows (IsDoubt c.args.plan.now.given (live_in_parts contents c.args.segments.now)) c.replace.result c.replace.ensures.whole
+    whole_shows (IsDoubt c.args.plan.now.points_given (live_in_parts contents c.args.segments.now)) c.replace.result c.replace.ensures.whole
 
 pub returns-in_err-built-clause-evident : goal.returns-in_err-built-clause-evident
 returns-in_err-built-clause-evident g c =

@@ -35,16 +35,17 @@ returns-in_err-put_doc-clause-applies g c =
 
 pub returns-clause-applies : goal.returns-clause-applies
 returns-clause-applies g c =
-    let fits : nat_lt (2 ^ 24) (c.self.inside.set.given + length c.args.points.now) ≡ false =
-    ap (λ (u : SessionData). nat_lt (2 ^ 24) (u.set.given + length c.args.points.now)) c.self.view_is ∙ sym c.is_full.ensures.full ∙ c.if-is_full.false in
-    let full = not_full c.add.result (c.self.inside.set.given + length c.args.points.now) fits c.add.ensures.full.full in
+    let fits : nat_lt (2 ^ 24) (c.self.inside.set.points_given + length c.args.points.now) ≡ false =
+    ap (λ (u : SessionData). nat_lt (2 ^ 24) (u.set.points_given + length c.args.points.now)) c.self.view_is
+    ∙ sym c.is_full.ensures.full ∙ c.if-is_full.false in
+    let full = not_full c.add.result (c.self.inside.set.points_given + length c.args.points.now) fits c.add.ensures.full.full in
     applies_is _ _ _ _ _ _ _ _ c.add_answer.ensures
     (applies_seen _ _ _ _ _ _ _ _ _ _ _ c.self.view_is
     (applies_merging _ _ _ _ _ _
     (record {
       commit = refl;
       refused = refl;
-      grows = grows_added _ _ _ c.add.result c.add.ensures.alone.leaf c.add.ensures.gives.given c.add.ensures.left.stays;
+      grows = grows_added _ _ _ c.add.result c.add.ensures.alone.leaf c.add.ensures.gives.points_given c.add.ensures.left.stays;
       keeps = c.add.ensures.rewrites.kept;
       follows = c.add.ensures.rewrites.follows;
       brings = λ told. brings_written _ _ _ _ _ _ _ _ told c.add.ensures.rewrites.kept c.add.ensures.rewrites.follows (c.add.ensures.rewrites.canon told);
@@ -108,10 +109,11 @@ returns-in_err-put_doc-clause-still g c =
 
 pub returns-clause-still : goal.returns-clause-still
 returns-clause-still g c =
-    let fits : nat_lt (2 ^ 24) (c.self.inside.set.given + length c.args.points.now) ≡ false =
-    ap (λ (u : SessionData). nat_lt (2 ^ 24) (u.set.given + length c.args.points.now)) c.self.view_is ∙ sym c.is_full.ensures.full ∙ c.if-is_full.false in
+    let fits : nat_lt (2 ^ 24) (c.self.inside.set.points_given + length c.args.points.now) ≡ false =
+    ap (λ (u : SessionData). nat_lt (2 ^ 24) (u.set.points_given + length c.args.points.now)) c.self.view_is
+    ∙ sym c.is_full.ensures.full ∙ c.if-is_full.false in
     answer_keeps _ _ _ c.add_answer.ensures
-    (add_keeps _ c.add.result (not_full c.add.result (c.self.inside.set.given + length c.args.points.now) fits c.add.ensures.full.full))
+    (add_keeps _ c.add.result (not_full c.add.result (c.self.inside.set.points_given + length c.args.points.now) fits c.add.ensures.full.full))
 
 pub returns-then-is_full-clause-light : goal.returns-then-is_full-clause-light
 returns-then-is_full-clause-light g c room = light_same _ _ _ _
@@ -132,20 +134,21 @@ returns-in_err-put_doc-clause-unread g c =
 
 pub returns-clause-unread : goal.returns-clause-unread
 returns-clause-unread g c =
-    let fits : nat_lt (2 ^ 24) (c.self.inside.set.given + length c.args.points.now) ≡ false =
-    ap (λ (u : SessionData). nat_lt (2 ^ 24) (u.set.given + length c.args.points.now)) c.self.view_is ∙ sym c.is_full.ensures.full ∙ c.if-is_full.false in
+    let fits : nat_lt (2 ^ 24) (c.self.inside.set.points_given + length c.args.points.now) ≡ false =
+    ap (λ (u : SessionData). nat_lt (2 ^ 24) (u.set.points_given + length c.args.points.now)) c.self.view_is
+    ∙ sym c.is_full.ensures.full ∙ c.if-is_full.false in
     answer_keeps _ _ _ c.add_answer.ensures
-    (add_keeps _ c.add.result (not_full c.add.result (c.self.inside.set.given + length c.args.points.now) fits c.add.ensures.full.full))
+    (add_keeps _ c.add.result (not_full c.add.result (c.self.inside.set.points_given + length c.args.points.now) fits c.add.ensures.full.full))
 
 pub returns-then-is_full-clause-barred : goal.returns-then-is_full-clause-barred
 returns-then-is_full-clause-barred g c over = refl
 
 pub returns-in_err-put_doc-clause-barred : goal.returns-in_err-put_doc-clause-barred
 returns-in_err-put_doc-clause-barred g c over =
-    absurd (both_ways (nat_lt (2 ^ 24) (c.args.self.now.set.given + length c.args.points.now)) (sym c.is_full.ensures.full ∙ c.if-is_full.false)
-    (lt-ltb (2 ^ 24) (c.args.self.now.set.given + length c.args.points.now) over))
+    absurd (both_ways (nat_lt (2 ^ 24) (c.args.self.now.set.points_given + length c.args.points.now)) (sym c.is_full.ensures.full ∙ c.if-is_full.false)
+    (lt-ltb (2 ^ 24) (c.args.self.now.set.points_given + length c.args.points.now) over))
 
 pub returns-clause-barred : goal.returns-clause-barred
 returns-clause-barred g c over =
-    absurd (both_ways (nat_lt (2 ^ 24) (c.args.self.now.set.given + length c.args.points.now)) (sym c.is_full.ensures.full ∙ c.if-is_full.false)
-    (lt-ltb (2 ^ 24) (c.args.self.now.set.given + length c.args.points.now) over))
+    absurd (both_ways (nat_lt (2 ^ 24) (c.args.self.now.set.points_given + length c.args.points.now)) (sym c.is_full.ensures.full ∙ c.if-is_full.false)
+    (lt-ltb (2 ^ 24) (c.args.self.now.set.points_given + length c.args.points.now) over))

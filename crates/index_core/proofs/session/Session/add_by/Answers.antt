@@ -21,13 +21,13 @@ returns g c =
     (adds_one _ _ _ _ _ c.add.result (record {
       commit = refl;
       refused = refl;
-      grows = grows_added _ _ _ c.add.result c.add.ensures.alone.leaf c.add.ensures.gives.given c.add.ensures.left.stays;
+      grows = grows_added _ _ _ c.add.result c.add.ensures.alone.leaf c.add.ensures.gives.points_given c.add.ensures.left.stays;
       keeps = c.add.ensures.rewrites.kept;
       follows = c.add.ensures.rewrites.follows;
       named = c.leaf-leaf.ensures.well.named;
       second = c.add.ensures.rewrites.canon;
       seen = put_seen _ _ _ _ _ _ _ _ _ c.set_one.ensures c.add.ensures.seen;
-      given = put_given _ _ _ _ _ _ c.set_one.ensures c.add.ensures.gives.given;
+      points_given = put_given _ _ _ _ _ _ c.set_one.ensures c.add.ensures.gives.points_given;
       cause = c.add.ensures.cause;
       whole = c.add.ensures.damaged.whole;
       faithful = c.add.ensures.rewrites.faithful;

@@ -12,7 +12,7 @@ add_by-requires-after_bounds g c κs = λ _. (
   session_fits g.row.D c.point-item.result.high,
   (
     point_fits g.row.D c.point-item.result.high,
-    (lit< tt, room_for_next g.row.D c.args.points.now c.loop-point.point-index _ _ c.loop-point-test.true c.requires c.loop-point.invariant.given),
+    (lit< tt, room_for_next g.row.D c.args.points.now c.loop-point.point-index _ _ c.loop-point-test.true c.requires c.loop-point.invariant.points_given),
   ),
 )
 

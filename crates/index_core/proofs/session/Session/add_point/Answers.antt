@@ -38,13 +38,13 @@ returns g c =
     (adds_one _ _ _ _ _ c.add-2.result (record {
       commit = refl;
       refused = refl;
-      grows = grows_added _ _ _ c.add-2.result c.add-2.ensures.alone.leaf c.add-2.ensures.gives.given c.add-2.ensures.left.stays;
+      grows = grows_added _ _ _ c.add-2.result c.add-2.ensures.alone.leaf c.add-2.ensures.gives.points_given c.add-2.ensures.left.stays;
       keeps = c.add-2.ensures.rewrites.kept;
       follows = c.add-2.ensures.rewrites.follows;
       named = c.leaf-leaf.ensures.well.named;
       second = c.add-2.ensures.rewrites.canon;
       seen = put_seen _ _ _ _ _ _ _ _ _ (made g c) c.add-2.ensures.seen;
-      given = put_given _ _ _ _ _ _ (made g c) c.add-2.ensures.gives.given;
+      points_given = put_given _ _ _ _ _ _ (made g c) c.add-2.ensures.gives.points_given;
       cause = c.add-2.ensures.cause;
       whole = c.add-2.ensures.damaged.whole;
       faithful = c.add-2.ensures.rewrites.faithful;

@@ -27,7 +27,7 @@ returns-then-delete-clause-applies g c files faults = applies_seen _ _ _ _ _ _ _
     (applies _ _ _ _ _ _
     (calm_like _ _ _ _ _ _ _ _ _ _ _ _ (ap (λ (u : SetData). u.names) c.delete.ensures.alone)
     (grows_same _ _ (ap (λ (u : SetData). u.leaf) c.delete.ensures.alone) (ap (λ (u : SetData). u.next) c.delete.ensures.alone)
-    (ap (λ (u : SetData). u.given) c.delete.ensures.alone))
+    (ap (λ (u : SetData). u.points_given) c.delete.ensures.alone))
     c.delete.ensures.follows (λ told. refl) (λ told. brings_cleared _ files _ _ _ (ap (λ (u : SetData). u.parts) c.delete.ensures.alone))
     (λ told. c.delete.ensures.faithful files))
     (λ told i seen. does_delete _ _ _ i _ c.delete.result _ _ (c.delete.ensures.live files i seen) (c.delete.ensures.seen files i seen)
@@ -41,7 +41,7 @@ returns-in_err-put_deleted-2-clause-applies g c files faults =
     (applies_unsaid {T = Unit {0}} _ _ _ _ _ _ tt
     (calm_like _ _ _ _ _ _ _ _ _ _ _ _ (ap (λ (u : SetData). u.names) c.delete.ensures.alone)
     (grows_same _ _ (ap (λ (u : SetData). u.leaf) c.delete.ensures.alone) (ap (λ (u : SetData). u.next) c.delete.ensures.alone)
-    (ap (λ (u : SetData). u.given) c.delete.ensures.alone))
+    (ap (λ (u : SetData). u.points_given) c.delete.ensures.alone))
     c.delete.ensures.follows (λ told. refl) (λ told. brings_cleared _ files _ _ _ (ap (λ (u : SetData). u.parts) c.delete.ensures.alone))
     (λ told. c.delete.ensures.faithful files))
     (p.1 ∙ ap (λ (e : PageFault). Err e) p.2)
@@ -61,7 +61,7 @@ returns-clause-applies g c files faults =
     (applies _ _ _ _ _ _
     (calm_like _ _ _ _ _ _ _ _ _ _ _ _ (ap (λ (u : SetData). u.names) c.delete.ensures.alone)
     (grows_same _ _ (ap (λ (u : SetData). u.leaf) c.delete.ensures.alone) (ap (λ (u : SetData). u.next) c.delete.ensures.alone)
-    (ap (λ (u : SetData). u.given) c.delete.ensures.alone))
+    (ap (λ (u : SetData). u.points_given) c.delete.ensures.alone))
     c.delete.ensures.follows (λ told. refl) (λ told. brings_cleared _ files _ _ _ (ap (λ (u : SetData). u.parts) c.delete.ensures.alone))
     (λ told. c.delete.ensures.faithful files))
     (λ told i seen. does_delete _ _ _ i _ c.delete.result _ _ (c.delete.ensures.live files i seen) (c.delete.ensures.seen files i seen)

@@ -48,7 +48,7 @@ returns-clause-applies g c =
     (calm_like _ _ _ _ _ _ _ _ _ _ _ _ (c.delete_all.ensures.names ∙ ap (λ (u : SetData). u.names) c.visit.ensures.alone.is)
     (grows_same _ _ (c.delete_all.ensures.stays.leaf ∙ ap (λ (u : SetData). u.leaf) c.visit.ensures.alone.is)
     (c.delete_all.ensures.stays.next ∙ ap (λ (u : SetData). u.next) c.visit.ensures.alone.is)
-    (c.delete_all.ensures.stays.given ∙ ap (λ (u : SetData). u.given) c.visit.ensures.alone.is))
+    (c.delete_all.ensures.stays.points_given ∙ ap (λ (u : SetData). u.points_given) c.visit.ensures.alone.is))
     (subst (λ (u : SetData). Follows u.names u.parts c.delete_all.new.self.parts) c.visit.ensures.alone.is c.delete_all.ensures.follows) c.visit.ensures.files
     (λ told. brings_then _ _ _ _ _ c.visit.new.self.parts
     _ (brings_same _ _ _ _ _ (c.visit.ensures.files told) (ap (λ (u : SetData). u.parts) c.visit.ensures.alone.is))

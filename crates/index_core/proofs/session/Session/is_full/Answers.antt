@@ -8,8 +8,8 @@ use Rattle.index_core.proofs.session.Session.is_full.Goals as goal
 pub leaf-leaf-requires : goal.leaf-leaf-requires
 leaf-leaf-requires g c = set_fits g.row.D c.self.invariant.few
 
-pub given-requires : goal.given-requires
-given-requires g c = set_fits g.row.D c.self.invariant.few
+pub points_given-requires : goal.points_given-requires
+points_given-requires g c = set_fits g.row.D c.self.invariant.few
 
 pub returns-clause-named : goal.returns-clause-named
 returns-clause-named g c = subst (λ (u : SessionData). All (IsNamed u.set.names) u.set.parts) c.self.view_is c.leaf-leaf.ensures.well.named

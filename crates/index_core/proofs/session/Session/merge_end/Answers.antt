@@ -42,7 +42,7 @@ returns-clause-applies g c =
       commit = refl;
       refused = refl;
       grows = grows_same c.self.inside.set c.merge_end.new.self c.merge_end.ensures.stays.leaf c.merge_end.ensures.stays.next
-          c.merge_end.ensures.stays.given;
+          c.merge_end.ensures.stays.points_given;
       keeps = c.merge_end.ensures.rewrites.kept;
       follows = c.merge_end.ensures.rewrites.follows;
       brings = λ told.

@@ -11,4 +11,4 @@ pub next-requires : goal.next-requires
 next-requires g c = set_fits g.row.D c.self.invariant.few
 
 pub returns-clause-most : goal.returns-clause-most
-returns-clause-most g c = subst (λ (u : SessionData). u.set.next ≤ u.set.given) c.self.view_is c.leaf-leaf.ensures.well.numbered
+returns-clause-most g c = subst (λ (u : SessionData). u.set.next ≤ u.set.points_given) c.self.view_is c.leaf-leaf.ensures.well.numbered

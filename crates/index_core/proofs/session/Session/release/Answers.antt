@@ -35,7 +35,7 @@ returns-clause-applies g c files faults = applies_seen _ _ _ _ _ _ _ _ _ _ _ c.s
     (applies _ _ _ _ _ _
     (calm_like _ _ _ _ _ _ _ _ _ _ _ _ (ap (λ (u : SetData). u.names) c.release.ensures.kept)
     (grows_same _ _ (ap (λ (u : SetData). u.leaf) c.release.ensures.kept) (ap (λ (u : SetData). u.next) c.release.ensures.kept)
-    (ap (λ (u : SetData). u.given) c.release.ensures.kept))
+    (ap (λ (u : SetData). u.points_given) c.release.ensures.kept))
     (follows_same _ _ _ (ap (λ (u : SetData). u.parts) c.release.ensures.kept)) (λ told. refl)
     (λ told. brings_same _ _ _ _ _ refl (ap (λ (u : SetData). u.parts) c.release.ensures.kept)) (λ told. c.release.ensures.faithful files))
     (λ told i seen. does_release _ _ _ _ i _ _ _ seen (sym c.has_snapshot.ensures ∙ c.if-not-has_snapshot.false) (c.release.ensures.seen files i seen)

@@ -226,7 +226,7 @@ returns-clause-applies g c = record {
           commit = last.commit;
           is = last.is;
           done = last.done;
-          same = as_same c.in_ok-set.set c.renew.new.self last.commit (ap (λ (u : SetData). u.next) same) (ap (λ (u : SetData). u.given) same)
+          same = as_same c.in_ok-set.set c.renew.new.self last.commit (ap (λ (u : SetData). u.next) same) (ap (λ (u : SetData). u.points_given) same)
               (ap (λ (u : SetData). u.parts) same)
               (ap (λ (u : SetData). u.buffer) same) (c.in_ok-set.ensures.unchanged last.commit last.is);
         });

@@ -32,7 +32,7 @@ swept g c told = record {
   parts = ap (λ (u : SetData). u.parts) c.sweep.ensures.swept.alone.is;
   leaf = ap (λ (u : SetData). u.leaf) c.sweep.ensures.swept.alone.is;
   next = ap (λ (u : SetData). u.next) c.sweep.ensures.swept.alone.is;
-  given = ap (λ (u : SetData). u.given) c.sweep.ensures.swept.alone.is;
+  points_given = ap (λ (u : SetData). u.points_given) c.sweep.ensures.swept.alone.is;
 }
 
 done : (g : given.Over) (c : goal.Joined-sweep g) → c.self.inside.refused ≡ false

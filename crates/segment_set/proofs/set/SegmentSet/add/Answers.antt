@@ -23,7 +23,7 @@ pub returns-then-is_full-clause-refused : goal.returns-then-is_full-clause-refus
 returns-then-is_full-clause-refused g c = λ told i seen. seen
 
 pub returns-then-is_full-clause-gives : goal.returns-then-is_full-clause-gives
-returns-then-is_full-clause-gives g c = record { number = tt; given = tt }
+returns-then-is_full-clause-gives g c = record { number = tt; points_given = tt }
 
 pub returns-then-is_full-clause-alone : goal.returns-then-is_full-clause-alone
 returns-then-is_full-clause-alone g c = record { saved = refl; begun = refl; snapshots = refl; leaf = refl }
@@ -51,7 +51,8 @@ returns-in_err-make_room-clause-refused g c = λ told i seen.
 
 pub returns-in_err-make_room-clause-gives : goal.returns-in_err-make_room-clause-gives
 returns-in_err-make_room-clause-gives g c =
-    record { number = never_value _ c.from_residual.result c.from_residual.ensures.1 _; given = never_ok _ c.from_residual.result c.from_residual.ensures.1 _ }
+    let is = c.from_residual.ensures.1 in
+    record { number = never_value _ c.from_residual.result is _; points_given = never_ok _ c.from_residual.result is _ }
 
 pub returns-in_err-make_room-clause-alone : goal.returns-in_err-make_room-clause-alone
 returns-in_err-make_room-clause-alone g c =
@@ -90,7 +91,7 @@ pub returns-in_err-push-clause-gives : goal.returns-in_err-push-clause-gives
 returns-in_err-push-clause-gives g c =
     record {
       number = never_value _ c.from_residual-in_err-push.result c.from_residual-in_err-push.ensures.1 _;
-      given = never_ok _ c.from_residual-in_err-push.result c.from_residual-in_err-push.ensures.1 _;
+      points_given = never_ok _ c.from_residual-in_err-push.result c.from_residual-in_err-push.ensures.1 _;
     }
 
 pub returns-in_err-push-clause-alone : goal.returns-in_err-push-clause-alone
@@ -133,9 +134,9 @@ returns-clause-refused g c = λ told i seen. tt
 pub returns-clause-gives : goal.returns-clause-gives
 returns-clause-gives g c = record {
   number = c.in_ok-push.ensures.number ∙ c.in_ok-make_room.ensures.moves.stays.next;
-  given = (
+  points_given = (
     ap (λ (s : SetData). s.next) c.in_ok-push.ensures.put ∙ ap (λ n. n + 1) c.in_ok-make_room.ensures.moves.stays.next,
-    ap (λ (s : SetData). s.given) c.in_ok-push.ensures.put ∙ ap (λ n. n + length c.args.points.now) c.in_ok-make_room.ensures.moves.stays.given,
+    ap (λ (s : SetData). s.points_given) c.in_ok-push.ensures.put ∙ ap (λ n. n + length c.args.points.now) c.in_ok-make_room.ensures.moves.stays.points_given,
   );
 }
 
@@ -221,7 +222,7 @@ returns-clause-damaged g c =
 pub returns-then-is_full-clause-full : goal.returns-then-is_full-clause-full
 returns-then-is_full-clause-full g c = record {
   full = (
-    λ is. full_given c.args.self.now.given (length c.as_slice.result.now) (length c.args.points.now) c.is_full.ensures.full c.if-is_full.true
+    λ is. full_given c.args.self.now.points_given (length c.as_slice.result.now) (length c.args.points.now) c.is_full.ensures.full c.if-is_full.true
         (sym (length-map c.as_slice.result.now _) ∙ ap length c.as_slice.ensures.value),
     λ more. refl,
   );
@@ -247,7 +248,7 @@ returns-in_err-make_room-clause-full g c =
     never_refuses (IsTrue g.F.Pages.told) (g.F.Pages.files c.args.folder.now) (g.F.Pages.files c.make_room.new.folder) c.args.self.now c.make_room.new.self
     (g.F.Pages.reads c.args.folder.now) (g.F.Pages.reads c.make_room.new.folder) (length c.args.points.now) c.from_residual.result
     (add_not_full c.in_err-make_room.field-0.0 c.from_residual.result c.from_residual.ensures.1)
-    (not_full c.args.self.now.given (length c.as_slice.result.now) (length c.args.points.now) c.is_full.ensures.full c.if-is_full.false
+    (not_full c.args.self.now.points_given (length c.as_slice.result.now) (length c.args.points.now) c.is_full.ensures.full c.if-is_full.false
     (sym (length-map c.as_slice.result.now _) ∙ ap length c.as_slice.ensures.value))
 
 pub returns-in_err-make_room-clause-added : goal.returns-in_err-make_room-clause-added
@@ -266,7 +267,7 @@ returns-in_err-push-clause-full g c =
     never_refuses (IsTrue g.F.Pages.told) (g.F.Pages.files c.args.folder.now) (g.F.Pages.files c.make_room.new.folder) c.args.self.now c.push.new.self
     (g.F.Pages.reads c.args.folder.now) (g.F.Pages.reads c.make_room.new.folder) (length c.args.points.now) c.from_residual-in_err-push.result
     (add_memory_not_full c.from_residual-in_err-push.result c.from_residual-in_err-push.ensures.1)
-    (not_full c.args.self.now.given (length c.as_slice.result.now) (length c.args.points.now) c.is_full.ensures.full c.if-is_full.false
+    (not_full c.args.self.now.points_given (length c.as_slice.result.now) (length c.args.points.now) c.is_full.ensures.full c.if-is_full.false
     (sym (length-map c.as_slice.result.now _) ∙ ap length c.as_slice.ensures.value))
 
 pub returns-in_err-push-clause-added : goal.returns-in_err-push-clause-added
@@ -289,7 +290,7 @@ returns-clause-full g c =
     never_refuses (IsTrue g.F.Pages.told) (g.F.Pages.files c.args.folder.now) (g.F.Pages.files c.make_room.new.folder) c.args.self.now c.push.new.self
     (g.F.Pages.reads c.args.folder.now) (g.F.Pages.reads c.make_room.new.folder) (length c.args.points.now) _
     (λ is. absurd cc)
-    (not_full c.args.self.now.given (length c.as_slice.result.now) (length c.args.points.now) c.is_full.ensures.full c.if-is_full.false
+    (not_full c.args.self.now.points_given (length c.as_slice.result.now) (length c.args.points.now) c.is_full.ensures.full c.if-is_full.false
     (sym (length-map c.as_slice.result.now _) ∙ ap length c.as_slice.ensures.value))
 
 pub returns-clause-added : goal.returns-clause-added

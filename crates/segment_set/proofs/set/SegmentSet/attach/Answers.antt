@@ -33,7 +33,7 @@ pub invariant_of-result : goal.invariant_of-result
 invariant_of-result g c =
     subst (IsWell g.row.D)
     (sym (attached_is c.args.c.now c.in_ok-names.names c.in_ok-segments.segments c.in_ok-cache.cache _ _ _ _ _ c.leaf.ensures.value
-    (c.new-2.ensures.next ∙ c.next-2.ensures.value) c.given.ensures.value c.new-2.ensures.items c.new-3.ensures.items))
+    (c.new-2.ensures.next ∙ c.next-2.ensures.value) c.points_given.ensures.value c.new-2.ensures.items c.new-3.ensures.items))
     (well_attached g.row.D (IsTrue g.F.Pages.told) (g.F.Pages.files c.args.folder.now) c.args.c.now c.in_ok-names.names c.in_ok-segments.segments
     c.in_ok-cache.cache c.requires c.leaf.ensures.commit c.in_ok-segments.ensures.opened
     (λ number.
@@ -48,7 +48,7 @@ returns-clause-seen g c = λ told says i stored.
     let parts = c.in_ok-segments.segments in
     subst (λ (s : SetData). Sees g.row.D files s i)
     (sym (attached_is c.args.c.now c.in_ok-names.names parts c.in_ok-cache.cache _ _ _ _ _ c.leaf.ensures.value
-    (c.new-2.ensures.next ∙ c.next-2.ensures.value) c.given.ensures.value c.new-2.ensures.items c.new-3.ensures.items))
+    (c.new-2.ensures.next ∙ c.next-2.ensures.value) c.points_given.ensures.value c.new-2.ensures.items c.new-3.ensures.items))
     (sees_attached g.row.D files c.args.c.now c.in_ok-names.names parts c.in_ok-cache.cache i c.requires says stored
     (opened_heads (IsTrue g.F.Pages.told) files c.args.c.now parts told c.in_ok-segments.ensures.opened)
     (opened_lives (IsTrue g.F.Pages.told) files c.args.c.now parts told c.in_ok-segments.ensures.opened) (c.in_ok-cache.ensures.agrees files))
@@ -57,7 +57,7 @@ pub returns-clause-commit : goal.returns-clause-commit
 returns-clause-commit g c =
     subst (λ (s : SetData). IsAtRest s c.args.c.now)
     (sym (attached_is c.args.c.now c.in_ok-names.names c.in_ok-segments.segments c.in_ok-cache.cache _ _ _ _ _ c.leaf.ensures.value
-    (c.new-2.ensures.next ∙ c.next-2.ensures.value) c.given.ensures.value c.new-2.ensures.items c.new-3.ensures.items))
+    (c.new-2.ensures.next ∙ c.next-2.ensures.value) c.points_given.ensures.value c.new-2.ensures.items c.new-3.ensures.items))
     (at_rest_attached (IsTrue g.F.Pages.told) (g.F.Pages.files c.args.folder.now) c.args.c.now c.in_ok-names.names c.in_ok-segments.segments c.in_ok-cache.cache
     c.in_ok-segments.ensures.opened c.in_ok-names.ensures.next)
 
@@ -70,7 +70,7 @@ returns-clause-faithful g c = λ told.
     let files = g.F.Pages.files c.args.folder.now in
     subst (IsFaithful g.row.D files)
     (sym (attached_is c.args.c.now c.in_ok-names.names c.in_ok-segments.segments c.in_ok-cache.cache _ _ _ _ _ c.leaf.ensures.value
-    (c.new-2.ensures.next ∙ c.next-2.ensures.value) c.given.ensures.value c.new-2.ensures.items c.new-3.ensures.items))
+    (c.new-2.ensures.next ∙ c.next-2.ensures.value) c.points_given.ensures.value c.new-2.ensures.items c.new-3.ensures.items))
     (faithful_attached g.row.D (IsTrue g.F.Pages.told) files c.args.c.now c.in_ok-names.names c.in_ok-segments.segments c.in_ok-cache.cache c.requires told
     c.in_ok-segments.ensures.opened (c.in_ok-cache.ensures.agrees files))
 

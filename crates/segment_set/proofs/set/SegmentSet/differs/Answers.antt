@@ -15,7 +15,7 @@ abbrev here : (g : given.Over) (c : goal.After-are_listed g) → SetData
 here g c = record {
   leaf = c.self.inside.leaf;
   next = c.self.inside.buffer.next;
-  given = c.self.inside.given;
+  points_given = c.self.inside.points_given;
   names = c.self.inside.names;
   parts = c.self.inside.segments;
   buffer = c.self.inside.buffer.items;
@@ -39,7 +39,7 @@ returns-clause-same g c = (
       subst (λ (s : SetData). IsAsCommitted s c.args.c.now) c.self.view_is
       (as_committed (here g c) c.args.c.now c.heads.result.now c.lives.result.now c.listed.result.now c.heads.ensures.value c.lives.ensures
       c.listed.ensures.value
-      (sym c.next.ensures ∙ c.if-next.false ∙ c.next-2.ensures.value) (c.if-self-given.false ∙ c.given.ensures.value)
+      (sym c.next.ensures ∙ c.if-next.false ∙ c.next-2.ensures.value) (c.if-self-points_given.false ∙ c.points_given.ensures.value)
       (none c.self.inside.buffer.items (eqb-true (length c.self.inside.buffer.items) 0 (sym c.is_empty.ensures ∙ c.if-not-is_empty.false)))
       (c.are_listed.ensures.same.0 (listed c.are_listed.result e))),
   λ is.

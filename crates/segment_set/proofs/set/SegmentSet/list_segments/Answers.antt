@@ -58,7 +58,7 @@ new-kept-requires g c =
       dims = g.row.D;
       leaf = c.self.inside.leaf;
       next = n;
-      given = c.self.inside.given;
+      points_given = c.self.inside.points_given;
       next_segment = c.next_segment-next_segment.result;
       listed = c.in_ok-again.again.items;
     })) (sym c.next-next.ensures)
@@ -76,7 +76,7 @@ new-requires g c =
       dims = g.row.D;
       leaf = c.self.inside.leaf;
       next = n;
-      given = c.self.inside.given;
+      points_given = c.self.inside.points_given;
       next_segment = c.next_segment-next_segment.result;
       listed = c.in_ok-listed.listed.items;
     })) (sym c.next-next.ensures)
@@ -106,7 +106,7 @@ returns-clause-saved g c =
       dims = g.row.D;
       leaf = c.self.inside.leaf;
       next = c.next-next.result;
-      given = c.self.inside.given;
+      points_given = c.self.inside.points_given;
       next_segment = c.next_segment-next_segment.result;
       listed = ls;
     }) (c.in_ok-again.ensures.items ∙ c.as_slice.ensures.value)
@@ -121,7 +121,7 @@ returns-clause-commit g c =
       dims = g.row.D;
       leaf = c.self.inside.leaf;
       next = n;
-      given = c.self.inside.given;
+      points_given = c.self.inside.points_given;
       next_segment = c.next_segment-next_segment.result;
       listed = c.in_ok-listed.listed.items;
     }) c.next-next.ensures))

@@ -28,7 +28,7 @@ abbrev was : (g : given.Over) (c : goal.After-merge g) → SetData
 was g c = record {
   leaf = c.self.inside.leaf;
   next = c.self.inside.buffer.next;
-  given = c.self.inside.given;
+  points_given = c.self.inside.points_given;
   names = c.self.inside.names;
   parts = c.self.inside.segments;
   buffer = c.self.inside.buffer.items;
@@ -138,8 +138,8 @@ returns-clause-fewer g c =
     c.merge.new.segments m.built m.replaces)
     (returns-clause-merged g c)
 
-given_is : (g : given.Over) (c : goal.After-merge g) → c.plan-plan.result.given ≡ c.self.inside.given
-given_is g c = c.plan-plan.ensures.given ∙ sym (ap (λ (s : SetData). s.given) c.self.view_is)
+given_is : (g : given.Over) (c : goal.After-merge g) → c.plan-plan.result.points_given ≡ c.self.inside.points_given
+given_is g c = c.plan-plan.ensures.points_given ∙ sym (ap (λ (s : SetData). s.points_given) c.self.view_is)
 
 pub returns-clause-damaged : goal.returns-clause-damaged
 returns-clause-damaged g c = record {
@@ -148,15 +148,15 @@ returns-clause-damaged g c = record {
       let h = subst (λ (u : SetData). Sees g.row.D (g.F.Pages.files c.args.folder.now) u i) (sym c.self.view_is) seen in
       c.merge.ensures.whole told h.contents h.stands.now s.next (merge_docs g.row.D (g.F.Pages.files c.args.folder.now) s i h c.args.ids.now)
       (subst (λ n. length (live_in_parts h.contents (parts_among c.args.ids.now s.parts)) ≤ n)
-      (ap (λ (u : SetData). u.given) c.self.view_is ∙ sym c.plan-plan.ensures.given)
+      (ap (λ (u : SetData). u.points_given) c.self.view_is ∙ sym c.plan-plan.ensures.points_given)
       (merge_few g.row.D (g.F.Pages.files c.args.folder.now) s i h c.args.ids.now));
-  shown = subst (λ (s : SetData). OnDamage c.merge.result (IsMergeDamage g.row.D s.given s.names c.merge.new.names s.parts)) c.self.view_is
+  shown = subst (λ (s : SetData). OnDamage c.merge.result (IsMergeDamage g.row.D s.points_given s.names c.merge.new.names s.parts)) c.self.view_is
       (subst (λ n. OnDamage c.merge.result (IsMergeDamage g.row.D n c.self.inside.names c.merge.new.names c.self.inside.segments)) (given_is g c)
       c.merge.ensures.shown);
-  damage = λ told agrees. subst (λ n. OnDamage c.merge.result (IsMergeDamageOf (g.F.Pages.files c.merge.new.folder) n)) c.plan-plan.ensures.given
+  damage = λ told agrees. subst (λ n. OnDamage c.merge.result (IsMergeDamageOf (g.F.Pages.files c.merge.new.folder) n)) c.plan-plan.ensures.points_given
       (c.merge.ensures.damage told);
   doubled = λ told agrees contents reads.
-      subst (λ (s : SetData). OnDamage c.merge.result (IsDoubt s.given (live_in_parts contents s.parts))) c.self.view_is
+      subst (λ (s : SetData). OnDamage c.merge.result (IsDoubt s.points_given (live_in_parts contents s.parts))) c.self.view_is
       (subst (λ n. OnDamage c.merge.result (IsDoubt n (live_in_parts contents c.self.inside.segments))) (given_is g c)
       (c.merge.ensures.doubled told contents
       (subst (λ (s : SetData). AreRead g.row.D (g.F.Pages.files c.args.folder.now) contents s.parts) (sym c.self.view_is) reads)));

@@ -30,7 +30,7 @@ abbrev set_of : {D : ℕ} → Inside D → SetData
 set_of s = record {
   leaf = s.leaf;
   next = s.buffer.next;
-  given = s.given;
+  points_given = s.points_given;
   names = s.names;
   parts = s.segments;
   buffer = s.buffer.items;
@@ -138,31 +138,34 @@ returns-in_err-built-clause-damaged g c = record {
       (c.in_err-built.ensures.whole told h.contents h.stands.now s.next
       (merge_docs g.row.D (g.F.Pages.files c.args.folder.now) s i h c.as_slice-2.result.now)
       (subst (λ n. length (live_in_parts h.contents (parts_among c.as_slice-2.result.now s.parts)) ≤ n)
-      (ap (λ (u : SetData). u.given) c.self.view_is ∙ sym c.plan-plan.ensures.given)
+      (ap (λ (u : SetData). u.points_given) c.self.view_is ∙ sym c.plan-plan.ensures.points_given)
       (merge_few g.row.D (g.F.Pages.files c.args.folder.now) s i h c.as_slice-2.result.now))));
   shown =
       let p = err_from_is_err_and c.from_residual-in_err-built.result c.from_residual-in_err-built.ensures.1 in
       rw (p.1, p.2)
-      (begun_damage (Unit {0}) (Unit {0}) (IsMergeDamage g.row.D c.args.self.now.given c.args.self.now.names c.args.self.now.names c.args.self.now.parts)
+      (begun_damage (Unit {0}) (Unit {0}) (IsMergeDamage g.row.D c.args.self.now.points_given c.args.self.now.names c.args.self.now.names c.args.self.now.parts)
       c.in_err-built.field-0.0
       (subst (λ n.
       OnDamage {T = Unit {0}} (Err c.in_err-built.field-0.0) (IsMergeDamage g.row.D n c.args.self.now.names c.args.self.now.names c.args.self.now.parts))
-      c.plan-plan.ensures.given
+      c.plan-plan.ensures.points_given
       (subst (λ (s : SetData).
-      OnDamage {T = Unit {0}} (Err c.in_err-built.field-0.0) (IsMergeDamage g.row.D c.plan-plan.result.given s.names s.names s.parts))
+      OnDamage {T = Unit {0}} (Err c.in_err-built.field-0.0) (IsMergeDamage g.row.D c.plan-plan.result.points_given s.names s.names s.parts))
       c.self.view_is (c.in_err-built.ensures.shown c.self.inside.names c.self.inside.names))));
   damage = λ told agrees.
       let p = err_from_is_err_and c.from_residual-in_err-built.result c.from_residual-in_err-built.ensures.1 in
       rw (p.1, p.2)
-      (begun_damage (Unit {0}) (Unit {0}) (IsMergeDamageOf (g.F.Pages.files c.gathered.new.folder) c.args.self.now.given) c.in_err-built.field-0.0
-      (subst (λ n. OnDamage {T = Unit {0}} (Err c.in_err-built.field-0.0) (IsMergeDamageOf (g.F.Pages.files c.gathered.new.folder) n)) c.plan-plan.ensures.given
+      (begun_damage (Unit {0}) (Unit {0}) (IsMergeDamageOf (g.F.Pages.files c.gathered.new.folder) c.args.self.now.points_given) c.in_err-built.field-0.0
+      (subst (λ n. OnDamage {T = Unit {0}} (Err c.in_err-built.field-0.0) (IsMergeDamageOf (g.F.Pages.files c.gathered.new.folder) n))
+      c.plan-plan.ensures.points_given
       (c.in_err-built.ensures.damage told)));
   doubled = λ told agrees contents reads.
       let p = err_from_is_err_and c.from_residual-in_err-built.result c.from_residual-in_err-built.ensures.1 in
       rw (p.1, p.2)
-      (begun_damage (Unit {0}) (Unit {0}) (IsDoubt c.args.self.now.given (live_in_parts contents c.args.self.now.parts)) c.in_err-built.field-0.0
-      (subst (λ n. OnDamage {T = Unit {0}} (Err c.in_err-built.field-0.0) (IsDoubt n (live_in_parts contents c.args.self.now.parts))) c.plan-plan.ensures.given
-      (subst (λ (s : SetData). OnDamage {T = Unit {0}} (Err c.in_err-built.field-0.0) (IsDoubt c.plan-plan.result.given (live_in_parts contents s.parts)))
+      (begun_damage (Unit {0}) (Unit {0}) (IsDoubt c.args.self.now.points_given (live_in_parts contents c.args.self.now.parts)) c.in_err-built.field-0.0
+      (subst (λ n. OnDamage {T = Unit {0}} (Err c.in_err-built.field-0.0) (IsDoubt n (live_in_parts contents c.args.self.now.parts)))
+      c.plan-plan.ensures.points_given
+      (subst (λ (s : SetData).
+      OnDamage {T = Unit {0}} (Err c.in_err-built.field-0.0) (IsDoubt c.plan-plan.result.points_given (live_in_parts contents s.parts)))
       c.self.view_is
       (c.in_err-built.ensures.doubled told contents
       (subst (λ (s : SetData). AreRead g.row.D (g.F.Pages.files c.args.folder.now) contents s.parts) (sym c.self.view_is) reads)))));

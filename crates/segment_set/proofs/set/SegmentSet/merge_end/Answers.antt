@@ -33,7 +33,7 @@ abbrev set_of : {D : ℕ} → Inside D → SetData
 set_of s = record {
   leaf = s.leaf;
   next = s.buffer.next;
-  given = s.given;
+  points_given = s.points_given;
   names = s.names;
   parts = s.segments;
   buffer = s.buffer.items;

@@ -154,25 +154,25 @@ returns-in_err-merge-clause-damaged g c = record {
       let e = err_from_is_err_and c.from_residual-in_err-merge.result c.from_residual-in_err-merge.ensures.1 in
       rw (e.1, e.2)
       (on_damage_weaker {T = Unit {0}} (Err c.in_err-merge.field-0.0)
-      (IsMergeDamage g.row.D c.loop-ids.self.given c.loop-ids.self.names c.merge.new.self.names c.loop-ids.self.parts)
-      (IsMergeDamage g.row.D c.args.self.now.given c.args.self.now.names c.merge.new.self.names c.args.self.now.parts)
+      (IsMergeDamage g.row.D c.loop-ids.self.points_given c.loop-ids.self.names c.merge.new.self.names c.loop-ids.self.parts)
+      (IsMergeDamage g.row.D c.args.self.now.points_given c.args.self.now.names c.merge.new.self.names c.args.self.now.parts)
       (damage_before g.row.D (IsTrue g.F.Pages.told) (g.F.Pages.files c.args.folder.now) (g.F.Pages.files c.loop-ids.folder) c.args.self.now c.loop-ids.self
       c.merge.new.self.names (c.loop-ids.invariant.moves c.next_merge.ensures.well) c.next_merge.ensures.well.named c.merge.ensures.moves.kept.more)
       c.in_err-merge.ensures.damaged.shown);
-  damage = λ told agrees. same_damage (IsMergeDamageOf (g.F.Pages.files c.merge.new.folder) c.args.self.now.given) c.in_err-merge.field-0.0
+  damage = λ told agrees. same_damage (IsMergeDamageOf (g.F.Pages.files c.merge.new.folder) c.args.self.now.points_given) c.in_err-merge.field-0.0
       c.from_residual-in_err-merge.result c.from_residual-in_err-merge.ensures.1
       (subst (λ n. OnDamage {T = Unit {0}} (Err c.in_err-merge.field-0.0) (IsMergeDamageOf (g.F.Pages.files c.merge.new.folder) n))
-      (c.loop-ids.invariant.moves c.next_merge.ensures.well).stays.given
+      (c.loop-ids.invariant.moves c.next_merge.ensures.well).stays.points_given
       (c.in_err-merge.ensures.damaged.damage told (c.loop-ids.invariant.entries.agrees told agrees)));
   doubled = λ told agrees contents reads.
       let e = err_from_is_err_and c.from_residual-in_err-merge.result c.from_residual-in_err-merge.ensures.1 in
       let kept = c.loop-ids.invariant.entries in
       let now = kept.entries told agrees contents reads in
       rw (e.1, e.2)
-      (on_damage_weaker {T = Unit {0}} (Err c.in_err-merge.field-0.0) (IsDoubt c.loop-ids.self.given (live_in_parts now.0 c.loop-ids.self.parts))
-      (IsDoubt c.args.self.now.given (live_in_parts contents c.args.self.now.parts))
-      (λ d h. doubt_same c.args.self.now.given (live_in_parts contents c.args.self.now.parts) (live_in_parts now.0 c.loop-ids.self.parts) now.2 d
-      (subst (λ n. IsDoubt n (live_in_parts now.0 c.loop-ids.self.parts) d) (c.loop-ids.invariant.moves c.next_merge.ensures.well).stays.given h))
+      (on_damage_weaker {T = Unit {0}} (Err c.in_err-merge.field-0.0) (IsDoubt c.loop-ids.self.points_given (live_in_parts now.0 c.loop-ids.self.parts))
+      (IsDoubt c.args.self.now.points_given (live_in_parts contents c.args.self.now.parts))
+      (λ d h. doubt_same c.args.self.now.points_given (live_in_parts contents c.args.self.now.parts) (live_in_parts now.0 c.loop-ids.self.parts) now.2 d
+      (subst (λ n. IsDoubt n (live_in_parts now.0 c.loop-ids.self.parts) d) (c.loop-ids.invariant.moves c.next_merge.ensures.well).stays.points_given h))
       (c.in_err-merge.ensures.damaged.doubled told (kept.agrees told agrees) now.0 now.1));
   evident = same_damage
       (IsEvidentIn g.row.D c.args.self.now.parts (IsTrusted g.F.Pages.told g.row.D (g.F.Pages.files c.args.folder.now) c.args.self.now)

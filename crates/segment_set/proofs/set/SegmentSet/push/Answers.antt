@@ -16,7 +16,7 @@ put-requires g c = (
       c.self.invariant.few_dims,
       (
         subst (λ (t : SetData). length t.buffer + length c.args.points.now ≤ 16384) (sym c.self.view_is) c.requires.room,
-        few_numbers c.self.inside.buffer.next c.self.inside.given c.self.invariant.numbered c.self.invariant.most_given,
+        few_numbers c.self.inside.buffer.next c.self.inside.points_given c.self.invariant.numbered c.self.invariant.most_given,
       ),
     ),
   ),
@@ -27,7 +27,7 @@ invariant_of-self-2 g c =
     let s : SetData = record {
       leaf = c.self.inside.leaf;
       next = c.self.inside.buffer.next;
-      given = c.self.inside.given;
+      points_given = c.self.inside.points_given;
       names = c.self.inside.names;
       parts = c.self.inside.segments;
       buffer = c.self.inside.buffer.items;
@@ -38,8 +38,8 @@ invariant_of-self-2 g c =
     } in
     let many : length c.as_slice.result.now ≡ length c.args.points.now = sym (length-map c.as_slice.result.now _) ∙ ap length c.as_slice.ensures.value in
     subst (IsWell g.row.D)
-    (sym (set_with_is c.args.points.now s c.put.new.self.next (s.given + length c.as_slice.result.now) c.put.new.self.items c.in_ok-number.ensures.next
-    (ap (λ n. s.given + n) many) c.in_ok-number.ensures.items))
+    (sym (set_with_is c.args.points.now s c.put.new.self.next (s.points_given + length c.as_slice.result.now) c.put.new.self.items c.in_ok-number.ensures.next
+    (ap (λ n. s.points_given + n) many) c.in_ok-number.ensures.items))
     (well_with g.row.D s c.args.points.now c.as_slice.ensures.points
     (subst (λ (t : SetData). length t.buffer + length c.args.points.now ≤ 16384) (sym c.self.view_is) c.requires.room)
-    (subst (λ (t : SetData). t.given + length c.args.points.now ≤ 2 ^ 24) (sym c.self.view_is) c.requires.given) c.self.invariant)
+    (subst (λ (t : SetData). t.points_given + length c.args.points.now ≤ 2 ^ 24) (sym c.self.view_is) c.requires.points_given) c.self.invariant)

@@ -16,7 +16,7 @@ abbrev old : (g : given.Over) (c : goal.After-let_go g) → SetData
 old g c = record {
   leaf = c.self.inside.leaf;
   next = c.self.inside.buffer.next;
-  given = c.self.inside.given;
+  points_given = c.self.inside.points_given;
   names = c.self.inside.names;
   parts = c.self.inside.segments;
   buffer = c.self.inside.buffer.items;

@@ -40,7 +40,7 @@ returns-in_err-remove-clause-seen g c = λ told i seen.
     (record {
       leaf = ap (λ (u : SetData). u.leaf) c.self.view_is;
       next = ap (λ (u : SetData). u.next) c.self.view_is;
-      given = ap (λ (u : SetData). u.given) c.self.view_is;
+      points_given = ap (λ (u : SetData). u.points_given) c.self.view_is;
       snapshots = ap (λ (u : SetData). u.snapshots) c.self.view_is;
     })
     (ap (λ (u : SetData). u.parts) c.self.view_is) (ap (λ (u : SetData). u.buffer) c.self.view_is) (ap (λ (u : SetData). u.begun) c.self.view_is) refl seen
@@ -57,7 +57,7 @@ returns-clause-seen g c = λ told i seen.
     (record {
       leaf = ap (λ (u : SetData). u.leaf) c.self.view_is;
       next = ap (λ (u : SetData). u.next) c.self.view_is;
-      given = ap (λ (u : SetData). u.given) c.self.view_is;
+      points_given = ap (λ (u : SetData). u.points_given) c.self.view_is;
       snapshots = ap (λ (u : SetData). u.snapshots) c.self.view_is;
     })
     (ap (λ (u : SetData). u.parts) c.self.view_is) (ap (λ (u : SetData). u.buffer) c.self.view_is) (ap (λ (u : SetData). u.begun) c.self.view_is) refl seen

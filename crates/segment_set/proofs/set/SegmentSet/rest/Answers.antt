@@ -13,7 +13,7 @@ abbrev old : (g : given.Over) (c : goal.Joined-self g) → SetData
 old g c = record {
   leaf = c.self.inside.leaf;
   next = c.self.inside.buffer.next;
-  given = c.self.inside.given;
+  points_given = c.self.inside.points_given;
   names = c.self.inside.names;
   parts = c.self.inside.segments;
   buffer = c.self.inside.buffer.items;

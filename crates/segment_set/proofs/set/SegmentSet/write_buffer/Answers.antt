@@ -29,7 +29,7 @@ abbrev was : (g : given.Over) (c : goal.After-write_buffer g) → SetData
 was g c = record {
   leaf = c.self.inside.leaf;
   next = c.self.inside.buffer.next;
-  given = c.self.inside.given;
+  points_given = c.self.inside.points_given;
   names = c.self.inside.names;
   parts = c.self.inside.segments;
   buffer = c.self.inside.buffer.items;
@@ -86,7 +86,7 @@ write_buffer-requires-after_bounds g c = λ lifetimes outlive.
     let below = waiting_below (record {
       leaf = c.self.inside.leaf;
       next = c.self.inside.buffer.next;
-      given = c.self.inside.given;
+      points_given = c.self.inside.points_given;
       names = c.self.inside.names;
       parts = c.self.inside.segments;
       buffer = c.self.inside.buffer.items;
