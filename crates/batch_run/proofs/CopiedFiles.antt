@@ -112,8 +112,8 @@ copy_holds files copy c docs says all h = record {
   parts = h.parts;
   segments = zip_moved (HoldsFiles files c) (HoldsFiles copy c) c.listed h.parts (λ s d there held.
       let k = All-contains (IsCopied files copy) c.listed s all there in
-      subst (λ xs. HoldsListed c.dims c.leaf s xs (bytes_of (copy (Live s.segment s.generation))) d) (sym k.segment)
-      (subst (λ xs. HoldsListed c.dims c.leaf s (bytes_of (files (Segment s.segment))) xs d) (sym k.live) held)) h.segments;
+      subst (λ xs. HoldsListed c.dims c.leaf_size s xs (bytes_of (copy (Live s.segment s.generation))) d) (sym k.segment)
+      (subst (λ xs. HoldsListed c.dims c.leaf_size s (bytes_of (files (Segment s.segment))) xs d) (sym k.live) held)) h.segments;
   alone = h.alone;
   are_docs = h.are_docs;
   few = h.few;

@@ -102,34 +102,35 @@ cell_round_points D (x ∷ xs) r some points h =
 
 -- ---- a split value lies in the cell of its node, and each half in its part of it
 
-left_below : (D leaf d : ℕ) (x : ℤ) (ls rs : List Item) → IsCanonSplit D leaf d x ls rs → All (λ (y : Item). coordinate d y ≤ℤ x) ls
-left_below D leaf d x ls rs h = lefts_below d x ls rs h.apart h.value
+left_below : (D leaf_size d : ℕ) (x : ℤ) (ls rs : List Item) → IsCanonSplit D leaf_size d x ls rs → All (λ (y : Item). coordinate d y ≤ℤ x) ls
+left_below D leaf_size d x ls rs h = lefts_below d x ls rs h.apart h.value
 
 -- all items are in the cell
 abbrev AreIn : Region → List Item → Type 0
 AreIn r items = All (λ (y : Item). in_box r y.at ≡ true) items
 
-in_cell : (D leaf d : ℕ) (x : ℤ) (ls rs : List Item) (path : Region) → IsCanonSplit D leaf d x ls rs → length path.lo ≡ D → AreIn path rs → IsInCell D path d x
-in_cell D leaf d x ls rs path h lo inside =
+in_cell : (D leaf_size d : ℕ) (x : ℤ) (ls rs : List Item) (path : Region) → IsCanonSplit D leaf_size d x ls rs → length path.lo ≡ D → AreIn path rs
+    → IsInCell D path d x
+in_cell D leaf_size d x ls rs path h lo inside =
     let ends = least_inside d x path rs (omega (arith, lo, h.widest.dimension)) inside h.value in
     record { dimension = h.widest.dimension; from = ends.0; to = ends.1 }
 
 test_true : (x y : ℤ) → x ≤ℤ y → int_le x y ≡ true
 test_true x y h = grind (arith, ints)
 
-lefts_in : (D leaf d : ℕ) (x : ℤ) (ls rs : List Item) (path : Region) → IsCanonSplit D leaf d x ls rs → IsInCell D path d x → length path.lo ≡ D
+lefts_in : (D leaf_size d : ℕ) (x : ℤ) (ls rs : List Item) (path : Region) → IsCanonSplit D leaf_size d x ls rs → IsInCell D path d x → length path.lo ≡ D
     → length path.hi ≡ D
     → All (λ (y : Item). IsPoint D y.at) ls → AreIn path ls → AreIn (left_of path d x) ls
-lefts_in D leaf d x ls rs path h cell lo hi points inside k e lt =
+lefts_in D leaf_size d x ls rs path h cell lo hi points inside k e lt =
     let y : Item = get_or ls k e in
     let is : IsPoint D y.at = points k e lt in
     let keeps = left_keeps path d x (lo ∙ sym hi) (omega (arith, hi, cell.dimension)) cell.from cell.to y.at (is.dims ∙ sym hi) in
-    keeps ∙ rw (inside k e lt, test_true (coordinate d y) x (left_below D leaf d x ls rs h k e lt)) refl
+    keeps ∙ rw (inside k e lt, test_true (coordinate d y) x (left_below D leaf_size d x ls rs h k e lt)) refl
 
-rights_in : (D leaf d : ℕ) (x : ℤ) (ls rs : List Item) (path : Region) → IsCanonSplit D leaf d x ls rs → IsInCell D path d x → length path.lo ≡ D
+rights_in : (D leaf_size d : ℕ) (x : ℤ) (ls rs : List Item) (path : Region) → IsCanonSplit D leaf_size d x ls rs → IsInCell D path d x → length path.lo ≡ D
     → length path.hi ≡ D
     → All (λ (y : Item). IsPoint D y.at) rs → AreIn path rs → AreIn (right_of path d x) rs
-rights_in D leaf d x ls rs path h cell lo hi points inside k e lt =
+rights_in D leaf_size d x ls rs path h cell lo hi points inside k e lt =
     let y : Item = get_or rs k e in
     let is : IsPoint D y.at = points k e lt in
     let keeps = right_keeps path d x (lo ∙ sym hi) (omega (arith, hi, cell.dimension)) cell.from cell.to y.at (is.dims ∙ sym hi) in
@@ -142,21 +143,21 @@ all_front P xs ys all = subst (λ (zs : List Item). All P zs) (take_at xs ys (le
 all_back : (P : Item → Type 0) (xs ys : List Item) → All P (xs ++ ys) → All P ys
 all_back P xs ys all = subst (λ (zs : List Item). All P zs) (drop_at xs ys (length xs) refl) (All-drop P (length xs) (xs ++ ys) all)
 
-pub cells_lie : (D leaf : ℕ) (path : Region) (t : KdTree) → IsCanon D leaf t → length path.lo ≡ D → length path.hi ≡ D → AreIn path (entries_of t)
+pub cells_lie : (D leaf_size : ℕ) (path : Region) (t : KdTree) → IsCanon D leaf_size t → length path.lo ≡ D → length path.hi ≡ D → AreIn path (entries_of t)
     → HasCells D path (index_tree_of D t)
-cells_lie D leaf path (Leaf items own) h lo hi inside = (
+cells_lie D leaf_size path (Leaf items own) h lo hi inside = (
   cell_round_points D items own h.entries.some h.entries.points h.cell,
   h.cell.least path (All-map (λ (p : List ℤ). in_box path p ≡ true) (λ (y : Item). y.at) items inside),
 )
-cells_lie D leaf path (Split d x l r) h lo hi inside =
+cells_lie D leaf_size path (Split d x l r) h lo hi inside =
     let ls : List Item = entries_of l in
     let rs : List Item = entries_of r in
-    let left_points = all_points D leaf l h.1 in
-    let right_points = all_points D leaf r h.2 in
+    let left_points = all_points D leaf_size l h.1 in
+    let right_points = all_points D leaf_size r h.2 in
     let left = all_front (λ (y : Item). in_box path y.at ≡ true) ls rs inside in
     let right = all_back (λ (y : Item). in_box path y.at ≡ true) ls rs inside in
-    let cell : IsInCell D path d x = in_cell D leaf d x ls rs path h.0 lo right in (
+    let cell : IsInCell D path d x = in_cell D leaf_size d x ls rs path h.0 lo right in (
       cell,
-      cells_lie D leaf (left_of path d x) l h.1 lo (length-set path.hi d x ∙ hi) (lefts_in D leaf d x ls rs path h.0 cell lo hi left_points left),
-      cells_lie D leaf (right_of path d x) r h.2 (length-set path.lo d x ∙ lo) hi (rights_in D leaf d x ls rs path h.0 cell lo hi right_points right),
+      cells_lie D leaf_size (left_of path d x) l h.1 lo (length-set path.hi d x ∙ hi) (lefts_in D leaf_size d x ls rs path h.0 cell lo hi left_points left),
+      cells_lie D leaf_size (right_of path d x) r h.2 (length-set path.lo d x ∙ lo) hi (rights_in D leaf_size d x ls rs path h.0 cell lo hi right_points right),
     )

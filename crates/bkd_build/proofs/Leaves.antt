@@ -39,14 +39,14 @@ lengths_told D (Split d x l r) =
     ∙ ap (λ (ns : List ℕ). ns ++ map (λ (bytes : List ℕ). length bytes) (map (spelling D) (leaves_of r))) (lengths_told D l)
     ∙ ap (λ (ns : List ℕ). lengths_of (index_tree_of D l) ++ ns) (lengths_told D r)
 
-pub leaves_count : (D leaf : ℕ) (t : KdTree) → 1 ≤ leaf → IsCanon D leaf t → length (leaves_of t) ≡ leaves_for leaf (length (entries_of t))
-leaves_count D leaf t some h =
+pub leaves_count : (D leaf_size : ℕ) (t : KdTree) → 1 ≤ leaf_size → IsCanon D leaf_size t → length (leaves_of t) ≡ leaves_for leaf_size (length (entries_of t))
+leaves_count D leaf_size t some h =
     let told : length (map (λ (bytes : List ℕ). length bytes) (map (spelling D) (leaves_of t))) ≡ length (lengths_of (index_tree_of D t)) =
     ap (λ (ns : List ℕ). length ns) (lengths_told D t) in
     let once : length (map (spelling D) (leaves_of t)) ≡ length (leaves_of t) = length-map (leaves_of t) (spelling D) in
     let twice : length (map (λ (bytes : List ℕ). length bytes) (map (spelling D) (leaves_of t))) ≡ length (map (spelling D) (leaves_of t)) =
     length-map (map (spelling D) (leaves_of t)) (λ (bytes : List ℕ). length bytes) in
-    sym once ∙ sym twice ∙ told ∙ shaped_count (leaves_for leaf (length (entries_of t))) (index_tree_of D t) (shaped D leaf t some h)
+    sym once ∙ sym twice ∙ told ∙ shaped_count (leaves_for leaf_size (length (entries_of t))) (index_tree_of D t) (shaped D leaf_size t some h)
 
 -- the entries of the leaves are all entries
 pub entries_joined : (t : KdTree) → entries_of t ≡ flat_map (λ (leaf : List Item). leaf) (leaves_of t)
@@ -57,71 +57,73 @@ entries_joined (Split d x l r) =
     ∙ sym (flat_map-append (λ (leaf : List Item). leaf) (leaves_of l) (leaves_of r))
 
 -- leaf k is a canonical leaf
-pub leaf_at : (D leaf : ℕ) (t : KdTree) → IsCanon D leaf t → (k : ℕ) (items : List Item) (own : Region) → k < length (leaves_of t)
-    → IsCanonLeaf D leaf (get_or (leaves_of t) k items) (get_or (own_cells (index_tree_of D t)) k own)
-leaf_at D leaf (Leaf xs r) h zero items own lt = h
-leaf_at D leaf (Leaf xs r) h (suc k) items own lt = absurd (omega arith)
-leaf_at D leaf (Split d x l r) h k items own lt = elim (cases_lt k (length (leaves_of l))) [
+pub leaf_at : (D leaf_size : ℕ) (t : KdTree) → IsCanon D leaf_size t → (k : ℕ) (items : List Item) (own : Region) → k < length (leaves_of t)
+    → IsCanonLeaf D leaf_size (get_or (leaves_of t) k items) (get_or (own_cells (index_tree_of D t)) k own)
+leaf_at D leaf_size (Leaf xs r) h zero items own lt = h
+leaf_at D leaf_size (Leaf xs r) h (suc k) items own lt = absurd (omega arith)
+leaf_at D leaf_size (Split d x l r) h k items own lt = elim (cases_lt k (length (leaves_of l))) [
   | inl left ↦
       rw (
         get_or_append_left (leaves_of l) (leaves_of r) items k left,
         get_or_append_left (own_cells (index_tree_of D l)) (own_cells (index_tree_of D r)) own k (omega (arith, cells_count D l, left)),
       )
-      (leaf_at D leaf l h.1 k items own left)
+      (leaf_at D leaf_size l h.1 k items own left)
   | inr right ↦
       rw (
         get_or-append_right (leaves_of l) (leaves_of r) (length (leaves_of l)) k items refl right,
         get_or-append_right (own_cells (index_tree_of D l)) (own_cells (index_tree_of D r)) (length (leaves_of l)) k own (cells_count D l) right,
       )
-      (leaf_at D leaf r h.2 (k - length (leaves_of l)) items own (omega (arith, length-append (leaves_of l) (leaves_of r), lt, right)))
+      (leaf_at D leaf_size r h.2 (k - length (leaves_of l)) items own (omega (arith, length-append (leaves_of l) (leaves_of r), lt, right)))
 ]
 
 -- ---- how many entries it has
 
 -- a leaf of the left half is full
-full_left : (leaf count n k : ℕ) → k < n → n * leaf ≤ count → min leaf (count - k * leaf) ≡ leaf
-full_left leaf count n k lt fits = omega (arith, mul-le-mul_right {m = k + 1} {n = n} leaf (omega arith))
+full_left : (leaf_size count n k : ℕ) → k < n → n * leaf_size ≤ count → min leaf_size (count - k * leaf_size) ≡ leaf_size
+full_left leaf_size count n k lt fits = omega (arith, mul-le-mul_right {m = k + 1} {n = n} leaf_size (omega arith))
 
 -- and one of the right half has what it has there
-same_right : (leaf count n k : ℕ) → n ≤ k → min leaf (count - n * leaf - (k - n) * leaf) ≡ min leaf (count - k * leaf)
-same_right leaf count n k le = let e : n * leaf + (k - n) * leaf ≡ k * leaf = parts n (k - n) k leaf (omega arith) in omega arith
+same_right : (leaf_size count n k : ℕ) → n ≤ k → min leaf_size (count - n * leaf_size - (k - n) * leaf_size) ≡ min leaf_size (count - k * leaf_size)
+same_right leaf_size count n k le = let e : n * leaf_size + (k - n) * leaf_size ≡ k * leaf_size = parts n (k - n) k leaf_size (omega arith) in omega arith
   where
-    parts : (n m k leaf : ℕ) → n + m ≡ k → n * leaf + m * leaf ≡ k * leaf
-    parts n m k leaf is = rw (← is) (omega arith)
+    parts : (n m k leaf_size : ℕ) → n + m ≡ k → n * leaf_size + m * leaf_size ≡ k * leaf_size
+    parts n m k leaf_size is = rw (← is) (omega arith)
 
-pub size_at : (D leaf : ℕ) (t : KdTree) → 1 ≤ leaf → IsCanon D leaf t → (k : ℕ) (items : List Item) → k < length (leaves_of t)
-    → length (get_or (leaves_of t) k items) ≡ min leaf (length (entries_of t) - k * leaf)
-size_at D leaf (Leaf xs r) some h zero items lt = omega (arith, h.few)
-size_at D leaf (Leaf xs r) some h (suc k) items lt = absurd (omega arith)
-size_at D leaf (Split d x l r) some h k items lt =
+pub size_at : (D leaf_size : ℕ) (t : KdTree) → 1 ≤ leaf_size → IsCanon D leaf_size t → (k : ℕ) (items : List Item) → k < length (leaves_of t)
+    → length (get_or (leaves_of t) k items) ≡ min leaf_size (length (entries_of t) - k * leaf_size)
+size_at D leaf_size (Leaf xs r) some h zero items lt = omega (arith, h.few)
+size_at D leaf_size (Leaf xs r) some h (suc k) items lt = absurd (omega arith)
+size_at D leaf_size (Split d x l r) some h k items lt =
     let count : ℕ = length (entries_of l ++ entries_of r) in
     let n : ℕ = length (leaves_of l) in
-    let left_is : n ≡ leaves_for leaf count - leaves_for leaf count / 2 =
-    leaves_count D leaf l some h.1 ∙ ap (leaves_for leaf) h.0.rank ∙ left_leaves leaf count some h.0.many in
-    let full : length (entries_of l) ≡ n * leaf = h.0.rank ∙ ap (λ (m : ℕ). m * leaf) (sym left_is) in
+    let left_is : n ≡ leaves_for leaf_size count - leaves_for leaf_size count / 2 =
+    leaves_count D leaf_size l some h.1 ∙ ap (leaves_for leaf_size) h.0.rank ∙ left_leaves leaf_size count some h.0.many in
+    let full : length (entries_of l) ≡ n * leaf_size = h.0.rank ∙ ap (λ (m : ℕ). m * leaf_size) (sym left_is) in
     let both : count ≡ length (entries_of l) + length (entries_of r) = length-append (entries_of l) (entries_of r) in
     elim (cases_lt k n) [
       | inl left ↦
           rw (get_or_append_left (leaves_of l) (leaves_of r) items k left)
-          (size_at D leaf l some h.1 k items left ∙ ap (λ (m : ℕ). min leaf (m - k * leaf)) full ∙ full_left leaf (n * leaf) n k left (omega arith)
-          ∙ sym (full_left leaf count n k left (omega (arith, both, full))))
+          (size_at D leaf_size l some h.1 k items left ∙ ap (λ (m : ℕ). min leaf_size (m - k * leaf_size)) full
+              ∙ full_left leaf_size (n * leaf_size) n k left (omega arith)
+          ∙ sym (full_left leaf_size count n k left (omega (arith, both, full))))
       | inr right ↦
           rw (get_or-append_right (leaves_of l) (leaves_of r) n k items refl right)
-          (size_at D leaf r some h.2 (k - n) items (omega (arith, length-append (leaves_of l) (leaves_of r), lt, right))
-          ∙ ap (λ (m : ℕ). min leaf (m - (k - n) * leaf)) (omega (arith, both, full))
-          ∙ same_right leaf count n k right)
+          (size_at D leaf_size r some h.2 (k - n) items (omega (arith, length-append (leaves_of l) (leaves_of r), lt, right))
+          ∙ ap (λ (m : ℕ). min leaf_size (m - (k - n) * leaf_size)) (omega (arith, both, full))
+          ∙ same_right leaf_size count n k right)
     ]
 
 -- ---- what was built
 
-pub are_leaves : (D leaf : ℕ) (items : List Item) (b : BuiltValue) → 1 ≤ leaf → (h : IsBuilt D leaf items b)
-    → AreLeaves D leaf (length items) b h.root (index_tree_of D h.tree) (leaves_of h.tree)
-are_leaves D leaf items b some h =
+pub are_leaves : (D leaf_size : ℕ) (items : List Item) (b : BuiltValue) → 1 ≤ leaf_size → (h : IsBuilt D leaf_size items b)
+    → AreLeaves D leaf_size (length items) b h.root (index_tree_of D h.tree) (leaves_of h.tree)
+are_leaves D leaf_size items b some h =
     let t : KdTree = h.tree in
     let all : length (entries_of t) ≡ length items = length_permutation items (entries_of t) h.canon.same in
-    let n : ℕ = leaves_for leaf (length items) in
-    let counted : length (leaves_of t) ≡ n = leaves_count D leaf t some h.canon.canon ∙ ap (leaves_for leaf) all in
-    let shape : IsShaped n (index_tree_of D t) = subst (λ (m : ℕ). IsShaped (leaves_for leaf m) (index_tree_of D t)) all (shaped D leaf t some h.canon.canon) in
+    let n : ℕ = leaves_for leaf_size (length items) in
+    let counted : length (leaves_of t) ≡ n = leaves_count D leaf_size t some h.canon.canon ∙ ap (leaves_for leaf_size) all in
+    let shape : IsShaped n (index_tree_of D t) =
+        subst (λ (m : ℕ). IsShaped (leaves_for leaf_size m) (index_tree_of D t)) all (shaped D leaf_size t some h.canon.canon) in
     record {
       index = h.index;
       form = h.form;
@@ -131,22 +133,22 @@ are_leaves D leaf items b some h =
       lengths = ap (map (λ (bytes : List ℕ). length bytes)) h.leaves ∙ lengths_told D t;
       spelled = λ k bytes entries own lt.
           let within : k < length (leaves_of t) = omega (arith, counted, lt) in
-          let at = leaf_at D leaf t h.canon.canon k entries own within in
+          let at = leaf_at D leaf_size t h.canon.canon k entries own within in
           let is : get_or b.leaves k bytes ≡ spelling D (get_or (leaves_of t) k entries) =
           ap (λ (bs : List (List ℕ)). get_or bs k bytes) h.leaves ∙ get_or-map (spelling D) (leaves_of t) k entries bytes within in
           record {
             spells = record { are_leaf = at.entries; is = is };
-            counted = size_at D leaf t some h.canon.canon k entries within ∙ ap (λ (m : ℕ). min leaf (m - k * leaf)) all;
+            counted = size_at D leaf_size t some h.canon.canon k entries within ∙ ap (λ (m : ℕ). min leaf_size (m - k * leaf_size)) all;
             inside = unmapped (λ (p : List ℤ). in_box (get_or (own_cells (index_tree_of D t)) k own) p ≡ true) (get_or (leaves_of t) k entries) at.cell.holds;
           };
     }
 
-pub all_there : (D leaf : ℕ) (items : List Item) (b : BuiltValue) → (h : IsBuilt D leaf items b)
+pub all_there : (D leaf_size : ℕ) (items : List Item) (b : BuiltValue) → (h : IsBuilt D leaf_size items b)
     → IsPermutation items (flat_map (λ (leaf : List Item). leaf) (leaves_of h.tree))
-all_there D leaf items b h = subst (λ (xs : List Item). IsPermutation items xs) (entries_joined h.tree) h.canon.same
+all_there D leaf_size items b h = subst (λ (xs : List Item). IsPermutation items xs) (entries_joined h.tree) h.canon.same
 
-pub built_in_any_order : (D leaf : ℕ) (xs ys : List Item) (p : BuiltValue) → IsPermutation xs ys → IsBuilt D leaf xs p → IsBuilt D leaf ys p
-built_in_any_order D leaf xs ys p moved h = record {
+pub built_in_any_order : (D leaf_size : ℕ) (xs ys : List Item) (p : BuiltValue) → IsPermutation xs ys → IsBuilt D leaf_size xs p → IsBuilt D leaf_size ys p
+built_in_any_order D leaf_size xs ys p moved h = record {
   tree = h.tree;
   root = h.root;
   canon = record {
@@ -168,9 +170,9 @@ one_index D p q r s x y f g h k roots trees =
     let bytes : p.bytes ≡ q.bytes = h.is ∙ cc (k.is, forms, roots, trees) in
     λ i. record { form = forms i; leaves = leaves i; bytes = bytes i }
 
-pub one_built : (D leaf : ℕ) (xs ys : List Item) (p q : BuiltValue) → IsPermutation xs ys → IsBuilt D leaf xs p → IsBuilt D leaf ys q → p ≡ q
-one_built D leaf xs ys p q moved h k =
-    let one = one_canon D leaf xs ys h.root k.root h.tree k.tree moved h.canon k.canon in
+pub one_built : (D leaf_size : ℕ) (xs ys : List Item) (p q : BuiltValue) → IsPermutation xs ys → IsBuilt D leaf_size xs p → IsBuilt D leaf_size ys q → p ≡ q
+one_built D leaf_size xs ys p q moved h k =
+    let one = one_canon D leaf_size xs ys h.root k.root h.tree k.tree moved h.canon k.canon in
     let index : p.index ≡ q.index =
     one_index D p.index q.index h.root k.root (index_tree_of D h.tree) (index_tree_of D k.tree) h.form k.form h.index k.index one.0
     (ap (index_tree_of D) one.1) in

@@ -71,13 +71,13 @@ entries-drop {D} k es high h = record {
 -- ---- a node
 
 -- a cut at the rank of the left half, in the widest dimension, splits the node
-pub split_of_cut : (D leaf d rank : ℕ) (x : ℤ) (es fs : List (Entry D)) → IsPermutation es fs → leaf < length es → rank ≡ left_count leaf (length es)
-    → rank < length es
+pub split_of_cut : (D leaf_size d rank : ℕ) (x : ℤ) (es fs : List (Entry D)) → IsPermutation es fs → leaf_size < length es
+    → rank ≡ left_count leaf_size (length es) → rank < length es
     → IsWidest D d (items_of es) → AllComeBefore (leaf_cmp d) (take rank (items_of fs)) (drop rank (items_of fs)) → IsLeast d x (drop rank (items_of fs))
-    → IsCanonSplit D leaf d x (items_of (take rank fs)) (items_of (drop rank fs))
-split_of_cut D leaf d rank x es fs p many is below widest apart value =
-    subst (λ (ls : List Item). IsCanonSplit D leaf d x ls (items_of (drop rank fs))) (items-take rank fs)
-    (subst (λ (rs : List Item). IsCanonSplit D leaf d x (take rank (items_of fs)) rs) (items-drop rank fs) there)
+    → IsCanonSplit D leaf_size d x (items_of (take rank fs)) (items_of (drop rank fs))
+split_of_cut D leaf_size d rank x es fs p many is below widest apart value =
+    subst (λ (ls : List Item). IsCanonSplit D leaf_size d x ls (items_of (drop rank fs))) (items-take rank fs)
+    (subst (λ (rs : List Item). IsCanonSplit D leaf_size d x (take rank (items_of fs)) rs) (items-drop rank fs) there)
   where
     whole : take rank (items_of fs) ++ drop rank (items_of fs) ≡ items_of fs
     whole = take-append-drop rank (items_of fs)
@@ -85,7 +85,7 @@ split_of_cut D leaf d rank x es fs p many is below widest apart value =
     long : length (items_of fs) ≡ length es
     long = length-map fs (λ (e : Entry D). record { doc = e.doc; at = e.point.c }) ∙ length_permutation es fs p
 
-    there : IsCanonSplit D leaf d x (take rank (items_of fs)) (drop rank (items_of fs))
+    there : IsCanonSplit D leaf_size d x (take rank (items_of fs)) (drop rank (items_of fs))
     there = record {
       many = rw whole (rw long many);
       widest = rw whole (IsWidest-IsPermutation D d (items_of es) (items_of fs) (items-IsPermutation es fs p) widest);
@@ -106,9 +106,9 @@ halves_moved {D} es fs ls rs us vs p is q r =
     IsPermutation-trans es fs (us ++ vs) p (subst (λ (xs : List (Entry D)). IsPermutation xs (us ++ vs)) (sym is) (IsPermutation-append ls us rs vs q r))
 
 -- it is one however the entries of the halves stand
-split-IsPermutation : (D leaf d : ℕ) (x : ℤ) (ls rs us vs : List Item) → IsPermutation ls us → IsPermutation rs vs → IsCanonSplit D leaf d x ls rs
-    → IsCanonSplit D leaf d x us vs
-split-IsPermutation D leaf d x ls rs us vs p q h =
+split-IsPermutation : (D leaf_size d : ℕ) (x : ℤ) (ls rs us vs : List Item) → IsPermutation ls us → IsPermutation rs vs → IsCanonSplit D leaf_size d x ls rs
+    → IsCanonSplit D leaf_size d x us vs
+split-IsPermutation D leaf_size d x ls rs us vs p q h =
     let both : IsPermutation (ls ++ rs) (us ++ vs) = IsPermutation-append ls us rs vs p q in
     let long : length (us ++ vs) ≡ length (ls ++ rs) = length_permutation (ls ++ rs) (us ++ vs) both in
     record {
@@ -143,23 +143,26 @@ pieces_joined D d x l r before = λ i. record { nodes = nodes i; lengths = lengt
         ≡ before.leaves ++ map (spelling D) (leaves_of l ++ leaves_of r)
     leaves = simp (map-append, append_assoc)
 
-pub node_adds : (D leaf d : ℕ) (x : ℤ) (items ls rs : List Item) (before middle after : Pieces) → IsPermutation items (ls ++ rs) → IsCanonSplit D leaf d x ls rs
-    → AddsPieces D leaf ls (joined_pieces before (one_node d x)) middle → AddsPieces D leaf rs middle after → AddsPieces D leaf items before after
-node_adds D leaf d x items ls rs before middle after p split left right = record {
+pub node_adds : (D leaf_size d : ℕ) (x : ℤ) (items ls rs : List Item) (before middle after : Pieces) → IsPermutation items (ls ++ rs)
+    → IsCanonSplit D leaf_size d x ls rs
+    → AddsPieces D leaf_size ls (joined_pieces before (one_node d x)) middle → AddsPieces D leaf_size rs middle after
+    → AddsPieces D leaf_size items before after
+node_adds D leaf_size d x items ls rs before middle after p split left right = record {
   tree = Split d x left.tree right.tree;
-  canon = (split-IsPermutation D leaf d x ls rs (entries_of left.tree) (entries_of right.tree) left.same right.same split, left.canon, right.canon);
+  canon = (split-IsPermutation D leaf_size d x ls rs (entries_of left.tree) (entries_of right.tree) left.same right.same split, left.canon, right.canon);
   same = IsPermutation-trans items (ls ++ rs) (entries_of left.tree ++ entries_of right.tree) p
       (IsPermutation-append ls (entries_of left.tree) rs (entries_of right.tree) left.same right.same);
   is = right.is ∙ ap (λ (ps : Pieces). joined_pieces ps (pieces_of D right.tree)) left.is ∙ pieces_joined D d x left.tree right.tree before;
 }
 
 -- from halves that were built apart
-pub halves_add : (D leaf d : ℕ) (x : ℤ) (items ls rs : List Item) (first second whole : Pieces) → IsPermutation items (ls ++ rs) → IsCanonSplit D leaf d x ls rs
-    → AddsPieces D leaf ls no_pieces first → AddsPieces D leaf rs no_pieces second → whole ≡ joined_pieces (joined_pieces (one_node d x) first) second
-    → AddsPieces D leaf items no_pieces whole
-halves_add D leaf d x items ls rs first second whole p split left right is = record {
+pub halves_add : (D leaf_size d : ℕ) (x : ℤ) (items ls rs : List Item) (first second whole : Pieces) → IsPermutation items (ls ++ rs)
+    → IsCanonSplit D leaf_size d x ls rs
+    → AddsPieces D leaf_size ls no_pieces first → AddsPieces D leaf_size rs no_pieces second → whole ≡ joined_pieces (joined_pieces (one_node d x) first) second
+    → AddsPieces D leaf_size items no_pieces whole
+halves_add D leaf_size d x items ls rs first second whole p split left right is = record {
   tree = Split d x left.tree right.tree;
-  canon = (split-IsPermutation D leaf d x ls rs (entries_of left.tree) (entries_of right.tree) left.same right.same split, left.canon, right.canon);
+  canon = (split-IsPermutation D leaf_size d x ls rs (entries_of left.tree) (entries_of right.tree) left.same right.same split, left.canon, right.canon);
   same = IsPermutation-trans items (ls ++ rs) (entries_of left.tree ++ entries_of right.tree) p
       (IsPermutation-append ls (entries_of left.tree) rs (entries_of right.tree) left.same right.same);
   is = is ∙ ap (λ (ps : Pieces). joined_pieces (joined_pieces (one_node d x) ps) second) left.is
@@ -169,10 +172,11 @@ halves_add D leaf d x items ls rs first second whole p split left right is = rec
 
 -- ---- a leaf
 
-pub leaf_adds : (D leaf : ℕ) (items entries : List Item) (own : Region) (before after : Pieces) → IsPermutation items entries → length items ≤ leaf
+pub leaf_adds : (D leaf_size : ℕ) (items entries : List Item) (own : Region) (before after : Pieces) → IsPermutation items entries → length items ≤ leaf_size
     → AreLeaf D entries
-    → IsLeastCell (map (λ (x : Item). x.at) entries) own → after ≡ joined_pieces before (pieces_of D (Leaf entries own)) → AddsPieces D leaf items before after
-leaf_adds D leaf items entries own before after p few are cell is = record {
+    → IsLeastCell (map (λ (x : Item). x.at) entries) own → after ≡ joined_pieces before (pieces_of D (Leaf entries own))
+    → AddsPieces D leaf_size items before after
+leaf_adds D leaf_size items entries own before after p few are cell is = record {
   tree = Leaf entries own;
   canon = record { few = omega (arith, length_permutation items entries p, few); entries = are; cell = cell };
   same = p;

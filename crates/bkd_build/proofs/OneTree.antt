@@ -23,8 +23,9 @@ one_leaf_order D xs ys a b p =
     one_ascending d xs ys (ascends_strictly d xs a.ascending) (ascends_strictly d ys (subst (λ (d : ℕ). IsStrictlySortedBy (leaf_cmp d) ys) e b.ascending))
     (same_items xs ys p)
 
-same_leaf : (D leaf : ℕ) (xs ys : List Item) (r s : Region) → IsCanonLeaf D leaf xs r → IsCanonLeaf D leaf ys s → IsPermutation xs ys → Leaf xs r ≡ Leaf ys s
-same_leaf D leaf xs ys r s a b p =
+same_leaf : (D leaf_size : ℕ) (xs ys : List Item) (r s : Region) → IsCanonLeaf D leaf_size xs r → IsCanonLeaf D leaf_size ys s → IsPermutation xs ys
+    → Leaf xs r ≡ Leaf ys s
+same_leaf D leaf_size xs ys r s a b p =
     let items : xs ≡ ys = one_leaf_order D xs ys a.entries b.entries p in
     let cells : r ≡ s =
     least_cell_unique (map (λ (x : Item). x.at) ys) r s (subst (λ (zs : List Item). IsLeastCell (map (λ (x : Item). x.at) zs) r) items a.cell) b.cell in
@@ -43,36 +44,36 @@ least_cell-IsPermutation xs ys r p h =
     }
 
 -- a leaf has too few entries for an inner node
-no_split : (leaf : ℕ) (xs ys : List Item) → IsPermutation xs ys → length xs ≤ leaf → leaf < length ys → ⊥
-no_split leaf xs ys p few many = omega (arith, length_permutation xs ys p)
+no_split : (leaf_size : ℕ) (xs ys : List Item) → IsPermutation xs ys → length xs ≤ leaf_size → leaf_size < length ys → ⊥
+no_split leaf_size xs ys p few many = omega (arith, length_permutation xs ys p)
 
 -- the halves of the same entries have the same entries
-halves : (D leaf d e : ℕ) (x y : ℤ) (ls rs us vs : List Item) → IsCanonSplit D leaf d x ls rs → IsCanonSplit D leaf e y us vs
+halves : (D leaf_size d e : ℕ) (x y : ℤ) (ls rs us vs : List Item) → IsCanonSplit D leaf_size d x ls rs → IsCanonSplit D leaf_size e y us vs
     → IsPermutation (ls ++ rs) (us ++ vs)
     → (d ≡ e) × (x ≡ y) × IsPermutation ls us × IsPermutation rs vs
-halves D leaf d e x y ls rs us vs a b p =
+halves D leaf_size d e x y ls rs us vs a b p =
     let dims : d ≡ e = one_widest D d e (us ++ vs) (IsWidest-IsPermutation D d (ls ++ rs) (us ++ vs) p a.widest) b.widest in
-    let long : length ls ≡ length us = a.rank ∙ ap (left_count leaf) (sym (length_permutation (ls ++ rs) (us ++ vs) p)) ∙ sym b.rank in
+    let long : length ls ≡ length us = a.rank ∙ ap (left_count leaf_size) (sym (length_permutation (ls ++ rs) (us ++ vs) p)) ∙ sym b.rank in
     let parts = one_cut d ls rs us vs p long a.apart (subst (λ (d : ℕ). AllComeBefore (leaf_cmp d) us vs) (sym dims) b.apart) in
     (dims, one_least d x y vs (IsLeast-IsPermutation d x rs vs parts.1 a.value) (subst (λ (d : ℕ). IsLeast d y vs) (sym dims) b.value), parts.0, parts.1)
 
-pub one_tree : (D leaf : ℕ) (t u : KdTree) → IsCanon D leaf t → IsCanon D leaf u → IsPermutation (entries_of t) (entries_of u) → t ≡ u
-one_tree D leaf (Leaf xs r) (Leaf ys s) a b p = same_leaf D leaf xs ys r s a b p
-one_tree D leaf (Leaf xs r) (Split e y m q) a b p = absurd (no_split leaf xs (entries_of m ++ entries_of q) p a.few b.0.many)
-one_tree D leaf (Split d x l r) (Leaf ys s) a b p =
-    absurd (no_split leaf ys (entries_of l ++ entries_of r) (IsPermutation-sym (entries_of l ++ entries_of r) ys p) b.few a.0.many)
-one_tree D leaf (Split d x l r) (Split e y m q) a b p =
-    let parts = halves D leaf d e x y (entries_of l) (entries_of r) (entries_of m) (entries_of q) a.0 b.0 p in
-    let lefts = one_tree D leaf l m a.1 b.1 parts.2 in
-    let rights = one_tree D leaf r q a.2 b.2 parts.3 in
+pub one_tree : (D leaf_size : ℕ) (t u : KdTree) → IsCanon D leaf_size t → IsCanon D leaf_size u → IsPermutation (entries_of t) (entries_of u) → t ≡ u
+one_tree D leaf_size (Leaf xs r) (Leaf ys s) a b p = same_leaf D leaf_size xs ys r s a b p
+one_tree D leaf_size (Leaf xs r) (Split e y m q) a b p = absurd (no_split leaf_size xs (entries_of m ++ entries_of q) p a.few b.0.many)
+one_tree D leaf_size (Split d x l r) (Leaf ys s) a b p =
+    absurd (no_split leaf_size ys (entries_of l ++ entries_of r) (IsPermutation-sym (entries_of l ++ entries_of r) ys p) b.few a.0.many)
+one_tree D leaf_size (Split d x l r) (Split e y m q) a b p =
+    let parts = halves D leaf_size d e x y (entries_of l) (entries_of r) (entries_of m) (entries_of q) a.0 b.0 p in
+    let lefts = one_tree D leaf_size l m a.1 b.1 parts.2 in
+    let rights = one_tree D leaf_size r q a.2 b.2 parts.3 in
     λ i. Split (parts.0 i) (parts.1 i) (lefts i) (rights i)
 
-pub one_canon : (D leaf : ℕ) (xs ys : List Item) (r s : Region) (t u : KdTree) → IsPermutation xs ys → Canon D leaf xs r t → Canon D leaf ys s u
+pub one_canon : (D leaf_size : ℕ) (xs ys : List Item) (r s : Region) (t u : KdTree) → IsPermutation xs ys → Canon D leaf_size xs r t → Canon D leaf_size ys s u
     → (r ≡ s) × (t ≡ u)
-one_canon D leaf xs ys r s t u p a b =
+one_canon D leaf_size xs ys r s t u p a b =
     let between : IsPermutation (entries_of t) (entries_of u) =
     IsPermutation-trans (entries_of t) xs (entries_of u) (IsPermutation-sym xs (entries_of t) a.same) (IsPermutation-trans xs ys (entries_of u) p b.same) in
-    (one_root xs ys r s p a.cell b.cell, one_tree D leaf t u a.canon b.canon between)
+    (one_root xs ys r s p a.cell b.cell, one_tree D leaf_size t u a.canon b.canon between)
   where
     one_root : (xs ys : List Item) (r s : Region) → IsPermutation xs ys → IsLeastCell (map (λ (x : Item). x.at) xs) r
         → IsLeastCell (map (λ (x : Item). x.at) ys) s → r ≡ s

@@ -33,39 +33,39 @@ abbrev pub index_tree_of : ℕ → KdTree → IndexTree
 index_tree_of D (Leaf items own) = IndexLeaf (length (spelling D items)) own
 index_tree_of D (Split d x l r) = IndexSplit d x (index_tree_of D l) (index_tree_of D r)
 
--- how many leaves so many entries fill: ceil(count / leaf)
-abbrev pub leaves_for : (leaf count : ℕ) → ℕ
-leaves_for leaf count = count / leaf + min 1 (count % leaf)
+-- how many leaves so many entries fill: ceil(count / leaf_size)
+abbrev pub leaves_for : (leaf_size count : ℕ) → ℕ
+leaves_for leaf_size count = count / leaf_size + min 1 (count % leaf_size)
 
 -- how many of them go left at an inner node: half of the leaves, where their number is odd one more, and all of them
 -- full
-abbrev pub left_count : (leaf count : ℕ) → ℕ
-left_count leaf count = (leaves_for leaf count - leaves_for leaf count / 2) * leaf
+abbrev pub left_count : (leaf_size count : ℕ) → ℕ
+left_count leaf_size count = (leaves_for leaf_size count - leaves_for leaf_size count / 2) * leaf_size
 
--- a leaf has 1 to `leaf` entries in leaf order, and its own cell is the least round them
-pub record IsCanonLeaf (D leaf : ℕ) (items : List Item) (own : Region) : Type 0 where
-  pub few : length items ≤ leaf
+-- a leaf has 1 to `leaf_size` entries in leaf order, and its own cell is the least round them
+pub record IsCanonLeaf (D leaf_size : ℕ) (items : List Item) (own : Region) : Type 0 where
+  pub few : length items ≤ leaf_size
   pub entries : AreLeaf D items
   pub cell : IsLeastCell (map (λ x. x.at) items) own
 
 -- an inner node has more entries than a leaf, and is split in their widest dimension: the first entries in its order
 -- go left, and it is split at the least coordinate of the right ones
-pub record IsCanonSplit (D leaf d : ℕ) (at : ℤ) (ls rs : List Item) : Type 0 where
-  pub many : leaf < length (ls ++ rs)
+pub record IsCanonSplit (D leaf_size d : ℕ) (at : ℤ) (ls rs : List Item) : Type 0 where
+  pub many : leaf_size < length (ls ++ rs)
   pub widest : IsWidest D d (ls ++ rs)
-  pub rank : length ls ≡ left_count leaf (length (ls ++ rs))
+  pub rank : length ls ≡ left_count leaf_size (length (ls ++ rs))
   pub apart : AllComeBefore (leaf_cmp d) ls rs
   pub value : IsLeast d at rs
 
 -- each leaf and each inner node is so
-abbrev pub IsCanon : (D leaf : ℕ) → KdTree → Type 0
-IsCanon D leaf (Leaf items own) = IsCanonLeaf D leaf items own
-IsCanon D leaf (Split d x l r) = IsCanonSplit D leaf d x (entries_of l) (entries_of r) × IsCanon D leaf l
-    × IsCanon D leaf r
+abbrev pub IsCanon : (D leaf_size : ℕ) → KdTree → Type 0
+IsCanon D leaf_size (Leaf items own) = IsCanonLeaf D leaf_size items own
+IsCanon D leaf_size (Split d x l r) = IsCanonSplit D leaf_size d x (entries_of l) (entries_of r) × IsCanon D leaf_size l
+    × IsCanon D leaf_size r
 
 -- The tree is the canonical one of these entries, with this root cell. They have one only (`one_canonical_tree`).
-pub record Canon (D leaf : ℕ) (items : List Item) (root : Region) (t : KdTree) : Type 0 where
-  pub canon : IsCanon D leaf t
+pub record Canon (D leaf_size : ℕ) (items : List Item) (root : Region) (t : KdTree) : Type 0 where
+  pub canon : IsCanon D leaf_size t
   pub same : IsPermutation items (entries_of t)
   pub cell : IsLeastCell (map (λ x. x.at) items) root
 
@@ -76,10 +76,10 @@ pub record BuiltValue : Type 0 where
 
 -- It is built of these entries: the index of their canonical tree in form 3, and the spellings of its leaves. There
 -- is one such value only (`one_build`).
-pub record IsBuilt (D leaf : ℕ) (items : List Item) (b : BuiltValue) : Type 0 where
+pub record IsBuilt (D leaf_size : ℕ) (items : List Item) (b : BuiltValue) : Type 0 where
   pub tree : KdTree
   pub root : Region
-  pub canon : Canon D leaf items root tree
+  pub canon : Canon D leaf_size items root tree
   pub form : b.index.form ≡ 3
   pub index : HasTree D b.index root (index_tree_of D tree)
   pub leaves : b.leaves ≡ map (spelling D) (leaves_of tree)

@@ -67,14 +67,14 @@ held_pieces part = record {
 }
 
 -- the pieces of a canonical tree of the items came behind those that were there
-pub record AddsPieces (D leaf : ℕ) (items : List Item) (before after : Pieces) : Type 0 where
+pub record AddsPieces (D leaf_size : ℕ) (items : List Item) (before after : Pieces) : Type 0 where
   pub tree : KdTree
-  pub canon : IsCanon D leaf tree
+  pub canon : IsCanon D leaf_size tree
   pub same : IsPermutation items (entries_of tree)
   pub is : after ≡ joined_pieces before (pieces_of D tree)
 
 -- the pieces of a canonical tree of the first items came behind those that were there, and then those of the others
-pub record AddsBoth (D leaf : ℕ) (firsts others : List Item) (before after : Pieces) : Type 0 where
+pub record AddsBoth (D leaf_size : ℕ) (firsts others : List Item) (before after : Pieces) : Type 0 where
   pub middle : Pieces
-  pub left : AddsPieces D leaf firsts before middle
-  pub right : AddsPieces D leaf others middle after
+  pub left : AddsPieces D leaf_size firsts before middle
+  pub right : AddsPieces D leaf_size others middle after

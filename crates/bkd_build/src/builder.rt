@@ -61,7 +61,7 @@ impl<const D: usize> Built<D> {
     }
 }
 
-/// Builds the canonical tree of the entries with leaves of `leaf` entries (the greatest is
+/// Builds the canonical tree of the entries with leaves of `leaf_size` entries (the greatest is
 /// `leaf_codec::greatest_leaf`). The
 /// slice holds the same entries in some order afterwards, also where memory is wanting.
 ///
@@ -72,7 +72,7 @@ pub fn build<const D: usize, R: Threads + Sync, G: Gate>(
     rt: &R,
     alloc: Global,
     entries: &mut [Entry<D>],
-    leaf: u16,
+    leaf_size: u16,
     forks: u8,
     gate: &G,
 ) -> Result<Built<D>, Memory>
@@ -81,13 +81,13 @@ pub fn build<const D: usize, R: Threads + Sync, G: Gate>(
     requires few { length entries.old ≤ 2 ^ 24 }
     requires numbers { All (λ e. e.doc < 2 ^ 24) entries.old }
     requires once { NoneTwice (items_of entries.old) }
-    requires least_leaf { 2 ≤ leaf }
-    requires greatest_leaf { leaf ≤ leaf_limit D }
+    requires least_leaf { 2 ≤ leaf_size }
+    requires greatest_leaf { leaf_size ≤ leaf_limit D }
     ensures same { IsPermutation entries.old entries.new }
-    ensures built { IfOk result (λ b. IsBuilt D leaf (items_of entries.old) b) }
+    ensures built { IfOk result (λ b. IsBuilt D leaf_size (items_of entries.old) b) }
 {
     let root = cell_round(entries);
-    let part = build_part(rt, alloc, entries, &root, leaf as usize, forks, gate)?;
+    let part = build_part(rt, alloc, entries, &root, leaf_size as usize, forks, gate)?;
     let BuiltSubtree {
         nodes,
         lengths,

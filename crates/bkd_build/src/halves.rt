@@ -22,22 +22,26 @@ pub struct Halving<const D: usize> {
 
 /// Puts the entries of the left half of an inner node in front, and those of the right half behind them. All of them
 /// lie in the cell. Takes no memory.
-pub fn halve<const D: usize>(entries: &mut [Entry<D>], cell: &Cell<D>, leaf: usize) -> Halving<D>
+pub fn halve<const D: usize>(
+    entries: &mut [Entry<D>],
+    cell: &Cell<D>,
+    leaf_size: usize,
+) -> Halving<D>
     requires dims { (1 ≤ D) × (D ≤ 8) }
-    requires leaf { 1 ≤ leaf }
-    requires many { leaf < length entries.old }
+    requires leaf_size { 1 ≤ leaf_size }
+    requires many { leaf_size < length entries.old }
     requires entries { AreEntriesIn (region_of cell.now) entries.old }
     ensures same { IsPermutation entries.old entries.new }
     ensures lefts { AreEntriesIn (region_of result.low) (take result.rank entries.new) }
     ensures rights { AreEntriesIn (region_of result.high) (drop result.rank entries.new) }
-    ensures split { IsCanonSplit D leaf result.dimension result.at (items_of (take result.rank entries.new))
+    ensures split { IsCanonSplit D leaf_size result.dimension result.at (items_of (take result.rank entries.new))
         (items_of (drop result.rank entries.new)) }
     ensures left { 1 ≤ result.rank }
     ensures right { result.rank < length entries.old }
 {
     let mut round = *cell;
     let dimension = widest(entries, &mut round);
-    let rank = left_count(entries.len(), leaf);
+    let rank = left_count(entries.len(), leaf_size);
     let at = cut(entries, dimension, rank);
     let (low, high) = round.split(dimension, at);
     Halving {
@@ -51,13 +55,13 @@ pub fn halve<const D: usize>(entries: &mut [Entry<D>], cell: &Cell<D>, leaf: usi
 
 /// How many of the entries of an inner node go left: half of the leaves, where their number is odd one more, all of
 /// them full.
-fn left_count(count: usize, leaf: usize) -> usize
-    requires leaf { 1 ≤ leaf }
-    requires many { leaf < count }
-    ensures value { result ≡ left_count leaf count }
+fn left_count(count: usize, leaf_size: usize) -> usize
+    requires leaf_size { 1 ≤ leaf_size }
+    requires many { leaf_size < count }
+    ensures value { result ≡ left_count leaf_size count }
     ensures left { 1 ≤ result }
     ensures right { result < count }
 {
-    let leaves = count.div_ceil(leaf);
-    (leaves - leaves / 2) * leaf
+    let leaves = count.div_ceil(leaf_size);
+    (leaves - leaves / 2) * leaf_size
 }

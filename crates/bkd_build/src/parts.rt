@@ -61,15 +61,15 @@ impl<const D: usize> BuiltSubtree<D> {
         &mut self,
         alloc: Global,
         entries: &mut [Entry<D>],
-        leaf: usize,
+        leaf_size: usize,
     ) -> Result<(), Memory>
         requires dims { (1 ≤ D) × (D ≤ 8) }
         requires entries { AreEntries entries.old }
-        requires leaf { leaf ≤ leaf_limit D }
-        requires few { length entries.old ≤ leaf }
+        requires leaf_size { leaf_size ≤ leaf_limit D }
+        requires few { length entries.old ≤ leaf_size }
         ensures same { IsPermutation entries.old entries.new }
         ensures added { OnOk result
-            (AddsPieces D leaf (items_of entries.old) (held_pieces self.old) (held_pieces self.new)) }
+            (AddsPieces D leaf_size (items_of entries.old) (held_pieces self.old) (held_pieces self.new)) }
     {
         let bytes = encode_entries(alloc, entries)?;
         let cell = cell_round(entries);

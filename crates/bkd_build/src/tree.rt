@@ -24,23 +24,23 @@ fn grow<const D: usize>(
     alloc: Global,
     entries: &mut [Entry<D>],
     cell: &Cell<D>,
-    leaf: usize,
+    leaf_size: usize,
     part: &mut BuiltSubtree<D>,
 ) -> Result<(), Memory>
     requires dims { (1 ≤ D) × (D ≤ 8) }
-    requires leaf { (1 ≤ leaf) × (leaf ≤ leaf_limit D) }
+    requires leaf_size { (1 ≤ leaf_size) × (leaf_size ≤ leaf_limit D) }
     requires entries { AreEntriesIn (region_of cell.now) entries.old }
     ensures same { IsPermutation entries.old entries.new }
     ensures added { OnOk result
-        (AddsPieces D leaf (items_of entries.old) (held_pieces part.old) (held_pieces part.new)) }
+        (AddsPieces D leaf_size (items_of entries.old) (held_pieces part.old) (held_pieces part.new)) }
 {
-    if entries.len() <= leaf {
-        return part.push_leaf(alloc, entries, leaf);
+    if entries.len() <= leaf_size {
+        return part.push_leaf(alloc, entries, leaf_size);
     }
-    let node = halve(entries, cell, leaf);
+    let node = halve(entries, cell, leaf_size);
     part.push_node(&node)?;
     let (left, right) = entries.split_at_mut(node.rank);
-    grow_halves(alloc, left, right, &node, leaf, part)?;
+    grow_halves(alloc, left, right, &node, leaf_size, part)?;
     Ok(())
 }
 
@@ -51,20 +51,20 @@ fn grow_halves<const D: usize>(
     left: &mut [Entry<D>],
     right: &mut [Entry<D>],
     node: &Halving<D>,
-    leaf: usize,
+    leaf_size: usize,
     part: &mut BuiltSubtree<D>,
 ) -> Result<(), Memory>
     requires dims { (1 ≤ D) × (D ≤ 8) }
-    requires leaf { (1 ≤ leaf) × (leaf ≤ leaf_limit D) }
+    requires leaf_size { (1 ≤ leaf_size) × (leaf_size ≤ leaf_limit D) }
     requires left { AreEntriesIn (region_of node.now.low) left.old }
     requires right { AreEntriesIn (region_of node.now.high) right.old }
     ensures left_same { IsPermutation left.old left.new }
     ensures right_same { IsPermutation right.old right.new }
     ensures added { OnOk result
-        (AddsBoth D leaf (items_of left.old) (items_of right.old) (held_pieces part.old) (held_pieces part.new)) }
+        (AddsBoth D leaf_size (items_of left.old) (items_of right.old) (held_pieces part.old) (held_pieces part.new)) }
 {
-    grow(alloc, left, &node.low, leaf, part)?;
-    grow(alloc, right, &node.high, leaf, part)?;
+    grow(alloc, left, &node.low, leaf_size, part)?;
+    grow(alloc, right, &node.high, leaf_size, part)?;
     Ok(())
 }
 
@@ -73,16 +73,16 @@ fn grown<const D: usize>(
     alloc: Global,
     entries: &mut [Entry<D>],
     cell: &Cell<D>,
-    leaf: usize,
+    leaf_size: usize,
 ) -> Result<BuiltSubtree<D>, Memory>
     requires dims { (1 ≤ D) × (D ≤ 8) }
-    requires leaf { (1 ≤ leaf) × (leaf ≤ leaf_limit D) }
+    requires leaf_size { (1 ≤ leaf_size) × (leaf_size ≤ leaf_limit D) }
     requires entries { AreEntriesIn (region_of cell.now) entries.old }
     ensures same { IsPermutation entries.old entries.new }
-    ensures built { IfOk result (λ part. AddsPieces D leaf (items_of entries.old) no_pieces (held_pieces part)) }
+    ensures built { IfOk result (λ part. AddsPieces D leaf_size (items_of entries.old) no_pieces (held_pieces part)) }
 {
-    let mut part = BuiltSubtree::with_room(alloc, entries.len().div_ceil(leaf))?;
-    grow(alloc, entries, cell, leaf, &mut part)?;
+    let mut part = BuiltSubtree::with_room(alloc, entries.len().div_ceil(leaf_size))?;
+    grow(alloc, entries, cell, leaf_size, &mut part)?;
     Ok(part)
 }
 
@@ -113,22 +113,22 @@ pub(crate) fn build_part<const D: usize, R: Threads + Sync, G: Gate>(
     alloc: Global,
     entries: &mut [Entry<D>],
     cell: &Cell<D>,
-    leaf: usize,
+    leaf_size: usize,
     forks: u8,
     gate: &G,
 ) -> Result<BuiltSubtree<D>, Memory>
     requires dims { (1 ≤ D) × (D ≤ 8) }
-    requires leaf { (1 ≤ leaf) × (leaf ≤ leaf_limit D) }
+    requires leaf_size { (1 ≤ leaf_size) × (leaf_size ≤ leaf_limit D) }
     requires entries { AreEntriesIn (region_of cell.now) entries.old }
     ensures same { IsPermutation entries.old entries.new }
-    ensures built { IfOk result (λ part. AddsPieces D leaf (items_of entries.old) no_pieces (held_pieces part)) }
+    ensures built { IfOk result (λ part. AddsPieces D leaf_size (items_of entries.old) no_pieces (held_pieces part)) }
 {
-    if forks == 0 || entries.len() <= leaf {
-        return grown(alloc, entries, cell, leaf);
+    if forks == 0 || entries.len() <= leaf_size {
+        return grown(alloc, entries, cell, leaf_size);
     }
-    let node = halve(entries, cell, leaf);
+    let node = halve(entries, cell, leaf_size);
     let (left, right) = entries.split_at_mut(node.rank);
-    let (first, second) = both(rt, alloc, left, right, &node, leaf, forks, gate);
+    let (first, second) = both(rt, alloc, left, right, &node, leaf_size, forks, gate);
     let first = first?;
     let second = second?;
     let part = over(alloc, &node, first, second)?;
@@ -143,7 +143,7 @@ fn both<const D: usize, R: Threads + Sync, G: Gate>(
     left: &mut [Entry<D>],
     right: &mut [Entry<D>],
     node: &Halving<D>,
-    leaf: usize,
+    leaf_size: usize,
     forks: u8,
     gate: &G,
 ) -> (
@@ -151,33 +151,38 @@ fn both<const D: usize, R: Threads + Sync, G: Gate>(
     Result<BuiltSubtree<D>, Memory>,
 )
     requires dims { (1 ≤ D) × (D ≤ 8) }
-    requires leaf { (1 ≤ leaf) × (leaf ≤ leaf_limit D) }
+    requires leaf_size { (1 ≤ leaf_size) × (leaf_size ≤ leaf_limit D) }
     requires forks { 0 < forks }
     requires left { AreEntriesIn (region_of node.now.low) left.old }
     requires right { AreEntriesIn (region_of node.now.high) right.old }
     ensures left_same { IsPermutation left.old left.new }
     ensures right_same { IsPermutation right.old right.new }
-    ensures left_built { IfOk result.0 (λ part. AddsPieces D leaf (items_of left.old) no_pieces (held_pieces part)) }
-    ensures right_built { IfOk result.1 (λ part. AddsPieces D leaf (items_of right.old) no_pieces (held_pieces part)) }
+    ensures left_built { IfOk result.0
+        (λ part. AddsPieces D leaf_size (items_of left.old) no_pieces (held_pieces part)) }
+    ensures right_built { IfOk result.1
+        (λ part. AddsPieces D leaf_size (items_of right.old) no_pieces (held_pieces part)) }
 {
     let mut first = || -> Result<BuiltSubtree<D>, Memory>
-        requires { IsSync R.row × IsSync G.row × (0 < forks) × (1 ≤ D) × (D ≤ 8) × (1 ≤ leaf) × (leaf ≤ leaf_limit D)
+        requires { IsSync R.row × IsSync G.row × (0 < forks) × (1 ≤ D) × (D ≤ 8) × (1 ≤ leaf_size)
+            × (leaf_size ≤ leaf_limit D)
             × AreEntriesIn (region_of node.now.low) left.now }
         ensures same { IsPermutation left.entry.now left.exit.now }
-        ensures built { IfOk result (λ part. AddsPieces D leaf (items_of left.entry.now) no_pieces (held_pieces part)) }
+        ensures built { IfOk result
+            (λ part. AddsPieces D leaf_size (items_of left.entry.now) no_pieces (held_pieces part)) }
     {
         gate.pass(0);
-        build_part(rt, alloc, left, &node.low, leaf, forks - 1, gate)
+        build_part(rt, alloc, left, &node.low, leaf_size, forks - 1, gate)
     };
     let mut second = || -> Result<BuiltSubtree<D>, Memory>
-        requires { IsSync R.row × IsSync G.row × (0 < forks) × (1 ≤ D) × (D ≤ 8) × (1 ≤ leaf) × (leaf ≤ leaf_limit D)
+        requires { IsSync R.row × IsSync G.row × (0 < forks) × (1 ≤ D) × (D ≤ 8) × (1 ≤ leaf_size)
+            × (leaf_size ≤ leaf_limit D)
             × AreEntriesIn (region_of node.now.high) right.now }
         ensures same { IsPermutation right.entry.now right.exit.now }
         ensures built { IfOk result
-            (λ part. AddsPieces D leaf (items_of right.entry.now) no_pieces (held_pieces part)) }
+            (λ part. AddsPieces D leaf_size (items_of right.entry.now) no_pieces (held_pieces part)) }
     {
         gate.pass(1);
-        build_part(rt, alloc, right, &node.high, leaf, forks - 1, gate)
+        build_part(rt, alloc, right, &node.high, leaf_size, forks - 1, gate)
     };
     join_mut(rt, &mut first, &mut second)
 }

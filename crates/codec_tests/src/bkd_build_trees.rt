@@ -116,11 +116,23 @@ fn drawn(alloc: Global, count: u32) -> Result<Vec<Entry<2>>, Memory>
 }
 
 /// What is built of the drawn entries.
-fn built<R: Threads + Sync>(rt: &R, alloc: Global, leaf: u16, forks: u8) -> Result<Built<2>, Memory>
-    requires { (2 ≤ leaf) × (leaf ≤ 333) }
+fn built<R: Threads + Sync>(
+    rt: &R,
+    alloc: Global,
+    leaf_size: u16,
+    forks: u8,
+) -> Result<Built<2>, Memory>
+    requires { (2 ≤ leaf_size) × (leaf_size ≤ 333) }
 {
     let mut entries = drawn(alloc, DRAWN)?;
-    build(rt, alloc, entries.as_mut_slice(), leaf, forks, &OpenGate)
+    build(
+        rt,
+        alloc,
+        entries.as_mut_slice(),
+        leaf_size,
+        forks,
+        &OpenGate,
+    )
 }
 
 /// Whether the bytes are the same.
@@ -140,23 +152,23 @@ fn are_same(a: &Built<2>, b: &Built<2>) -> bool {
 fn is_built_again<R: Threads + Sync>(
     rt: &R,
     alloc: Global,
-    leaf: u16,
+    leaf_size: u16,
     forks: u8,
     whole: &Built<2>,
 ) -> Result<bool, Memory>
-    requires { (2 ≤ leaf) × (leaf ≤ 333) }
+    requires { (2 ≤ leaf_size) × (leaf_size ≤ 333) }
 {
-    let again = built(rt, alloc, leaf, forks)?;
+    let again = built(rt, alloc, leaf_size, forks)?;
     Ok(are_same(whole, &again))
 }
 
 /// What is built in leaves of this size is built with each number of forks.
-fn forks_leave<R: Threads + Sync + Abort>(rt: &R, alloc: Global, leaf: u16) -> Result<(), Fail>
-    requires { (2 ≤ leaf) × (leaf ≤ 333) }
+fn forks_leave<R: Threads + Sync + Abort>(rt: &R, alloc: Global, leaf_size: u16) -> Result<(), Fail>
+    requires { (2 ≤ leaf_size) × (leaf_size ≤ 333) }
 {
-    let whole = built(rt, alloc, leaf, 0)?;
+    let whole = built(rt, alloc, leaf_size, 0)?;
     for forks in 1..7 {
-        let again = is_built_again(rt, alloc, leaf, forks, &whole)?;
+        let again = is_built_again(rt, alloc, leaf_size, forks, &whole)?;
         holds_at(rt, again, &forks);
     }
     Ok(())

@@ -24,10 +24,10 @@ pub record IsSpelt (bytes : List ℕ) (c : CommitData) : Type 0 where
 fits_head : (layout : Layout) (c : CommitData) → IsCommit c → FitsFields c → SaysGiven layout c.next c.points_given → FitsHead (head_of layout c)
 fits_head layout c p f says =
     let r = p.ranges in
-    let leaf : c.leaf ≤ 4000 / (4 + 4 * c.dims) = r.most_leaf in
+    let leaf_size : c.leaf_size ≤ 4000 / (4 + 4 * c.dims) = r.most_leaf in
     record {
       dims = omega (arith, r.most_dims);
-      leaf = omega (arith, leaf, div-le_self 4000 (4 + 4 * c.dims));
+      leaf_size = omega (arith, leaf_size, div-le_self 4000 (4 + 4 * c.dims));
       next = omega (arith, r.numbered, r.most_given);
       points_given = omega (arith, r.most_given);
       next_segment = f.next_segment;
@@ -52,7 +52,7 @@ one_commit c d bytes p q =
     (fits_listed d.next_segment d.listed q.fits.next_segment q.fits.generations q.commit.segments) (ap (λ (h : Head). h.count) heads.0) heads.1 in
     λ i. record {
       dims = (heads.0 i).dims;
-      leaf = (heads.0 i).leaf;
+      leaf_size = (heads.0 i).leaf_size;
       next = (heads.0 i).next;
       points_given = (heads.0 i).points_given;
       next_segment = (heads.0 i).next_segment;
@@ -92,9 +92,9 @@ begins-head : (bytes : List ℕ) (n : ℕ) (h : Head) (rest : List ℕ) → Fits
 begins-head bytes n h rest fits e b = (heads_unique b.head h b.rest rest b.fits fits (sym b.begins ∙ e)).0
 
 pub begins-ranges : (bytes : List ℕ) (n : ℕ) (h : Head) (rest : List ℕ) → FitsHead h → bytes ≡ spell_head h ++ rest → BeginsBody bytes n
-    → AreInRange h.dims h.leaf h.next h.points_given h.count
+    → AreInRange h.dims h.leaf_size h.next h.points_given h.count
 begins-ranges bytes n h rest fits e b =
-    subst (λ (k : Head). AreInRange k.dims k.leaf k.next k.points_given k.count) (begins-head bytes n h rest fits e b) b.ranges
+    subst (λ (k : Head). AreInRange k.dims k.leaf_size k.next k.points_given k.count) (begins-head bytes n h rest fits e b) b.ranges
 
 -- ---- the fields that bytes spell are those of any commit whose body they are
 
@@ -110,9 +110,9 @@ is_head_of bytes h rest c fits e p =
     record { layout = s.layout; head = same.0; list = same.1 }
 
 pub in_range : (bytes : List ℕ) (h : Head) (rest : List ℕ) (c : CommitData) → FitsHead h → bytes ≡ spell_head h ++ rest → SpellsCommit bytes c
-    → AreInRange h.dims h.leaf h.next h.points_given h.count
+    → AreInRange h.dims h.leaf_size h.next h.points_given h.count
 in_range bytes h rest c fits e p =
-    subst (λ (k : Head). AreInRange k.dims k.leaf k.next k.points_given k.count) (is_head_of bytes h rest c fits e p).head p.commit.ranges
+    subst (λ (k : Head). AreInRange k.dims k.leaf_size k.next k.points_given k.count) (is_head_of bytes h rest c fits e p).head p.commit.ranges
 
 pub list_long : (bytes : List ℕ) (h : Head) (rest : List ℕ) (c : CommitData) → FitsHead h → bytes ≡ spell_head h ++ rest → SpellsCommit bytes c
     → length rest ≡ 24 * h.count
@@ -133,7 +133,7 @@ listed_so bytes h rest listed c fits e l p =
 
 abbrev pub commit_of : Head → List Listed → CommitData
 commit_of h listed =
-    record { dims = h.dims; leaf = h.leaf; next = h.next; points_given = h.points_given; next_segment = h.next_segment; listed = listed }
+    record { dims = h.dims; leaf_size = h.leaf_size; next = h.next; points_given = h.points_given; next_segment = h.next_segment; listed = listed }
 
 spelling_of : (l : Layout) (h : Head) (bytes : List ℕ) (listed : List Listed) → h.layout ≡ l → SaysGiven l h.next h.points_given → length listed ≡ h.count
     → bytes ≡ spell_head h ++ flat_map spell_listed listed → let c = commit_of h listed in
@@ -141,22 +141,38 @@ spelling_of : (l : Layout) (h : Head) (bytes : List ℕ) (listed : List Listed) 
 unfolding commit_body old_commit_body
 spelling_of First h bytes listed l says long e =
     let same : h ≡ head_of First (commit_of h listed) = λ i.
-    record { layout = l i; dims = h.dims; leaf = h.leaf; next = h.next; points_given = h.points_given; next_segment = h.next_segment; count = (sym long) i } in
+    record {
+        layout = l i;
+        dims = h.dims;
+        leaf_size = h.leaf_size;
+        next = h.next;
+        points_given = h.points_given;
+        next_segment = h.next_segment;
+        count = (sym long) i;
+    } in
     inr (says, e ∙ ap (λ (k : Head). spell_head k ++ flat_map spell_listed listed) same)
 spelling_of Second h bytes listed l says long e =
     let same : h ≡ head_of Second (commit_of h listed) = λ i.
-    record { layout = l i; dims = h.dims; leaf = h.leaf; next = h.next; points_given = h.points_given; next_segment = h.next_segment; count = (sym long) i } in
+    record {
+        layout = l i;
+        dims = h.dims;
+        leaf_size = h.leaf_size;
+        next = h.next;
+        points_given = h.points_given;
+        next_segment = h.next_segment;
+        count = (sym long) i;
+    } in
     inl (e ∙ ap (λ (k : Head). spell_head k ++ flat_map spell_listed listed) same)
 
-pub may_stand : (h : Head) (rest : List ℕ) (listed : List Listed) → AreInRange h.dims h.leaf h.next h.points_given h.count → SpellsList rest h.count listed
+pub may_stand : (h : Head) (rest : List ℕ) (listed : List Listed) → AreInRange h.dims h.leaf_size h.next h.points_given h.count → SpellsList rest h.count listed
     → AreListed h.next_segment listed → IsCommit (commit_of h listed)
 may_stand h rest listed ranges l are = record {
-  ranges = subst (λ (n : ℕ). AreInRange h.dims h.leaf h.next h.points_given n) (sym l.long) ranges;
+  ranges = subst (λ (n : ℕ). AreInRange h.dims h.leaf_size h.next h.points_given n) (sym l.long) ranges;
   segments = are;
 }
 
 pub spells_so : (bytes : List ℕ) (h : Head) (rest : List ℕ) (listed : List Listed) → FitsHead h → bytes ≡ spell_head h ++ rest
-    → AreInRange h.dims h.leaf h.next h.points_given h.count → SpellsList rest h.count listed → AreListed h.next_segment listed
+    → AreInRange h.dims h.leaf_size h.next h.points_given h.count → SpellsList rest h.count listed → AreListed h.next_segment listed
     → SpellsCommit bytes (commit_of h listed)
 spells_so bytes h rest listed fits e ranges l are = record {
   commit = may_stand h rest listed ranges l are;

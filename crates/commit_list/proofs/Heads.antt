@@ -12,7 +12,7 @@ use Rattle.commit_list.specs.Layout.{magic, spell_given, spell_numbers, spell_he
 -- ---- the parts of a head
 
 pub numbers-parts : (h : Head) (rest : List ℕ) → spell_numbers h ++ rest
-    ≡ h.dims ∷ (to_be_bytes w16 h.leaf
+    ≡ h.dims ∷ (to_be_bytes w16 h.leaf_size
     ++ (to_be_bytes w32 h.next ++ (spell_given h.layout h.points_given ++ (to_be_bytes w64 h.next_segment ++ (to_be_bytes w16 h.count ++ rest)))))
 unfolding spell_numbers
 numbers-parts h rest = simp append_assoc
@@ -60,8 +60,8 @@ first_byte a b x y e = (cc, cc)
 numbers_unique : (g h : Head) (x y : List ℕ) → FitsHead g → FitsHead h → g.layout ≡ h.layout → spell_numbers g ++ x ≡ spell_numbers h ++ y → (g ≡ h) × (x ≡ y)
 numbers_unique g h x y p q l e =
     let dims = first_byte g.dims h.dims _ _ (sym (numbers-parts g x) ∙ e ∙ numbers-parts h y) in
-    let leaf = spelling_unique w16 g.leaf h.leaf _ _ p.leaf q.leaf dims.1 in
-    let next = spelling_unique w32 g.next h.next _ _ p.next q.next leaf.1 in
+    let leaf_size = spelling_unique w16 g.leaf_size h.leaf_size _ _ p.leaf_size q.leaf_size dims.1 in
+    let next = spelling_unique w32 g.next h.next _ _ p.next q.next leaf_size.1 in
     let says : SaysGiven h.layout h.next g.points_given =
     subst (λ (k : ℕ). SaysGiven h.layout k g.points_given) next.0 (subst (λ (k : Layout). SaysGiven k g.next g.points_given) l p.says_given) in
     let same : spell_given h.layout g.points_given ++ (to_be_bytes w64 g.next_segment ++ (to_be_bytes w16 g.count ++ x))
@@ -73,7 +73,7 @@ numbers_unique g h x y p q l e =
     (λ i. record {
       layout = l i;
       dims = dims.0 i;
-      leaf = leaf.0 i;
+      leaf_size = leaf_size.0 i;
       next = next.0 i;
       points_given = points_given.0 i;
       next_segment = segment.0 i;

@@ -6,7 +6,7 @@ use Rattle.commit_list.specs.declared.listed.Listed.{Listed}
 -- the numbers of a commit
 pub record CommitData : Type 0 where
   pub dims : ℕ
-  pub leaf : ℕ
+  pub leaf_size : ℕ
   pub next : ℕ
   pub points_given : ℕ
   pub next_segment : ℕ
@@ -19,11 +19,11 @@ ids_of listed = map (λ s. s.segment) listed
 -- the ranges of the single numbers: a leaf of points of so many dimensions has at most 4,000 bytes, of which each
 -- entry takes 4 for its number and 4 for each coordinate; there are at most 16,777,216 points, and each document has
 -- one; at most 200 segments
-pub record AreInRange (dims leaf next points_given count : ℕ) : Type 0 where
+pub record AreInRange (dims leaf_size next points_given count : ℕ) : Type 0 where
   pub some_dims : 1 ≤ dims
   pub most_dims : dims ≤ 8
-  pub least_leaf : 2 ≤ leaf
-  pub most_leaf : leaf ≤ 4000 / (4 + 4 * dims)
+  pub least_leaf : 2 ≤ leaf_size
+  pub most_leaf : leaf_size ≤ 4000 / (4 + 4 * dims)
   pub numbered : next ≤ points_given
   pub most_given : points_given ≤ 16777216
   pub few : count ≤ 200
@@ -42,7 +42,7 @@ pub record AreListed (next_segment : ℕ) (listed : List Listed) : Type 0 where
 
 -- the numbers may stand in a commit
 pub record IsCommit (c : CommitData) : Type 0 where
-  pub ranges : AreInRange c.dims c.leaf c.next c.points_given (length c.listed)
+  pub ranges : AreInRange c.dims c.leaf_size c.next c.points_given (length c.listed)
   pub segments : AreListed c.next_segment c.listed
 
 -- the numbers that no rule bounds are below 2^64, as their fields hold no more

@@ -21,7 +21,7 @@ spell_given Second points_given = to_be_bytes w32 points_given
 -- the numbers in front of the list
 unfoldable pub spell_numbers : Head → List ℕ
 spell_numbers h =
-    h.dims ∷ (to_be_bytes w16 h.leaf ++
+    h.dims ∷ (to_be_bytes w16 h.leaf_size ++
     (to_be_bytes w32 h.next ++
     (spell_given h.layout h.points_given ++ (to_be_bytes w64 h.next_segment ++ to_be_bytes w16 h.count))))
 
@@ -40,7 +40,7 @@ head_of layout c =
     record {
       layout = layout;
       dims = c.dims;
-      leaf = c.leaf;
+      leaf_size = c.leaf_size;
       next = c.next;
       points_given = c.points_given;
       next_segment
@@ -82,7 +82,7 @@ SaysGiven Second next points_given = Unit {0}
 -- the numbers fit their fields
 pub record FitsHead (h : Head) : Type 0 where
   pub dims : h.dims < 2 ^ 8
-  pub leaf : h.leaf < 2 ^ 16
+  pub leaf_size : h.leaf_size < 2 ^ 16
   pub next : h.next < 2 ^ 32
   pub points_given : h.points_given < 2 ^ 32
   pub next_segment : h.next_segment < 2 ^ 64
@@ -95,7 +95,7 @@ pub record BeginsBody (bytes : List ℕ) (n : ℕ) : Type 0 where
   pub rest : List ℕ
   pub begins : bytes ≡ spell_head head ++ rest
   pub fits : FitsHead head
-  pub ranges : AreInRange head.dims head.leaf head.next head.points_given head.count
+  pub ranges : AreInRange head.dims head.leaf_size head.next head.points_given head.count
   pub long : n ≡ head_length head.layout + 24 * head.count
 
 -- the bytes are the body of no commit

@@ -7,7 +7,7 @@ abbrev pub commit_data : Inside → CommitData
 commit_data c =
     record {
       dims = c.dims;
-      leaf = c.leaf;
+      leaf_size = c.leaf_size;
       next = c.next;
       points_given = c.points_given;
       next_segment = c.next_segment;

@@ -14,7 +14,7 @@ use std::marker::Model;
 #[derive(Debug, Drop)]
 pub struct Commit {
     dims: u8,
-    leaf: u16,
+    leaf_size: u16,
     next: u32,
     points_given: u32,
     next_segment: u64,
@@ -37,7 +37,7 @@ impl Commit {
     /// The commit of these numbers. Takes no memory.
     pub fn new(
         dims: u8,
-        leaf: u16,
+        leaf_size: u16,
         next: u32,
         points_given: u32,
         next_segment: u64,
@@ -46,7 +46,7 @@ impl Commit {
         requires { IsCommit
             (record {
               dims = dims;
-              leaf = leaf;
+              leaf_size = leaf_size;
               next = next;
               points_given = points_given;
               next_segment = next_segment;
@@ -55,7 +55,7 @@ impl Commit {
             }) }
         ensures { result ≡ record {
           dims = dims;
-          leaf = leaf;
+          leaf_size = leaf_size;
           next = next;
           points_given = points_given;
           next_segment = next_segment;
@@ -64,7 +64,7 @@ impl Commit {
     {
         Commit {
             dims,
-            leaf,
+            leaf_size,
             next,
             points_given,
             next_segment,
@@ -81,11 +81,11 @@ impl Commit {
     }
 
     /// The greatest number of entries of a leaf.
-    pub fn leaf(&self) -> u16
-        ensures value { result ≡ self.now.leaf }
+    pub fn leaf_size(&self) -> u16
+        ensures value { result ≡ self.now.leaf_size }
         ensures commit { IsCommit self.now }
     {
-        self.leaf
+        self.leaf_size
     }
 
     /// The number of the next document, which is at most the number of points given.

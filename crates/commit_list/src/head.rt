@@ -34,7 +34,7 @@ pub(crate) enum Layout {
 pub(crate) struct Head {
     pub(crate) layout: Layout,
     pub(crate) dims: u8,
-    pub(crate) leaf: u16,
+    pub(crate) leaf_size: u16,
     pub(crate) next: u32,
     pub(crate) points_given: u32,
     pub(crate) next_segment: u64,
@@ -46,7 +46,7 @@ impl Head {
     /// Whether the numbers are in range.
     pub(crate) fn is_in_range(&self) -> bool
         ensures { IsTrue result ↔
-            AreInRange self.now.dims self.now.leaf self.now.next self.now.points_given self.now.count }
+            AreInRange self.now.dims self.now.leaf_size self.now.next self.now.points_given self.now.count }
     {
         if self.dims == 0 {
             return false;
@@ -54,10 +54,10 @@ impl Head {
         if self.dims > 8 {
             return false;
         }
-        if self.leaf < 2 {
+        if self.leaf_size < 2 {
             return false;
         }
-        if self.leaf > 4000 / (4 + 4 * u16::from(self.dims)) {
+        if self.leaf_size > 4000 / (4 + 4 * u16::from(self.dims)) {
             return false;
         }
         if self.next > self.points_given {
@@ -126,7 +126,7 @@ fn take_numbers(cursor: &mut Cursor<'_>, layout: Layout) -> Option<Head>
     ensures short { IfNone result (length (cursor_rest cursor.old) < 17 + given_length layout) }
 {
     let dims = cursor.take_u8().ok()?;
-    let leaf = cursor.take_u16().ok()?;
+    let leaf_size = cursor.take_u16().ok()?;
     let next = cursor.take_u32().ok()?;
     let points_given = take_given(cursor, layout, next)?;
     let next_segment = cursor.take_u64().ok()?;
@@ -134,7 +134,7 @@ fn take_numbers(cursor: &mut Cursor<'_>, layout: Layout) -> Option<Head>
     Some(Head {
         layout,
         dims,
-        leaf,
+        leaf_size,
         next,
         points_given,
         next_segment,

@@ -40,7 +40,7 @@ pub fn decode(alloc: Global, bytes: &[u8]) -> Result<Option<Commit>, Memory>
     }
     Ok(Some(Commit::new(
         head.dims,
-        head.leaf,
+        head.leaf_size,
         head.next,
         head.points_given,
         head.next_segment,

@@ -25,7 +25,7 @@ pub fn encode_commit(alloc: Global, c: &Commit) -> Result<Bytes, Memory>
     let head = Head {
         layout: Layout::Second,
         dims: c.dims(),
-        leaf: c.leaf(),
+        leaf_size: c.leaf_size(),
         next: c.next(),
         points_given: c.points_given(),
         next_segment: c.next_segment(),
@@ -45,7 +45,7 @@ fn put_head(out: &mut Vec<u8>, head: Head) -> Result<(), Memory>
 {
     put_slice(out, SECOND)?;
     put_u8(out, head.dims)?;
-    put_u16(out, head.leaf)?;
+    put_u16(out, head.leaf_size)?;
     put_u32(out, head.next)?;
     put_u32(out, head.points_given)?;
     put_u64(out, head.next_segment)?;

@@ -61,7 +61,7 @@ fn one_commit(rt: HostRuntime) -> Result<(), Fail> {
         &rt,
         (
             c.dims(),
-            c.leaf(),
+            c.leaf_size(),
             c.next(),
             c.points_given(),
             c.next_segment(),

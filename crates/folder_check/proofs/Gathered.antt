@@ -23,7 +23,7 @@ pub record HoldsBut (files : Files) (c : CommitData) (s : Listed) (d : SegmentDa
   pub segment : IsSegment c.dims (bytes_of (files (Segment s.segment))) d.head d.entries
   pub live : IsLiveFile s.segment s.generation (bytes_of (files (Live s.segment s.generation))) d.live
   pub id : d.head.id ≡ s.segment
-  pub leaf_size : d.head.leaf ≡ c.leaf
+  pub leaf_size : d.head.leaf_size ≡ c.leaf_size
   pub count : d.head.entries ≡ s.entries
   pub live_count : length d.live.live ≡ s.live
 

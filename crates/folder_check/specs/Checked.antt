@@ -19,7 +19,7 @@ none_text = codes "no index\n"
 -- of an index of this commit with so many live documents
 unfoldable pub ok_text : CommitData → (live : ℕ) → List ℕ
 ok_text c live =
-    codes "ok dims " ++ decimal c.dims ++ codes " leaf " ++ decimal c.leaf ++ codes " next " ++ decimal c.next
+    codes "ok dims " ++ decimal c.dims ++ codes " leaf " ++ decimal c.leaf_size ++ codes " next " ++ decimal c.next
     ++ codes " live " ++ decimal live ++ codes " segments " ++ decimal (length c.listed) ++ codes "\n"
 
 -- The files hold this index, and it is told of it.

@@ -23,7 +23,7 @@ pub(crate) fn ok_line(alloc: Global, c: &Commit, live: u64) -> Result<Vec<u8>, A
 {
     let mut line = Vec::new(alloc);
     put_number(&mut line, b"ok dims ", u64::from(c.dims()))?;
-    put_number(&mut line, b" leaf ", u64::from(c.leaf()))?;
+    put_number(&mut line, b" leaf ", u64::from(c.leaf_size()))?;
     put_number(&mut line, b" next ", u64::from(c.next()))?;
     put_number(&mut line, b" live ", live)?;
     put_number(&mut line, b" segments ", c.listed().len() as u64)?;

@@ -39,11 +39,11 @@ pub record IsCreated (seed : ℕ) (a : SessionMoment) : Type 0 where
   pub made : IsDrawn seed 0 0 a
   pub bare : a.session.set.parts ≡ []
 
-pub created : (seed leaf : ℕ) (files : Files) (s : SessionData) (faults : ℕ) → leaf ≡ 333 → kept_docs 0 (documents seed 0) ≡ documents seed 0
+pub created : (seed leaf_size : ℕ) (files : Files) (s : SessionData) (faults : ℕ) → leaf_size ≡ 333 → kept_docs 0 (documents seed 0) ≡ documents seed 0
     → documents seed 0 ≡ []
-    → files Commit ≡ None → Sees 2 files s.set (new_index 2 leaf)
+    → files Commit ≡ None → Sees 2 files s.set (new_index 2 leaf_size)
     → Guards 2 files s → s.set.parts ≡ [] → IsCreated seed (record { files = files; session = s; faults = faults })
-created seed leaf files s faults is all empty none seen guards bare = record {
+created seed leaf_size files s faults is all empty none seen guards bare = record {
   none = none;
   guards = guards;
   made = subst (Sees 2 files s.set)

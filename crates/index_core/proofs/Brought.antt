@@ -73,7 +73,7 @@ brings_commit D f g s c of lives others says guards traced = record {
       let is = one_file (bytes_of (f Commit)) b h.commit before h.says in
       record {
         dims = ap (λ (d : CommitData). d.dims) is ∙ h.dims ∙ sym of.dims;
-        leaf = ap (λ (d : CommitData). d.leaf) is ∙ h.leaf ∙ sym of.leaf;
+        leaf_size = ap (λ (d : CommitData). d.leaf_size) is ∙ h.leaf_size ∙ sym of.leaf_size;
         next = omega (arith, ap (λ (d : CommitData). d.next) is, h.next, of.next);
         points_given = omega (arith, ap (λ (d : CommitData). d.points_given) is, h.points_given, of.points_given);
       })
@@ -199,7 +199,7 @@ keeps_then_brings f g h first then = record {
       let two = then.later brings.commit brings.says in
       record {
         dims = one.dims ∙ two.dims;
-        leaf = one.leaf ∙ two.leaf;
+        leaf_size = one.leaf_size ∙ two.leaf_size;
         next = omega (arith, one.next, two.next);
         points_given = omega (arith, one.points_given, two.points_given);
       })

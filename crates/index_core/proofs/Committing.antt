@@ -95,15 +95,15 @@ commit_anew s t c lines are is fresh kept = record {
 -- ---- a commit since which nothing changed
 
 -- the files of a listed segment hold the part that they cover, where as many numbers are live in it as it is listed with
-holds_part : (D : ℕ) (files : Files) (contents : Contents) (c : CommitData) (l : Listed) (p : LiveSegment) → c.dims ≡ D → p.head.leaf ≡ c.leaf
+holds_part : (D : ℕ) (files : Files) (contents : Contents) (c : CommitData) (l : Listed) (p : LiveSegment) → c.dims ≡ D → p.head.leaf_size ≡ c.leaf_size
     → IsRead D files contents p → IsLiveSet p.live
     → l.segment ≡ p.head.id → length p.live.live ≡ l.live → CoversPart files l p → HoldsFiles files c l (data_of contents p)
-holds_part D files contents c l p dims leaf read set id count covers = record {
+holds_part D files contents c l p dims leaf_size read set id count covers = record {
   segment = subst (λ n. IsSegment n (bytes_of (files (Segment l.segment))) p.head (contents p.head.id)) (sym dims)
       (subst (λ n. IsSegment D (bytes_of (files (Segment n))) p.head (contents p.head.id)) (sym id) read.held);
   live = subst (IsLiveFile l.segment l.generation (bytes_of (files (Live l.segment l.generation)))) (sym same) covers.file;
   id = sym id;
-  leaf_size = leaf;
+  leaf_size = leaf_size;
   count = sym covers.entries;
   live_count = count;
   found = read.found;
@@ -113,18 +113,20 @@ holds_part D files contents c l p dims leaf read set id count covers = record {
     same = same_live p.live covers.live set (live_file_set l.segment l.generation _ covers.live covers.file) covers.covers (count ∙ sym covers.count)
 
 hold_parts : (D : ℕ) (files : Files) (contents : Contents) (c : CommitData) (listed : List Listed) (parts : List LiveSegment) → c.dims ≡ D
-    → All (λ p. p.head.leaf ≡ c.leaf) parts → AreRead D files contents parts
+    → All (λ p. p.head.leaf_size ≡ c.leaf_size) parts → AreRead D files contents parts
     → All (λ p. IsLiveSet p.live) parts → ids_of parts ≡ map (λ l. l.segment) listed → map (λ p. length p.live.live) parts ≡ map (λ l. l.live) listed
     → ((l : Listed) (p : LiveSegment) → Contains listed l → Contains parts p → l.segment ≡ p.head.id → CoversPart files l p)
     → AllZip (HoldsFiles files c) listed (map (data_of contents) parts)
-hold_parts D files contents c [] [] dims leaf read sets ids counts covers = tt
-hold_parts D files contents c [] (p ∷ ps) dims leaf read sets ids counts covers = absurd cc
-hold_parts D files contents c (l ∷ ls) [] dims leaf read sets ids counts covers = absurd cc
-hold_parts D files contents c (l ∷ ls) (p ∷ ps) dims leaf read sets ids counts covers = (
-  holds_part D files contents c l p dims (All-head (λ (q : LiveSegment). q.head.leaf ≡ c.leaf) p ps leaf) (All-head (IsRead D files contents) p ps read)
+hold_parts D files contents c [] [] dims leaf_size read sets ids counts covers = tt
+hold_parts D files contents c [] (p ∷ ps) dims leaf_size read sets ids counts covers = absurd cc
+hold_parts D files contents c (l ∷ ls) [] dims leaf_size read sets ids counts covers = absurd cc
+hold_parts D files contents c (l ∷ ls) (p ∷ ps) dims leaf_size read sets ids counts covers = (
+  holds_part D files contents c l p dims (All-head (λ (q : LiveSegment). q.head.leaf_size ≡ c.leaf_size) p ps leaf_size)
+      (All-head (IsRead D files contents) p ps read)
       (All-head (λ (q : LiveSegment). IsLiveSet q.live) p ps sets)
       (sym (cons_first ids)) (cons_first counts) (covers l p (cons_head l ls) (cons_head p ps) (sym (cons_first ids))),
-  hold_parts D files contents c ls ps dims (All-tail (λ (q : LiveSegment). q.head.leaf ≡ c.leaf) p ps leaf) (All-tail (IsRead D files contents) p ps read)
+  hold_parts D files contents c ls ps dims (All-tail (λ (q : LiveSegment). q.head.leaf_size ≡ c.leaf_size) p ps leaf_size)
+      (All-tail (IsRead D files contents) p ps read)
       (All-tail (λ (q : LiveSegment). IsLiveSet q.live) p ps sets)
       (cons_rest ids) (cons_rest counts) (λ m q inside there same. covers m q (cons_tail l ls m inside) (cons_tail p ps q there) same),
 )
@@ -143,9 +145,10 @@ unchanged_is_stored D files s i unchanged sound guards seen =
     last : IsLastCommit files s.set c
     last = subst (λ (o : Option CommitData). IsLast files s.set o) unchanged.is (guards.last unchanged.done)
 
-    leaf : c.leaf ≡ s.set.leaf
-    leaf = ⊎_elim (λ none. absurd (says_some files c none last.says))
-        (λ (h : ListsOnlyNamed D files s.set). ap (λ (d : CommitData). d.leaf) (one_file (bytes_of (files Commit)) c h.commit last.says h.says) ∙ h.leaf)
+    leaf_size : c.leaf_size ≡ s.set.leaf_size
+    leaf_size = ⊎_elim (λ none. absurd (says_some files c none last.says))
+        (λ (h : ListsOnlyNamed D files s.set).
+            ap (λ (d : CommitData). d.leaf_size) (one_file (bytes_of (files Commit)) c h.commit last.says h.says) ∙ h.leaf_size)
         guards.set
 
     parts : List SegmentData
@@ -156,7 +159,7 @@ unchanged_is_stored D files s i unchanged sound guards seen =
         ∙ ap (λ (xs : List Item). live_in_parts seen.contents s.set.parts ++ xs) (sym unchanged.same.empty)
 
     held : HoldAll files c parts
-    held = hold_parts D files seen.contents c c.listed s.set.parts dims (λ k d lt. sound.well.leaf_size k d lt ∙ sym leaf) seen.stands.now sound.sets
+    held = hold_parts D files seen.contents c c.listed s.set.parts dims (λ k d lt. sound.well.leaf_size k d lt ∙ sym leaf_size) seen.stands.now sound.sets
         unchanged.same.ids unchanged.same.counts last.covers
 
     alone : (number : ℕ) → places number (live_sets parts) ≤ 1
@@ -172,7 +175,7 @@ unchanged_is_stored D files s i unchanged sound guards seen =
     is : index_of c i.docs ≡ at_rest i
     is = λ j. record {
       dims = (dims ∙ sym seen.dims) j;
-      leaf = (leaf ∙ sym seen.leaf) j;
+      leaf_size = (leaf_size ∙ sym seen.leaf_size) j;
       next = (sym unchanged.same.next ∙ sym seen.next) j;
       points_given = (sym unchanged.same.points_given ∙ sym seen.points_given) j;
       docs = i.docs;

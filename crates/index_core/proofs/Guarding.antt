@@ -54,26 +54,26 @@ names_listed D files s c guards says m lists = ⊎_elim
 
 -- the leaf size is the same, and no number that was given is taken back
 pub record Grows (s t : SetData) : Type 0 where
-  pub leaf : t.leaf ≡ s.leaf
+  pub leaf_size : t.leaf_size ≡ s.leaf_size
   pub next : s.next ≤ t.next
   pub points_given : s.points_given ≤ t.points_given
 
-pub grows_same : (s t : SetData) → t.leaf ≡ s.leaf → t.next ≡ s.next → t.points_given ≡ s.points_given → Grows s t
-grows_same s t leaf next points_given = record { leaf = leaf; next = omega (arith, next); points_given = omega (arith, points_given) }
+pub grows_same : (s t : SetData) → t.leaf_size ≡ s.leaf_size → t.next ≡ s.next → t.points_given ≡ s.points_given → Grows s t
+grows_same s t leaf_size next points_given = record { leaf_size = leaf_size; next = omega (arith, next); points_given = omega (arith, points_given) }
 
 pub grows_alone : (s t : SetData) → StaysAlone s t → Grows s t
-grows_alone s t stays = grows_same s t stays.leaf stays.next stays.points_given
+grows_alone s t stays = grows_same s t stays.leaf_size stays.next stays.points_given
 
 -- the whole set is another but for what has no part in it
-pub grows_like : (s t u : SetData) → t ≡ u → u.leaf ≡ s.leaf → u.next ≡ s.next → u.points_given ≡ s.points_given → Grows s t
-grows_like s t u is leaf next points_given = subst (Grows s) (sym is) (grows_same s u leaf next points_given)
+pub grows_like : (s t u : SetData) → t ≡ u → u.leaf_size ≡ s.leaf_size → u.next ≡ s.next → u.points_given ≡ s.points_given → Grows s t
+grows_like s t u is leaf_size next points_given = subst (Grows s) (sym is) (grows_same s u leaf_size next points_given)
 
 -- a document was added, or after a fault none
-pub grows_added : {T E : Type 0} (s t : SetData) (points : ℕ) (r : Result T E) → t.leaf ≡ s.leaf
+pub grows_added : {T E : Type 0} (s t : SetData) (points : ℕ) (r : Result T E) → t.leaf_size ≡ s.leaf_size
     → OnOk r ((t.next ≡ s.next + 1) × (t.points_given ≡ s.points_given + points)) → OnErr r (StaysAlone s t) → Grows s t
-grows_added s t points (Ok x) leaf points_given stays =
-    record { leaf = leaf; next = omega (arith, points_given.0); points_given = omega (arith, points_given.1) }
-grows_added s t points (Err e) leaf points_given stays = grows_alone s t stays
+grows_added s t points (Ok x) leaf_size points_given stays =
+    record { leaf_size = leaf_size; next = omega (arith, points_given.0); points_given = omega (arith, points_given.1) }
+grows_added s t points (Err e) leaf_size points_given stays = grows_alone s t stays
 
 pub set_after : (D : ℕ) (told : Type 0) (f g : Files) (s t : SetData) → told → KeepsNamed told s.names t.names f g → Grows s t → GuardsSet D f s
     → GuardsSet D g t
@@ -83,7 +83,7 @@ set_after D told f g s t is_told keeps grows guards = ⊎_elim
       commit = h.commit;
       says = moved_says f g h.commit (keeps.commit is_told) h.says;
       dims = h.dims;
-      leaf = h.leaf ∙ sym grows.leaf;
+      leaf_size = h.leaf_size ∙ sym grows.leaf_size;
       next = omega (arith, h.next, grows.next);
       points_given = omega (arith, h.points_given, grows.points_given);
       named = λ m lists. keeps.more m (h.named m lists);
@@ -198,7 +198,7 @@ set_written D files s c of says = inr (record {
   commit = c;
   says = says;
   dims = of.dims;
-  leaf = of.leaf;
+  leaf_size = of.leaf_size;
   next = omega (arith, of.next);
   points_given = omega (arith, of.points_given);
   named = of.named;
@@ -241,7 +241,7 @@ guards_refused D f g s c refused of guards which = record {
         commit = h.commit;
         says = moved_says f g h.commit same h.says;
         dims = h.dims;
-        leaf = h.leaf;
+        leaf_size = h.leaf_size;
         next = h.next;
         points_given = h.points_given;
         named = h.named;

@@ -23,7 +23,7 @@ pub record IsSwept (f g : Files) (s t : SetData) (c : CommitData) : Type 0 where
   pub files : (m : FileName) → IsNeeded s c m → g m ≡ f m
   pub named : (m : FileName) → IsNeeded s c m → is_named s.names.names m ≡ true → is_named t.names.names m ≡ true
   pub parts : t.parts ≡ s.parts
-  pub leaf : t.leaf ≡ s.leaf
+  pub leaf_size : t.leaf_size ≡ s.leaf_size
   pub next : t.next ≡ s.next
   pub points_given : t.points_given ≡ s.points_given
 
@@ -34,7 +34,8 @@ guards_swept D f g s t c swept guards = record {
     commit = c;
     says = moved_says f g c swept.commit last.says;
     dims = ⊎_elim (λ none. absurd (says_some f c none last.says)) (λ h. ap (λ (d : CommitData). d.dims) (same h) ∙ h.dims) guards.set;
-    leaf = ⊎_elim (λ none. absurd (says_some f c none last.says)) (λ h. ap (λ (d : CommitData). d.leaf) (same h) ∙ h.leaf ∙ sym swept.leaf) guards.set;
+    leaf_size = ⊎_elim (λ none. absurd (says_some f c none last.says)) (λ h. ap (λ (d : CommitData). d.leaf_size) (same h) ∙ h.leaf_size ∙ sym swept.leaf_size)
+        guards.set;
     next = ⊎_elim
         (λ none. absurd (says_some f c none last.says))
         (λ (h : ListsOnlyNamed D f s). omega (arith, ap (λ (d : CommitData). d.next) (same h), h.next, swept.next))

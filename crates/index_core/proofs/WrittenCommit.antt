@@ -40,7 +40,7 @@ written_is_seen D f g s i well others seen = record {
   stands = stands_alike D f g seen.contents seen.contents s well
       (record { files = λ id named. others (Segment id) (λ e. cc) (λ e. cc); entries = λ id named. refl }) seen.stands;
   dims = seen.dims;
-  leaf = seen.leaf;
+  leaf_size = seen.leaf_size;
   next = seen.next;
   points_given = seen.points_given;
   begun = seen.begun;

@@ -41,7 +41,7 @@ pub record IsWhole (D : ℕ) (old new : Files) (l : Listed) : Type 0 where
 -- taken back
 pub record IsLater (old new : CommitData) : Type 0 where
   pub dims : old.dims ≡ new.dims
-  pub leaf : old.leaf ≡ new.leaf
+  pub leaf_size : old.leaf_size ≡ new.leaf_size
   pub next : old.next ≤ new.next
   pub points_given : old.points_given ≤ new.points_given
 

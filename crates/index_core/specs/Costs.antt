@@ -37,7 +37,7 @@ ReadsNear D files view k target s before now =
 -- nothing. What merges may read each leaf, and `reopen` reads what opening reads.
 abbrev pub ReadsAtMost : (D : ℕ) (told : Type 0) → Request → Files → SessionData → (before now : ℕ) → Type 0
 ReadsAtMost D told asks.Blank files s before now = now ≡ before
-ReadsAtMost D told (asks.Create dims leaf) files s before now = now ≡ before
+ReadsAtMost D told (asks.Create dims leaf_size) files s before now = now ≡ before
 ReadsAtMost D told (asks.Add points) files s before now = length s.set.buffer + length points ≤ 16384 → now ≡ before
 ReadsAtMost D told (asks.Delete doc) files s before now = now ≡ before
 ReadsAtMost D told (asks.DeleteBox lo hi) files s before now =

@@ -16,7 +16,7 @@ use Rattle.index_core.specs.Sessions.{SessionData}
 -- it writes and merges no segment, if what it adds has room in the buffer
 abbrev pub is_light : Request → Bool
 is_light asks.Blank = true
-is_light (asks.Create dims leaf) = true
+is_light (asks.Create dims leaf_size) = true
 is_light (asks.Add points) = true
 is_light (asks.Delete doc) = true
 is_light (asks.DeleteBox lo hi) = false

@@ -38,7 +38,7 @@ pub record ListsOnlyNamed (D : ℕ) (files : Files) (s : SetData) : Type 0 where
   pub commit : CommitData
   pub says : IsCommitFile (bytes_of (files Commit)) commit
   pub dims : commit.dims ≡ D
-  pub leaf : commit.leaf ≡ s.leaf
+  pub leaf_size : commit.leaf_size ≡ s.leaf_size
   pub next : commit.next ≤ s.next
   pub points_given : commit.points_given ≤ s.points_given
   pub named : (m : FileName) → ListsFile commit m → is_named s.names.names m ≡ true

@@ -76,7 +76,7 @@ impl<const D: usize> Session<D> {
         ensures full { result ≡ nat_lt (2 ^ 24) (self.now.set.points_given + length points.now) }
         ensures named { All (IsNamed self.now.set.names) self.now.set.parts }
     {
-        let _leaf = self.set.leaf();
+        let _leaf_size = self.set.leaf_size();
         self.set.points_given() + points.as_slice().len() as u32 > MOST_POINTS
     }
 
@@ -134,7 +134,7 @@ impl<const D: usize> Session<D> {
         put_deleted(out, count)?;
         self.set.delete_all(hits.docs.as_slice());
         // its segments are all named
-        let _leaf = self.set.leaf();
+        let _leaf_size = self.set.leaf_size();
         Ok(Applied::Done)
     }
 
@@ -168,7 +168,7 @@ impl<const D: usize> Session<D> {
         ensures unread { OnRefused result (F.reads folder.new ≡ F.reads folder.old) }
     {
         // its segments are all named
-        let _leaf = self.set.leaf();
+        let _leaf_size = self.set.leaf_size();
         self.set.flush(rt, alloc, folder, gate)?;
         put_ok(out)?;
         Ok(Applied::Done)

@@ -116,7 +116,7 @@ impl<const D: usize> Session<D> {
         ensures sound { result ≡ false → IsSound D self.now }
         ensures named { All (IsNamed self.now.set.names) self.now.set.parts }
     {
-        let _leaf = self.set.leaf();
+        let _leaf_size = self.set.leaf_size();
         let Some(commit) = &self.commit else {
             return true;
         };
@@ -163,7 +163,7 @@ impl<const D: usize> Session<D> {
         ensures faults { HasNoDamage (F.faults folder.old) (F.faults folder.new) result }
         ensures unread { F.reads folder.new ≡ F.reads folder.old }
     {
-        let _leaf = self.set.leaf();
+        let _leaf_size = self.set.leaf_size();
         match write_commit(alloc, folder, &commit) {
             Ok(()) => {
                 self.commit = Some(commit);

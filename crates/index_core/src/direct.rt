@@ -33,7 +33,7 @@ impl<const D: usize> Session<D> {
         ensures value { result ≡ self.now.set.next }
         ensures most { self.now.set.next ≤ self.now.set.points_given }
     {
-        let _leaf = self.set.leaf();
+        let _leaf_size = self.set.leaf_size();
         self.set.next()
     }
 
@@ -42,7 +42,7 @@ impl<const D: usize> Session<D> {
         ensures value { result ≡ self.now.set.points_given }
         ensures most { self.now.set.points_given ≤ 2 ^ 24 }
     {
-        let _leaf = self.set.leaf();
+        let _leaf_size = self.set.leaf_size();
         self.set.points_given()
     }
 
@@ -61,7 +61,7 @@ impl<const D: usize> Session<D> {
             (record { files = F.files folder.new; session = self.new; faults = F.faults folder.new }) result }
     {
         // its segments are all named
-        let _leaf = self.set.leaf();
+        let _leaf_size = self.set.leaf_size();
         let mut list = Vec::with_capacity(alloc, 1)?;
         list.push_reserved(*point);
         add_result(self.set.add(rt, alloc, folder, &Points::of(list), gate))
@@ -147,7 +147,7 @@ impl<const D: usize> Session<D> {
             (record { files = F.files folder.new; session = self.new; faults = F.faults folder.new }) result }
     {
         // its segments are all named
-        let _leaf = self.set.leaf();
+        let _leaf_size = self.set.leaf_size();
         one.set_one(point);
         add_result(self.set.add(rt, alloc, folder, one, gate))
     }

@@ -49,7 +49,7 @@ impl<const D: usize> Session<D> {
         ensures unread { OnRefused result (F.reads folder.new ≡ F.reads folder.old) }
     {
         // its segments are all named
-        let _leaf = self.set.leaf();
+        let _leaf_size = self.set.leaf_size();
         self.set.merge_all(rt, alloc, folder, gate)?;
         put_ok(out)?;
         Ok(Applied::Done)
@@ -127,7 +127,7 @@ impl<const D: usize> Session<D> {
         }
         put_ok(out)?;
         // the inputs of the begun merge are named
-        let _leaf = self.set.leaf();
+        let _leaf_size = self.set.leaf_size();
         end_answer(self.set.merge_end(alloc, folder))
     }
 }

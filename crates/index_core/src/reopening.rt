@@ -65,7 +65,7 @@ impl<const D: usize> Session<D> {
         let set = self.attach_anew(alloc, folder)?;
         put_ok(out)?;
         // the files of its segments are in the list
-        let _leaf = self.set.leaf();
+        let _leaf_size = self.set.leaf_size();
         self.set.renew(set);
         Ok(Applied::Done)
     }

@@ -57,18 +57,18 @@ impl<const D: usize> Session<D> {
     ghost use Rattle.index_core.specs.Effects.{Leaves, OnDone};
 
     /// A session over a folder that has no index: one without documents.
-    pub fn create(alloc: Global, leaf: u16, settings: Settings) -> Result<Session<D>, Memory>
+    pub fn create(alloc: Global, leaf_size: u16, settings: Settings) -> Result<Session<D>, Memory>
         requires dims { (1 ≤ D) × (D ≤ 8) }
-        requires least_leaf { 2 ≤ leaf }
-        requires greatest_leaf { leaf ≤ leaf_limit D }
-        ensures seen { IfOk result (λ s. (files : Files) → Sees D files s.set (new_index D leaf)) }
+        requires least_leaf { 2 ≤ leaf_size }
+        requires greatest_leaf { leaf_size ≤ leaf_limit D }
+        ensures seen { IfOk result (λ s. (files : Files) → Sees D files s.set (new_index D leaf_size)) }
         ensures guards { IfOk result (λ s. (files : Files) → files CommitName ≡ None → Guards D files s) }
         ensures faithful { IfOk result (λ s. (files : Files) → IsFaithful D files s.set) }
         ensures bare { IfOk result (λ s. s.set.parts ≡ []) }
     {
-        let set = SegmentSet::new(alloc, leaf, settings)?;
+        let set = SegmentSet::new(alloc, leaf_size, settings)?;
         // its list of names is empty, and has the files of all its segments
-        let _leaf = set.leaf();
+        let _leaf_size = set.leaf_size();
         Ok(Session {
             set,
             settings,
@@ -181,7 +181,10 @@ impl<const D: usize> Session<D> {
     {
         match c {
             Command::Blank => Ok(Applied::Done),
-            Command::Create { dims: _, leaf: _ } => Ok(Applied::Refused(Refusal::Exists)),
+            Command::Create {
+                dims: _,
+                leaf_size: _,
+            } => Ok(Applied::Refused(Refusal::Exists)),
             Command::Add(points) => self.add(rt, alloc, folder, points, out, gate),
             Command::Delete(doc) => self.delete(*doc, out),
             Command::DeleteBox { lo, hi } => self.delete_box(alloc, folder, lo, hi, out),

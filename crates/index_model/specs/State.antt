@@ -14,7 +14,7 @@ pub record Snapshot : Type 0 where
 -- merge is begun
 pub record Index : Type 0 where
   pub dims : ℕ
-  pub leaf : ℕ
+  pub leaf_size : ℕ
   pub next : ℕ
   pub points_given : ℕ
   pub docs : List Document
@@ -27,8 +27,8 @@ State = Option Index
 
 -- an index of so many dimensions and this leaf size, to which nothing was added yet
 abbrev pub new_index : ℕ → ℕ → Index
-new_index dims leaf =
-    record { dims = dims; leaf = leaf; next = 0; points_given = 0; docs = []; snapshots = []; begun = false }
+new_index dims leaf_size =
+    record { dims = dims; leaf_size = leaf_size; next = 0; points_given = 0; docs = []; snapshots = []; begun = false }
 
 -- the snapshot of this name
 abbrev pub snapshot_of : List ℕ → List Snapshot → Option Snapshot

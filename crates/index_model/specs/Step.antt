@@ -61,7 +61,7 @@ in_plane_polygon dims rings p = dims == 2 && in_polygon rings p
 -- what a request does on an index
 unfoldable pub step_on : Index → Request → Outcome
 step_on i asks.Blank = Done (Some i) []
-step_on i (asks.Create dims leaf) = Refused why.Exists
+step_on i (asks.Create dims leaf_size) = Refused why.Exists
 step_on i (asks.Add points) = add_outcome points i
 step_on i (asks.Delete doc) =
     Done (Some (record i { docs = docs_without doc i.docs })) (deleted_text (if is_live doc i.docs then 1 else 0))
@@ -85,7 +85,7 @@ step_on i asks.Reopen = done_ok (at_rest i)
 
 -- what a request does. Without an index a line asks for nothing, or for a new one
 abbrev pub step : State → Request → Outcome
-step None (asks.Create dims leaf) = done_ok (new_index dims leaf)
+step None (asks.Create dims leaf_size) = done_ok (new_index dims leaf_size)
 step None request = Done None []
 step (Some i) request = step_on i request
 

@@ -69,7 +69,7 @@ impl<const D: usize> ListSession<D> {
             (step_on self.now (asks.InPolygon (view_name view.now) rings.now)) self.now self.now out.old.items
             out.new.items result }
     {
-        let _ = &self.leaf;
+        let _ = &self.leaf_size;
         let mut shape = PolygonShape::new(alloc, rings)?;
         self.find(alloc, view, &mut shape, out)
     }

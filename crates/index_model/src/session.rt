@@ -25,7 +25,7 @@ pub enum Applied {
 /// An index of `D` dimensions, kept as a list of documents in memory. A query scans the list.
 #[derive(Drop)]
 pub struct ListSession<const D: usize> {
-    pub(crate) leaf: u16,
+    pub(crate) leaf_size: u16,
     next: u32,
     points_given: u32,
     pub(crate) docs: Vec<HeldDocument<D>>,
@@ -41,7 +41,7 @@ impl<const D: usize> Model for ListSession<D> {
 
     ghost view = { λ s. record {
       dims = D;
-      leaf = s.leaf;
+      leaf_size = s.leaf_size;
       next = s.next;
       points_given = s.points_given;
       docs = s.docs.items;
@@ -57,11 +57,11 @@ impl<const D: usize> ListSession<D> {
     ghost use Rattle.index_model.specs.Sessions.{Does};
 
     /// A new index without documents.
-    pub fn new(alloc: Global, leaf: u16) -> ListSession<D>
-        ensures { result ≡ new_index D leaf }
+    pub fn new(alloc: Global, leaf_size: u16) -> ListSession<D>
+        ensures { result ≡ new_index D leaf_size }
     {
         ListSession {
-            leaf,
+            leaf_size,
             next: 0,
             points_given: 0,
             docs: Vec::new(alloc),
@@ -75,7 +75,7 @@ impl<const D: usize> ListSession<D> {
         ensures dims { result ≡ D }
         ensures seen { self.now.dims ≡ D }
     {
-        let _ = &self.leaf;
+        let _ = &self.leaf_size;
         D
     }
 
@@ -93,7 +93,10 @@ impl<const D: usize> ListSession<D> {
     {
         match c {
             Command::Blank => Ok(Applied::Done),
-            Command::Create { dims: _, leaf: _ } => Ok(Applied::Refused(Refusal::Exists)),
+            Command::Create {
+                dims: _,
+                leaf_size: _,
+            } => Ok(Applied::Refused(Refusal::Exists)),
             Command::Add(points) => self.add(alloc, points, out),
             Command::Delete(doc) => self.delete(*doc, out),
             Command::DeleteBox { lo, hi } => self.delete_in(alloc, lo, hi, out),

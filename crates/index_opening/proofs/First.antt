@@ -59,7 +59,8 @@ pair_of name m n f = fault_weaker f (λ d. IsPairDamage name m n d × (m ≢ n))
 
 first_from : (T : Type 0) (mid files : Files) (c : CommitData) (s : Listed) (d : Damage) → (T → mid ≡ files) → IsFirstIn T mid c s d → IsFirstIn T files c s d
 first_from T mid files c s d same (OfHead h) = OfHead h
-first_from T mid files c s d same (OfLive head has leaf entries h) = OfLive head (λ t. subst (λ (f : Files). HasHead c.dims f s head) (same t) (has t)) leaf
+first_from T mid files c s d same (OfLive head has leaf_size entries h) =
+    OfLive head (λ t. subst (λ (f : Files). HasHead c.dims f s head) (same t) (has t)) leaf_size
     entries h
 
 -- one segment more, as the loop over the list has it

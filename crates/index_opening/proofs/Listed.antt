@@ -60,10 +60,10 @@ unequal_of files c s name m n is (Size file size needed) (pair, apart) = absurd 
 unequal_of files c s name m n is (Beyond doc next) (pair, apart) = absurd pair
 unequal_of files c s name m n is (Doubled doc) (pair, apart) = absurd pair
 
-pub leaf_pair : (files : Files) (c : CommitData) (s : Listed) (head : Head) (m n : ℕ) → HasHead c.dims files s head → m ≡ c.leaf → n ≡ head.leaf
+pub leaf_pair : (files : Files) (c : CommitData) (s : Listed) (head : Head) (m n : ℕ) → HasHead c.dims files s head → m ≡ c.leaf_size → n ≡ head.leaf_size
     → IsPair files c s (Segment s.segment) m n
 leaf_pair files c s head m n has said found =
-    subst (λ k. IsPair files c s (Segment s.segment) k n) (sym said) (subst (IsPair files c s (Segment s.segment) c.leaf) (sym found) (LeafSize head has))
+    subst (λ k. IsPair files c s (Segment s.segment) k n) (sym said) (subst (IsPair files c s (Segment s.segment) c.leaf_size) (sym found) (LeafSize head has))
 
 pub entries_pair : (files : Files) (c : CommitData) (s : Listed) (head : Head) (m n : ℕ) → HasHead c.dims files s head → m ≡ s.entries → n ≡ head.entries
     → IsPair files c s (Segment s.segment) m n
@@ -104,11 +104,11 @@ listed_head D files c s head dims id is = record { id = id; is = subst (λ n. Is
 pub head_held : (files : Files) (c : CommitData) (s : Listed) (d : SegmentData) (head : Head) → HoldsFiles files c s d → HasHead c.dims files s head
     → head ≡ d.head
 head_held files c s d head held has =
-    held_head c.dims c.leaf s (bytes_of (files (Segment s.segment))) (bytes_of (files (Live s.segment s.generation))) d head held has.id has.is
+    held_head c.dims c.leaf_size s (bytes_of (files (Segment s.segment))) (bytes_of (files (Live s.segment s.generation))) d head held has.id has.is
 
 pub live_held : (files : Files) (c : CommitData) (s : Listed) (d : SegmentData) (live : LiveSet) → HoldsFiles files c s d → HasLive files s live → live ≡ d.live
 live_held files c s d live held has =
-    held_live c.dims c.leaf s (bytes_of (files (Segment s.segment))) (bytes_of (files (Live s.segment s.generation))) d live held has
+    held_live c.dims c.leaf_size s (bytes_of (files (Segment s.segment))) (bytes_of (files (Live s.segment s.generation))) d live held has
 
 pub is_held : (D : ℕ) (files : Files) (c : CommitData) (s : Listed) (d : SegmentData) → c.dims ≡ D → HoldsFiles files c s d
     → IsHeadOf D (bytes_of (files (Segment s.segment))) d.head

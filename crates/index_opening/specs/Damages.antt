@@ -38,7 +38,8 @@ IsAttachDamage c d =
 
 -- the two numbers are a pair of the files that must agree: the leaf size, or a segment's entries or live numbers
 pub data IsPair (files : Files) (c : CommitData) (s : Listed) : FileName → (said found : ℕ) → Type 0 where
-  LeafSize : (head : Head) → HasHead c.dims files s head → IsPair files c s (Segment s.segment) c.leaf head.leaf
+  LeafSize : (head : Head) → HasHead c.dims files s head
+      → IsPair files c s (Segment s.segment) c.leaf_size head.leaf_size
   Entries : (head : Head) → HasHead c.dims files s head → IsPair files c s (Segment s.segment) s.entries head.entries
   LiveCount : (live : LiveSet) → HasLive files s live
       → IsPair files c s (Live s.segment s.generation) s.live (length live.live)

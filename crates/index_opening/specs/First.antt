@@ -38,8 +38,8 @@ IsOfLeast n sets _ = ⊥
 -- the damage is one of the segment's head, or of its live bits where its head is as the commit lists it
 pub data IsFirstIn (told : Type 0) (files : Files) (c : CommitData) (s : Listed) (d : Damage) : Type 0 where
   OfHead : IsOfFile (Segment s.segment) d → IsFirstIn told files c s d
-  OfLive : (head : Head) → (told → HasHead c.dims files s head) → head.leaf ≡ c.leaf → head.entries ≡ s.entries
-      → IsOfFile (Live s.segment s.generation) d → IsFirstIn told files c s d
+  OfLive : (head : Head) → (told → HasHead c.dims files s head) → head.leaf_size ≡ c.leaf_size
+      → head.entries ≡ s.entries → IsOfFile (Live s.segment s.generation) d → IsFirstIn told files c s d
 
 -- so it is of the first listed segment that can't be opened
 pub record IsFirstListed (told : Type 0) (files : Files) (c : CommitData) (d : Damage) : Type 0 where

@@ -9,7 +9,7 @@ use Rattle.segment_view.specs.LiveSegments.{LiveSegment}
 -- the segment is as the commit lists it
 pub record IsListedAs (c : CommitData) (s : Listed) (p : LiveSegment) : Type 0 where
   pub id : p.head.id ≡ s.segment
-  pub leaf_size : p.head.leaf ≡ c.leaf
+  pub leaf_size : p.head.leaf_size ≡ c.leaf_size
   pub entries : p.head.entries ≡ s.entries
   pub live : length p.live.live ≡ s.live
 

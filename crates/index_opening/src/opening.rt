@@ -95,7 +95,7 @@ fn open_head<const D: usize, F: Folder>(
     s: Listed,
 ) -> Result<SegmentHead<D>, PageFault>
     requires { c.now.dims ≡ D }
-    ensures listed { IfOk result (λ h. (h.id ≡ s.segment) × (h.leaf ≡ c.now.leaf) × (h.entries ≡ s.entries)) }
+    ensures listed { IfOk result (λ h. (h.id ≡ s.segment) × (h.leaf_size ≡ c.now.leaf_size) × (h.entries ≡ s.entries)) }
     ensures head { IsTrue F.told → IfOk result (HasHead c.now.dims (F.files folder.old) s) }
     ensures files { IsTrue F.told → F.files folder.new ≡ F.files folder.old }
     ensures reads { IsTrue F.told → (h : Head) → HasHead c.now.dims (F.files folder.old) s h
@@ -106,10 +106,10 @@ fn open_head<const D: usize, F: Folder>(
     ensures of { OnDamage result (IsOfFile (Segment s.segment)) }
     ensures whole { IsTrue F.told → (d : SegmentData) → HoldsFiles (F.files folder.old) c.now s d → NotDamaged result }
 {
-    let leaf = c.leaf();
+    let leaf_size = c.leaf_size();
     let head = open_segment::<D, F>(alloc, folder, s.segment)?;
     let file = FileName::Segment(s.segment);
-    agree(file, u64::from(leaf), u64::from(head.leaf_size()))?;
+    agree(file, u64::from(leaf_size), u64::from(head.leaf_size()))?;
     agree(file, u64::from(s.entries), u64::from(head.entries()))?;
     Ok(head)
 }

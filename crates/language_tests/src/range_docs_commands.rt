@@ -136,7 +136,7 @@ enum OtherAsked {
 
 fn other_of<const D: usize>(command: &Command<D>) -> OtherAsked {
     match command {
-        Command::Create { dims, leaf } => OtherAsked::Create(*dims, *leaf),
+        Command::Create { dims, leaf_size } => OtherAsked::Create(*dims, *leaf_size),
         Command::Delete(doc) => OtherAsked::Delete(*doc),
         Command::Flush => OtherAsked::Flush,
         Command::Merge => OtherAsked::Merge,

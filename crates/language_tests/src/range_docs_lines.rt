@@ -137,10 +137,19 @@ const FIRST: [(&[u8], Result<First, RangeFault>); 5] = [
     (b"add 1 2", Err(Line(NoIndex))),
     (b"create 0", Err(Line(Dims))),
     (b" # create 1", Ok(First::Blank)),
-    (b"create 2\r", Ok(First::Create { dims: 4, leaf: 200 })),
+    (
+        b"create 2\r",
+        Ok(First::Create {
+            dims: 4,
+            leaf_size: 200,
+        }),
+    ),
     (
         b"create 4 leaf 111",
-        Ok(First::Create { dims: 8, leaf: 111 }),
+        Ok(First::Create {
+            dims: 8,
+            leaf_size: 111,
+        }),
     ),
 ];
 

@@ -110,7 +110,10 @@ fn first_lines(rt: HostRuntime) {
     same(
         &rt,
         first(b"create 2\r"),
-        Ok(First::Create { dims: 2, leaf: 333 }),
+        Ok(First::Create {
+            dims: 2,
+            leaf_size: 333,
+        }),
     );
 }
 
@@ -213,7 +216,7 @@ enum OtherCommand {
 fn asked_by(command: &Command<2>) -> OtherCommand {
     match command {
         Command::Blank => OtherCommand::Blank,
-        Command::Create { dims, leaf } => OtherCommand::Create(*dims, *leaf),
+        Command::Create { dims, leaf_size } => OtherCommand::Create(*dims, *leaf_size),
         Command::Delete(doc) => OtherCommand::Delete(*doc),
         Command::Flush => OtherCommand::Flush,
         Command::Merge => OtherCommand::Merge,

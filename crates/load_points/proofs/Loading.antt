@@ -163,11 +163,11 @@ some_stored files c state says h =
     let held = held_for files c state h says in
     (says, (index_of c held.0, held.2, subst (IsStored files) held.2 h))
 
-pub made_loading : (D leaf : ℕ) (files : Files) (s : SessionData) (stored : State) → leaf ≡ greatest_leaf D → Sees D files s.set (new_index D leaf)
-    → (files Commit ≡ None → Guards D files s)
+pub made_loading : (D leaf_size : ℕ) (files : Files) (s : SessionData) (stored : State) → leaf_size ≡ greatest_leaf D
+    → Sees D files s.set (new_index D leaf_size) → (files Commit ≡ None → Guards D files s)
     → s.set.parts ≡ [] → StartsNone files stored → IsLoading D files s stored
-made_loading D leaf files s stored is seen guards bare (none, absent) = record {
-  index = new_index D leaf;
+made_loading D leaf_size files s stored is seen guards bare (none, absent) = record {
+  index = new_index D leaf_size;
   seen = seen;
   guards = guards absent;
   keeps = subst (IsStored files) (sym none) absent;

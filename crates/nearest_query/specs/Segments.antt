@@ -28,7 +28,7 @@ live_in contents (h ∷ hs) [] = []
 live_in contents (h ∷ hs) (live ∷ lives) = live_items live (contents h.id) ++ live_in contents hs lives
 
 abbrev pub no_head : Head
-no_head = record { id = 0; entries = 0; leaf = 0; index = record { form = 0; leaves = 0; bytes = [] } }
+no_head = record { id = 0; entries = 0; leaf_size = 0; index = record { form = 0; leaves = 0; bytes = [] } }
 
 -- each head is that of its segment's file, which has these contents
 abbrev pub AreSegments : ℕ → Files → (ℕ → List Item) → List Head → Type 0

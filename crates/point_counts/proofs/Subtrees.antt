@@ -84,29 +84,29 @@ mins_add a b x y n rest sum = omega (arith, rest, sum)
 -- the leaves from this number on, all full as long as entries are left
 pub tree_counted : (D : ℕ) (bytes : List ℕ) (head : Head) (first : ℕ) (s : Spot) (t : IndexTree) (items : List Item)
     → HoldsTree D bytes head first s t items
-    → length items ≡ min (leaf_count t * head.leaf) (head.entries - first * head.leaf)
+    → length items ≡ min (leaf_count t * head.leaf_size) (head.entries - first * head.leaf_size)
 tree_counted D bytes head first s (Leaf len own) items h = leaf_counted D bytes head first s len own items h
-    ∙ ap (λ (n : ℕ). min n (head.entries - first * head.leaf)) (omega arith)
+    ∙ ap (λ (n : ℕ). min n (head.entries - first * head.leaf_size)) (omega arith)
 tree_counted D bytes head first s (Split d x l r) items h =
     let left = tree_counted D bytes head first s l h.front_items h.front_holds in
     let right = tree_counted D bytes head (first + leaf_count l) (right_begin s l r) r h.back_items h.back_holds in
     ap length h.joined
     ∙ length-append h.front_items h.back_items
     ∙ ap (λ (n : ℕ). n + length h.back_items) left
-    ∙ ap (λ (n : ℕ). min (leaf_count l * head.leaf) (head.entries - first * head.leaf) + n) right
-    ∙ mins_add (leaf_count l * head.leaf) (leaf_count r * head.leaf) (head.entries - first * head.leaf)
-    (head.entries - (first + leaf_count l) * head.leaf) ((leaf_count l + leaf_count r) * head.leaf)
-    (omega (arith, add-mul first (leaf_count l) head.leaf)) (add-mul (leaf_count l) (leaf_count r) head.leaf)
+    ∙ ap (λ (n : ℕ). min (leaf_count l * head.leaf_size) (head.entries - first * head.leaf_size) + n) right
+    ∙ mins_add (leaf_count l * head.leaf_size) (leaf_count r * head.leaf_size) (head.entries - first * head.leaf_size)
+    (head.entries - (first + leaf_count l) * head.leaf_size) ((leaf_count l + leaf_count r) * head.leaf_size)
+    (omega (arith, add-mul first (leaf_count l) head.leaf_size)) (add-mul (leaf_count l) (leaf_count r) head.leaf_size)
 
 -- by what is known of the node alone
 pub node_counted : {D : ℕ} (bytes : List ℕ) (head : Head) (node : NodeAt D) (first : ℕ) (s : Spot) (path : Region)
     (t : IndexTree) (items : List Item) (n : ℕ) → IsAt node first s path t
-    → HoldsTree D bytes head first s t items → n ≡ min (node.leaves * head.leaf) (head.entries - node.first * head.leaf)
+    → HoldsTree D bytes head first s t items → n ≡ min (node.leaves * head.leaf_size) (head.entries - node.first * head.leaf_size)
     → length items ≡ n
 node_counted {D} bytes head node first s path t items n is holds said =
     tree_counted D bytes head first s t items holds
-    ∙ ap (λ (m : ℕ). min (m * head.leaf) (head.entries - first * head.leaf)) (count_at node first s path t is)
-    ∙ ap (λ (m : ℕ). min (node.leaves * head.leaf) (head.entries - m * head.leaf)) (sym is.first_is)
+    ∙ ap (λ (m : ℕ). min (m * head.leaf_size) (head.entries - first * head.leaf_size)) (count_at node first s path t is)
+    ∙ ap (λ (m : ℕ). min (node.leaves * head.leaf_size) (head.entries - m * head.leaf_size)) (sym is.first_is)
     ∙ sym said
 
 -- ---- which leaves are read

@@ -114,7 +114,8 @@ fn is_settled<const D: usize, S: Sorting<D>>(
 
 /// How many entries there are at or below the node: all leaves are full but the last one of all.
 fn entries_below<const D: usize>(head: &SegmentHead<D>, node: &NodeAt<'_, D>) -> u64
-    ensures { result ≡ min (node.now.leaves * head.now.leaf) (head.now.entries - node.now.first * head.now.leaf) }
+    ensures { result ≡ min (node.now.leaves * head.now.leaf_size)
+        (head.now.entries - node.now.first * head.now.leaf_size) }
 {
     let size = u64::from(head.leaf_size());
     let before = u64::from(node.first_leaf()) * size;

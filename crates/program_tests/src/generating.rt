@@ -65,7 +65,7 @@ fn says_what_a_scan_finds(rt: HostRuntime) -> Result<(), Fail> {
         let commit = read_commit(alloc, &mut folder)?.ok_or("no commit")?;
         same(
             &rt,
-            (commit.dims(), commit.leaf(), commit.next()),
+            (commit.dims(), commit.leaf_size(), commit.next()),
             (2, 333, *docs),
         );
     }

@@ -57,8 +57,8 @@ fn make(
 ) -> Result<bool, Fail> {
     match read_first(line) {
         Ok(First::Blank) => Ok(true),
-        Ok(First::Create { dims: _, leaf }) => {
-            *session = Some(ListSession::new(alloc, leaf));
+        Ok(First::Create { dims: _, leaf_size }) => {
+            *session = Some(ListSession::new(alloc, leaf_size));
             put_ok(answers)?;
             Ok(true)
         }

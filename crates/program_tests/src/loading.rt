@@ -155,7 +155,7 @@ fn loads_again_and_again(rt: HostRuntime) -> Result<(), Fail> {
         &rt,
         (
             commit.dims(),
-            commit.leaf(),
+            commit.leaf_size(),
             commit.next(),
             commit.points_given(),
         ),

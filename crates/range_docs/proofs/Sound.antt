@@ -64,14 +64,15 @@ alone_fine [] request fine = fine
 alone_fine (w ∷ ws) request fine = wrong
 
 abbrev created_if : Bool → Bool → ℕ → ℕ → Reading
-created_if d l dims leaf = cond (not d) (Fails line.Dims) (cond (not l) (Fails line.LeafSize) (Says (asks.Create dims leaf)))
+created_if d l dims leaf_size = cond (not d) (Fails line.Dims) (cond (not l) (Fails line.LeafSize) (Says (asks.Create dims leaf_size)))
 
-created_fine : (dims leaf : ℕ) → IsFine (create_reading dims leaf)
-created_fine dims leaf =
-    elim (is_from_to 1 8 dims) as (λ t. is_from_to 1 8 dims ≡ t → IsFine (created_if t (is_from_to 2 (greatest_leaf dims) leaf) dims leaf)) [
-      | true ↦ λ d. elim (is_from_to 2 (greatest_leaf dims) leaf) as (λ t. is_from_to 2 (greatest_leaf dims) leaf ≡ t → IsFine (created_if true t dims leaf)) [
+created_fine : (dims leaf_size : ℕ) → IsFine (create_reading dims leaf_size)
+created_fine dims leaf_size =
+    elim (is_from_to 1 8 dims) as (λ t. is_from_to 1 8 dims ≡ t → IsFine (created_if t (is_from_to 2 (greatest_leaf dims) leaf_size) dims leaf_size)) [
+      | true ↦ λ d. elim (is_from_to 2 (greatest_leaf dims) leaf_size) as (λ t.
+          is_from_to 2 (greatest_leaf dims) leaf_size ≡ t → IsFine (created_if true t dims leaf_size)) [
         | true ↦ λ l.
-            says (asks.Create dims leaf) (grind (arith, nat_tests), grind (arith, nat_tests), grind (arith, nat_tests), grind (arith, nat_tests)) (λ r. tt)
+            says (asks.Create dims leaf_size) (grind (arith, nat_tests), grind (arith, nat_tests), grind (arith, nat_tests), grind (arith, nat_tests)) (λ r. tt)
         | false ↦ λ l. fails line.LeafSize (λ e. cc)
       ] refl
       | false ↦ λ d. fails line.Dims (λ e. cc)
@@ -83,7 +84,7 @@ create_fine [] = wrong
 create_fine (d ∷ []) = given_fine (value_part number 2 d) (λ r. created_fine (2 * r) (greatest_leaf (2 * r)))
 create_fine (d ∷ word ∷ []) = wrong
 create_fine (d ∷ word ∷ s ∷ []) =
-    if_fine _ (given_fine (value_part number 2 d) (λ r. given_fine (value_part number 4 s) (λ leaf. created_fine (2 * r) leaf))) wrong
+    if_fine _ (given_fine (value_part number 2 d) (λ r. given_fine (value_part number 4 s) (λ leaf_size. created_fine (2 * r) leaf_size))) wrong
 create_fine (d ∷ word ∷ s ∷ w ∷ ws) = wrong
 
 delete_fine : (words : List (List ℕ)) → IsFine (read_delete_number words)

@@ -36,8 +36,8 @@ pub(crate) fn create(mut words: Words<'_>) -> Result<First, LineFault>
         return Err(LineFault::Words);
     }
     let r = number_at(dims, 2)?;
-    let leaf = number_at(size, 4)?;
-    created(r, leaf)
+    let leaf_size = number_at(size, 4)?;
+    created(r, leaf_size)
 }
 
 /// The greatest leaf size of an index of ranges of so many dimensions.
@@ -47,18 +47,18 @@ fn greatest_leaf(r: u32) -> u32
     (4_000 / (4 + 8 * u64::from(r))) as u32
 }
 
-fn created(r: u32, leaf: u32) -> Result<First, LineFault>
-    ensures { first_reading_of result ≡ create_reading (2 * r) leaf }
+fn created(r: u32, leaf_size: u32) -> Result<First, LineFault>
+    ensures { first_reading_of result ≡ create_reading (2 * r) leaf_size }
 {
     if !(1..=4).contains(&r) {
         return Err(LineFault::Dims);
     }
-    if !(2..=greatest_leaf(r)).contains(&leaf) {
+    if !(2..=greatest_leaf(r)).contains(&leaf_size) {
         return Err(LineFault::LeafSize);
     }
     Ok(First::Create {
         dims: 2 * r as u8,
-        leaf: leaf as u16,
+        leaf_size: leaf_size as u16,
     })
 }
 

@@ -107,13 +107,14 @@ alone_fine [] request fine = says request fine
 alone_fine (w ∷ ws) request fine = wrong
 
 abbrev created_if : Bool → Bool → ℕ → ℕ → Reading
-created_if d l dims leaf = cond (not d) (Fails fault.Dims) (cond (not l) (Fails fault.LeafSize) (Says (asks.Create dims leaf)))
+created_if d l dims leaf_size = cond (not d) (Fails fault.Dims) (cond (not l) (Fails fault.LeafSize) (Says (asks.Create dims leaf_size)))
 
-created_fine : (dims leaf : ℕ) → IsFine (create_reading dims leaf)
-created_fine dims leaf =
-    elim (is_from_to 1 8 dims) as (λ t. is_from_to 1 8 dims ≡ t → IsFine (created_if t (is_from_to 2 (greatest_leaf dims) leaf) dims leaf)) [
-      | true ↦ λ d. elim (is_from_to 2 (greatest_leaf dims) leaf) as (λ t. is_from_to 2 (greatest_leaf dims) leaf ≡ t → IsFine (created_if true t dims leaf)) [
-        | true ↦ λ l. says (asks.Create dims leaf) (grind (arith, nat_tests), grind (arith, nat_tests), grind (arith, nat_tests), grind (arith, nat_tests))
+created_fine : (dims leaf_size : ℕ) → IsFine (create_reading dims leaf_size)
+created_fine dims leaf_size =
+    elim (is_from_to 1 8 dims) as (λ t. is_from_to 1 8 dims ≡ t → IsFine (created_if t (is_from_to 2 (greatest_leaf dims) leaf_size) dims leaf_size)) [
+      | true ↦ λ d. elim (is_from_to 2 (greatest_leaf dims) leaf_size) as (λ t.
+          is_from_to 2 (greatest_leaf dims) leaf_size ≡ t → IsFine (created_if true t dims leaf_size)) [
+        | true ↦ λ l. says (asks.Create dims leaf_size) (grind (arith, nat_tests), grind (arith, nat_tests), grind (arith, nat_tests), grind (arith, nat_tests))
         | false ↦ λ l. fails fault.LeafSize (λ e. cc)
       ] refl
       | false ↦ λ d. fails fault.Dims (λ e. cc)
@@ -125,7 +126,7 @@ create_fine [] = wrong
 create_fine (d ∷ []) = given_fine (value_part number 2 d) (λ dims. created_fine dims (greatest_leaf dims))
 create_fine (d ∷ word ∷ []) = wrong
 create_fine (d ∷ word ∷ s ∷ []) =
-    if_fine _ (given_fine (value_part number 2 d) (λ dims. given_fine (value_part number 4 s) (λ leaf. created_fine dims leaf))) wrong
+    if_fine _ (given_fine (value_part number 2 d) (λ dims. given_fine (value_part number 4 s) (λ leaf_size. created_fine dims leaf_size))) wrong
 create_fine (d ∷ word ∷ s ∷ w ∷ ws) = wrong
 
 document_part : (dims place : ℕ) (words : List (List ℕ)) → IsPart (document_of dims place words)

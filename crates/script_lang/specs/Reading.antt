@@ -95,10 +95,10 @@ word_alone [] request = Says request
 word_alone (w ∷ ws) request = Fails fault.Words
 
 abbrev pub create_reading : ℕ → ℕ → Reading
-create_reading dims leaf =
+create_reading dims leaf_size =
     if not (is_from_to 1 8 dims) then Fails fault.Dims
-    else if not (is_from_to 2 (greatest_leaf dims) leaf) then Fails fault.LeafSize
-    else Says (asks.Create dims leaf)
+    else if not (is_from_to 2 (greatest_leaf dims) leaf_size) then Fails fault.LeafSize
+    else Says (asks.Create dims leaf_size)
 
 -- `create DIMS` or `create DIMS leaf SIZE`
 unfoldable pub read_create : List (List ℕ) → Reading
@@ -107,7 +107,8 @@ read_create (d ∷ []) = on_success (value_of number 2 d) (λ dims. create_readi
 read_create (d ∷ word ∷ []) = Fails fault.Words
 read_create (d ∷ word ∷ s ∷ []) =
     if bytes_eq word (codes "leaf")
-    then on_success (value_of number 2 d) (λ dims. on_success (value_of number 4 s) (λ leaf. create_reading dims leaf))
+    then on_success (value_of number 2 d)
+        (λ dims. on_success (value_of number 4 s) (λ leaf_size. create_reading dims leaf_size))
     else Fails fault.Words
 read_create (d ∷ word ∷ s ∷ w ∷ ws) = Fails fault.Words
 

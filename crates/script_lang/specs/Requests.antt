@@ -9,7 +9,7 @@ pub data Request : Type 0 where
   -- nothing: a line without words, or a note
   Blank : Request
   -- an index of so many dimensions, with at most so many points in a leaf
-  Create : (dims leaf : ℕ) → Request
+  Create : (dims leaf_size : ℕ) → Request
   -- a document with these points: 1 to 16 different ones, ascending
   Add : (points : List (List ℤ)) → Request
   -- the document of this number goes

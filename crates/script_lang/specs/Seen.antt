@@ -19,7 +19,7 @@ view_name (Named name) = Some name
 -- the request that a command stands for
 abbrev pub request_of : {D : ℕ} → Command D → Request
 request_of command.Blank = asks.Blank
-request_of (command.Create dims leaf) = asks.Create dims leaf
+request_of (command.Create dims leaf_size) = asks.Create dims leaf_size
 request_of (command.Add points) = asks.Add points
 request_of (command.Delete doc) = asks.Delete doc
 request_of (command.DeleteBox lo hi) = asks.DeleteBox lo.c hi.c
@@ -38,7 +38,7 @@ request_of command.Reopen = asks.Reopen
 -- what a line asks where no index is there
 abbrev pub first_request_of : First → Request
 first_request_of first.Blank = asks.Blank
-first_request_of (first.Create dims leaf) = asks.Create dims leaf
+first_request_of (first.Create dims leaf_size) = asks.Create dims leaf_size
 
 -- a command is what was read, and a fault is the one that was read, but for want of memory, which says nothing
 abbrev pub IsReadAs : {C : Type 0} → (C → Request) → Result C LineFault → Reading → Type 0
@@ -49,6 +49,7 @@ IsReadAs request (Err f) reading = reading ≡ Fails f
 -- the limits of what a line may ask: an index of 1 to 8 dimensions and leaves of 2 points up to the greatest leaf,
 -- and the 1 to 10,000 nearest
 abbrev pub IsWithinLimits : Request → Type 0
-IsWithinLimits (asks.Create dims leaf) = (1 ≤ dims) × (dims ≤ 8) × (2 ≤ leaf) × (leaf ≤ greatest_leaf dims)
+IsWithinLimits (asks.Create dims leaf_size) = (1 ≤ dims) × (dims ≤ 8) × (2 ≤ leaf_size)
+    × (leaf_size ≤ greatest_leaf dims)
 IsWithinLimits (asks.Nearest view k target) = (1 ≤ k) × (k ≤ 10000)
 IsWithinLimits request = Unit {0}

@@ -40,8 +40,8 @@ pub(crate) fn create(mut words: Words<'_>) -> Result<First, LineFault>
         return Err(LineFault::Words);
     }
     let dims = number_at(dims, 2)?;
-    let leaf = number_at(size, 4)?;
-    created(dims, leaf)
+    let leaf_size = number_at(size, 4)?;
+    created(dims, leaf_size)
 }
 
 /// The greatest leaf size in so many dimensions: 4,000 over the bytes of an entry, 4 and 4 for each dimension.
@@ -51,18 +51,18 @@ fn greatest_leaf(dims: u32) -> u32
     (4_000 / (4 + 4 * u64::from(dims))) as u32
 }
 
-fn created(dims: u32, leaf: u32) -> Result<First, LineFault>
-    ensures { first_reading_of result ≡ create_reading dims leaf }
+fn created(dims: u32, leaf_size: u32) -> Result<First, LineFault>
+    ensures { first_reading_of result ≡ create_reading dims leaf_size }
 {
     if !(1..=8).contains(&dims) {
         return Err(LineFault::Dims);
     }
-    if !(2..=greatest_leaf(dims)).contains(&leaf) {
+    if !(2..=greatest_leaf(dims)).contains(&leaf_size) {
         return Err(LineFault::LeafSize);
     }
     Ok(First::Create {
         dims: dims as u8,
-        leaf: leaf as u16,
+        leaf_size: leaf_size as u16,
     })
 }
 

@@ -41,10 +41,10 @@ impl Positions {
 pub enum Command<const D: usize> {
     /// A line without words, or a note.
     Blank,
-    /// An index of `dims` dimensions, 1 to 8, with at most `leaf` points in a leaf.
+    /// An index of `dims` dimensions, 1 to 8, with at most `leaf_size` points in a leaf.
     Create {
         dims: u8,
-        leaf: u16,
+        leaf_size: u16,
     },
     /// A document with these points.
     Add(Points<D>),
@@ -88,8 +88,8 @@ pub enum Command<const D: usize> {
 pub enum First {
     /// A line without words, or a note.
     Blank,
-    /// An index of `dims` dimensions, 1 to 8, with at most `leaf` points in a leaf.
-    Create { dims: u8, leaf: u16 },
+    /// An index of `dims` dimensions, 1 to 8, with at most `leaf_size` points in a leaf.
+    Create { dims: u8, leaf_size: u16 },
 }
 
 impl<const D: usize> From<First> for Command<D> {
@@ -98,7 +98,7 @@ impl<const D: usize> From<First> for Command<D> {
     fn from(first: First) -> Command<D> {
         match first {
             First::Blank => Command::Blank,
-            First::Create { dims, leaf } => Command::Create { dims, leaf },
+            First::Create { dims, leaf_size } => Command::Create { dims, leaf_size },
         }
     }
 }

@@ -119,7 +119,7 @@ module _ (lang : Language) (D : ℕ) (files : Files) (s : SessionData) (i : Inde
 
 same_test : (r : Request) → asks_commit (Ok r) ≡ is_committing r
 same_test asks.Blank = refl
-same_test (asks.Create dims leaf) = refl
+same_test (asks.Create dims leaf_size) = refl
 same_test (asks.Add points) = refl
 same_test (asks.Delete doc) = refl
 same_test (asks.DeleteBox lo hi) = refl
@@ -144,7 +144,7 @@ unfolding step_on
 rests number i asks.Commit e = refl
 rests number i asks.Reopen e = refl
 rests number i asks.Blank e = no_commit e
-rests number i (asks.Create dims leaf) e = no_commit e
+rests number i (asks.Create dims leaf_size) e = no_commit e
 rests number i (asks.Add points) e = no_commit e
 rests number i (asks.Delete doc) e = no_commit e
 rests number i (asks.DeleteBox lo hi) e = no_commit e

@@ -146,7 +146,7 @@ module _ (line : ℕ) (i : Index) where
 
   pub light_gives : (r : Request) → is_light r ≡ true → Gives (points_in r) (step_on i r)
   unfolding step_on
-  light_gives (asks.Create dims leaf) light done = absurd (done tt)
+  light_gives (asks.Create dims leaf_size) light done = absurd (done tt)
   light_gives (asks.Add points) light done = both (length points) (is_full points i) (Refused why.Full) (more points i) (λ d. absurd (d tt)) (λ d. refl) done
   light_gives (asks.InBox view lo hi) light done = answers (viewed_docs view i) _ done
   light_gives (asks.InPolygon view rings) light done = answers (viewed_docs view i) _ done
@@ -204,8 +204,8 @@ request_stays line i r (inr q) = query_request line i r q
 -- without an index none makes one
 first_stays : (line : ℕ) (r : Request) → ((answer_to line None (step None r)).refused ≡ 1) ⊎ (is_query r ≡ true)
     → (answer_to line None (step None r)).state ≡ None
-first_stays line (asks.Create dims leaf) (inl e) = absurd (omega (arith, e))
-first_stays line (asks.Create dims leaf) (inr q) = no q
+first_stays line (asks.Create dims leaf_size) (inl e) = absurd (omega (arith, e))
+first_stays line (asks.Create dims leaf_size) (inr q) = no q
 first_stays line r ask = refl
 
 -- ---- which requests are which

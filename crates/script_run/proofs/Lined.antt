@@ -46,7 +46,7 @@ unopened lang told p old files new fault whole same keeps result is still = subs
 
 -- what is stored where an index comes from
 pub origin_keeps : (files : Files) (o : Origin) (i : Index) (stored : State) → IsFrom files o i stored → IsStored files stored
-origin_keeps files (origin.New dims leaf) i stored h = subst (IsStored files) (sym h.2) h.0
+origin_keeps files (origin.New dims leaf_size) i stored h = subst (IsStored files) (sym h.2) h.0
 origin_keeps files (origin.Stored commit) i stored h = subst (IsStored files) (sym h.2) h.1
 
 module _ (lang : Language) (told : Type 0) (old files after : Files) (written : List ℕ) where

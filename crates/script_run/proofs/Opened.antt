@@ -20,11 +20,11 @@ some_stored files c state says h =
     (index_of c held.0, held.2, subst (IsStored files) held.2 h)
 
 -- a new session stands over files without a Commit file
-pub made_stands : (D dims leaf : ℕ) (files : Files) (s : SessionData) (i : Index) (stored : State) → dims ≡ D → Sees D files s.set (new_index D leaf)
+pub made_stands : (D dims leaf_size : ℕ) (files : Files) (s : SessionData) (i : Index) (stored : State) → dims ≡ D → Sees D files s.set (new_index D leaf_size)
     → (files Commit ≡ None → Guards D files s)
-    → (files Commit ≡ None) × (i ≡ new_index dims leaf) × (stored ≡ None) → IsSessionOf D files s i stored
-made_stands D dims leaf files s i stored d seen guards h = record {
-  seen = subst (Sees D files s.set) (sym (h.1 ∙ ap (λ n. new_index n leaf) d)) seen;
+    → (files Commit ≡ None) × (i ≡ new_index dims leaf_size) × (stored ≡ None) → IsSessionOf D files s i stored
+made_stands D dims leaf_size files s i stored d seen guards h = record {
+  seen = subst (Sees D files s.set) (sym (h.1 ∙ ap (λ n. new_index n leaf_size) d)) seen;
   guards = guards h.0;
   keeps = subst (IsStored files) (sym h.2) h.0;
 }

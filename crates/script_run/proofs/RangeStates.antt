@@ -61,7 +61,7 @@ module _ (line : ℕ) (i : Index) where
 
 -- a new index has no point
 first_keeps : (line : ℕ) (r : Request) → AreRanges (answer_to line None (step None r)).state
-first_keeps line (asks.Create dims leaf) = λ even.
+first_keeps line (asks.Create dims leaf_size) = λ even.
     (All-nil (λ (d : Document). All (AreEnds (dims / 2)) d.points), All-nil (λ (s : Snapshot). HaveRanges (dims / 2) s.docs))
 first_keeps line r = tt
 

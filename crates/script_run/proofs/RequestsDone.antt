@@ -123,7 +123,7 @@ module _ (D : ℕ) (told : Type 0) (is_told : told) (i : Index) (old new : LineM
       → IsApplied D told i r old new before after (Err fault) → new.files ≡ old.files
   unfolding step_on
   fault_files asks.Blank fault h room a = absurd h
-  fault_files (asks.Create dims leaf) fault h room a = (a.light refl (omega (arith, room))).files is_told
+  fault_files (asks.Create dims leaf_size) fault h room a = (a.light refl (omega (arith, room))).files is_told
   fault_files (asks.Add points) fault h room a = no (a.barred (subst (λ n. 2 ^ 24 < n + length points) points_given (full_of i points h)))
   fault_files (asks.Delete doc) fault h room a = absurd h
   fault_files (asks.DeleteBox lo hi) fault h room a = absurd h

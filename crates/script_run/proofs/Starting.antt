@@ -71,14 +71,14 @@ no_length [] h = refl
 no_length (x ∷ xs) h = absurd (omega (arith, h))
 
 -- a new session opens as a new index, without a read
-pub opens_new : (D dims leaf : ℕ) (files : Files) (reads : ℕ) (s : SessionData) (i : Index) (stored : State) → dims ≡ D
-    → ((f : Files) → Sees D f s.set (new_index D leaf)) → s.set.parts ≡ []
-    → IsFrom files (origin.New dims leaf) i stored → Opens (origin.New dims leaf) i stored files reads reads (Ok s)
-opens_new D dims leaf files reads s i stored d seen bare from = record {
+pub opens_new : (D dims leaf_size : ℕ) (files : Files) (reads : ℕ) (s : SessionData) (i : Index) (stored : State) → dims ≡ D
+    → ((f : Files) → Sees D f s.set (new_index D leaf_size)) → s.set.parts ≡ []
+    → IsFrom files (origin.New dims leaf_size) i stored → Opens (origin.New dims leaf_size) i stored files reads reads (Ok s)
+opens_new D dims leaf_size files reads s i stored d seen bare from = record {
   rested = ap (λ (j : Index). j.begun) from.1;
   fresh = record { empty = no_entries (seen files); listed = λ p there apart. none_there p (subst (λ (ps : List LiveSegment). Contains ps p) bare there) };
   idle = λ is. let e : None ≡ Some i = sym from.2 ∙ is in absurd cc;
-  looks = λ scope is. looks_now D files s.set (new_index D leaf) scope.heads (seen files) refl
+  looks = λ scope is. looks_now D files s.set (new_index D leaf_size) scope.heads (seen files) refl
       (ap heads_of bare ∙ ap (λ (q : Scope). q.heads) (sym (none_scope files scope from.0 is)));
   reads = λ scope is. omega arith;
 }
@@ -90,7 +90,7 @@ opens_new D dims leaf files reads s i stored d seen bare from = record {
     back_none [] ys e = e
     back_none (x ∷ xs) ys e = absurd cc
 
-    no_entries : Sees D files s.set (new_index D leaf) → s.set.buffer ≡ []
+    no_entries : Sees D files s.set (new_index D leaf_size) → s.set.buffer ≡ []
     no_entries sees = back_none (live_in_parts sees.contents s.set.parts) s.set.buffer
         (no_length _ (let few = sees.few in let points_given = sees.points_given in omega (arith, few, points_given)))
 
@@ -131,9 +131,9 @@ module _ (D : ℕ) (old new : Files) (before now : ℕ) (commit : CommitData) (i
   }
 
 -- one that found no memory
-pub opens_none : (dims leaf : ℕ) (files : Files) (reads : ℕ) (i : Index) (stored : State) (fault : PageFault) → IsFrom files (origin.New dims leaf) i stored
-    → Opens (origin.New dims leaf) i stored files reads reads (Err fault)
-opens_none dims leaf files reads i stored fault from =
+pub opens_none : (dims leaf_size : ℕ) (files : Files) (reads : ℕ) (i : Index) (stored : State) (fault : PageFault)
+    → IsFrom files (origin.New dims leaf_size) i stored → Opens (origin.New dims leaf_size) i stored files reads reads (Err fault)
+opens_none dims leaf_size files reads i stored fault from =
     record { rested = ap (λ (j : Index). j.begun) from.1; fresh = tt; idle = λ is. tt; looks = λ s is. tt; reads = λ s is. omega arith }
 
 module _ {T : Type 0} {E : Type 0} (lang : Language) (o : Origin) (i : Index) (stored : State) (line : ℕ) (lines : List (List ℕ)) (old middle : Files)
@@ -194,19 +194,20 @@ module _ (lang : Language) (lines : List (List ℕ)) (line : ℕ) (rest : List (
         touches_none lang heads (line + 1) more n parts.0 parts.1 parts.2 parts.4 parts.3;
   }
 
-  module _ {T E : Type 0} (dims leaf : ℕ) (made : (answer lang line None x).state ≡ Some (new_index dims leaf)) (old new : Files) (before now : ℕ)
+  module _ {T E : Type 0} (dims leaf_size : ℕ) (made : (answer lang line None x).state ≡ Some (new_index dims leaf_size)) (old new : Files) (before now : ℕ)
       (none : old Commit ≡ None) (result : Result T E)
-      (leads : LeadsFrom lang (origin.New dims leaf) (new_index dims leaf) None (line + 1) more old new before now result) where
+      (leads : LeadsFrom lang (origin.New dims leaf_size) (new_index dims leaf_size) None (line + 1) more old new before now result) where
     no_queries : AllAsk lang is_query 1 None lines → ⊥
     no_queries asks =
         let stays =
-        query_stays lang line None x (all_first lang line None (Some (new_index dims leaf)) rest x more is made is_query (near.asks is_query asks)) in
-        let e : Some (new_index dims leaf) ≡ None = sym made ∙ stays in absurd cc
+        query_stays lang line None x (all_first lang line None (Some (new_index dims leaf_size)) rest x more is made is_query (near.asks is_query asks)) in
+        let e : Some (new_index dims leaf_size) ≡ None = sym made ∙ stays in absurd cc
 
-    light_rest : (heads : List Head) → AreLight lang heads 1 None lines → AreLight lang heads (line + 1) (Some (new_index dims leaf)) more
+    light_rest : (heads : List Head) → AreLight lang heads 1 None lines → AreLight lang heads (line + 1) (Some (new_index dims leaf_size)) more
     light_rest heads l = record {
-      asks = all_rest lang line None (Some (new_index dims leaf)) rest x more is made is_light (near.asks is_light l.asks);
-      points = subst (λ (s : State). given_of s ≤ 0 + 16384) (sym (state_rest lang line None (Some (new_index dims leaf)) rest x more is made ∙ near.after))
+      asks = all_rest lang line None (Some (new_index dims leaf_size)) rest x more is made is_light (near.asks is_light l.asks);
+      points =
+          subst (λ (s : State). given_of s ≤ 0 + 16384) (sym (state_rest lang line None (Some (new_index dims leaf_size)) rest x more is made ∙ near.after))
           l.points;
       room = l.room;
     }
@@ -215,7 +216,7 @@ module _ (lang : Language) (lines : List (List ℕ)) (line : ℕ) (rest : List (
         → TouchesLines lang s.heads 1 None lines n → now ≤ before + n
     made_reads s scope (inl asks) n touches = absurd (no_queries asks)
     made_reads s scope (inr light) n touches =
-        let parts = touches_parts lang line None (Some (new_index dims leaf)) rest x more is made s.heads n (near.touches s.heads n touches) in
+        let parts = touches_parts lang line None (Some (new_index dims leaf_size)) rest x more is made s.heads n (near.touches s.heads n touches) in
         let few = leads.reads s scope (inr (light_rest s.heads light)) parts.1 parts.3 in
         omega (arith, few, parts.4)
 
@@ -223,7 +224,8 @@ module _ (lang : Language) (lines : List (List ℕ)) (line : ℕ) (rest : List (
     pub made_leads : LeadsAll lang None lines old new before now result
     made_leads = record {
       canon = leads.canon;
-      levels = λ asks. leads.levels (all_rest lang line None (Some (new_index dims leaf)) rest x more is made begins_no_merge (near.asks begins_no_merge asks));
+      levels = λ asks.
+          leads.levels (all_rest lang line None (Some (new_index dims leaf_size)) rest x more is made begins_no_merge (near.asks begins_no_merge asks));
       still = λ asks. absurd (no_queries asks);
       reads = λ s scope pages opening which n touches.
           let is_none = ap (λ (q : Scope). q.state) (none_scope old s none scope) in

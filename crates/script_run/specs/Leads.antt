@@ -87,7 +87,7 @@ pub record Leads {T E : Type 0} (lang : Language) (line : ℕ) (i : Index) (line
 
 -- opening the segments that the index comes from reads so many pages
 abbrev pub origin_pages : Files → Origin → List Head → ℕ
-origin_pages files (origin.New dims leaf) heads = 0
+origin_pages files (origin.New dims leaf_size) heads = 0
 origin_pages files (origin.Stored commit) heads = segments_pages files commit.listed heads
 
 -- nothing waits, and each segment is listed

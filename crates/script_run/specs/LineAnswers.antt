@@ -92,12 +92,13 @@ pub record IsAnswerOf (answer : Answer) (after : State) (is_refused : Bool) : Ty
 
 abbrev pub IsFirstAnswer : Answer → Opening → Type 0
 IsFirstAnswer answer (opening.Nothing refused) = IsAnswerOf answer None refused
-IsFirstAnswer answer (opening.Made dims leaf) = (answer.state ≡ Some (new_index dims leaf)) × (answer.refused ≡ 0)
+IsFirstAnswer answer (opening.Made dims leaf_size) = (answer.state ≡ Some (new_index dims leaf_size))
+    × (answer.refused ≡ 0)
 
 -- a new index has 1 to 8 dimensions, and leaves within the limits
-abbrev pub IsNew : (dims leaf : ℕ) → Type 0
-IsNew dims leaf = (1 ≤ dims) × (dims ≤ 8) × (2 ≤ leaf) × (leaf ≤ greatest_leaf dims)
+abbrev pub IsNew : (dims leaf_size : ℕ) → Type 0
+IsNew dims leaf_size = (1 ≤ dims) × (dims ≤ 8) × (2 ≤ leaf_size) × (leaf_size ≤ greatest_leaf dims)
 
 abbrev pub IsNewWithin : Opening → Type 0
 IsNewWithin (opening.Nothing refused) = Unit {0}
-IsNewWithin (opening.Made dims leaf) = IsNew dims leaf
+IsNewWithin (opening.Made dims leaf_size) = IsNew dims leaf_size

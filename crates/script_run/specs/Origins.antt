@@ -11,21 +11,22 @@ use Rattle.script_run.specs.declared.origin.Origin.TheVariants as origin
 
 -- how many dimensions it has
 abbrev pub dims_of : Origin → ℕ
-dims_of (origin.New dims leaf) = dims
+dims_of (origin.New dims leaf_size) = dims
 dims_of (origin.Stored commit) = commit.dims
 
 -- a new index is within the limits
 abbrev pub IsAllowed : Origin → Type 0
-IsAllowed (origin.New dims leaf) = IsNew dims leaf
+IsAllowed (origin.New dims leaf_size) = IsNew dims leaf_size
 IsAllowed (origin.Stored commit) = Unit {0}
 
 -- a new index over files that have none, or the one that the files store, whose commit this is
 abbrev pub IsFrom : Files → Origin → Index → State → Type 0
-IsFrom files (origin.New dims leaf) i stored = (files Commit ≡ None) × (i ≡ new_index dims leaf) × (stored ≡ None)
+IsFrom files (origin.New dims leaf_size) i stored = (files Commit ≡ None) × (i ≡ new_index dims leaf_size)
+    × (stored ≡ None)
 IsFrom files (origin.Stored commit) i stored = IsCommitFile (bytes_of (files Commit)) commit × IsStored files (Some i)
     × (stored ≡ Some i)
 
 -- no index is there, or the folder's commit is this
 abbrev pub IsOriginOf : Files → Origin → Type 0
-IsOriginOf files (origin.New dims leaf) = files Commit ≡ None
+IsOriginOf files (origin.New dims leaf_size) = files Commit ≡ None
 IsOriginOf files (origin.Stored commit) = IsCommitFile (bytes_of (files Commit)) commit

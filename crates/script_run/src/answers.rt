@@ -40,7 +40,7 @@ pub enum Opening {
     /// There is still no index.
     Nothing { refused: bool },
     /// A new index is there.
-    Made { dims: u8, leaf: u16 },
+    Made { dims: u8, leaf_size: u16 },
 }
 
 /// Answers a line where an index is there, and sends the answer. True where the line is refused. Of a line that is
@@ -225,9 +225,9 @@ fn first_reply_to(
 {
     match language.read_first(line) {
         Ok(First::Blank) => Ok(Opening::Nothing { refused: false }),
-        Ok(First::Create { dims, leaf }) => {
+        Ok(First::Create { dims, leaf_size }) => {
             put_ok(reply)?;
-            Ok(Opening::Made { dims, leaf })
+            Ok(Opening::Made { dims, leaf_size })
         }
         Err(RangeFault::Memory) => Err(AllocError),
         Err(fault) => {

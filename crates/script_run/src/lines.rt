@@ -162,14 +162,14 @@ fn run_first<S: Source, R: Threads + Sync, F: Folder, K: Sink, G: Gate>(
                         refused: is_refused,
                     },
                 ) => refused += u64::from(is_refused),
-                Ok(Opening::Made { dims, leaf }) => {
+                Ok(Opening::Made { dims, leaf_size }) => {
                     let tally = Tally {
                         line: line + 1,
                         refused,
                     };
                     return run_from(
                         work,
-                        Origin::New { dims, leaf },
+                        Origin::New { dims, leaf_size },
                         tally,
                         reader,
                         input,

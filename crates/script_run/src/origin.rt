@@ -20,7 +20,7 @@ use std::alloc::Global;
 #[derive(Debug, Drop)]
 pub enum Origin {
     /// A line of the script makes it.
-    New { dims: u8, leaf: u16 },
+    New { dims: u8, leaf_size: u16 },
     /// The folder stores it, with this commit.
     Stored(Commit),
 }
@@ -34,7 +34,7 @@ impl Origin {
         ensures few { result ≤ 8 }
     {
         match self {
-            Origin::New { dims, leaf: _ } => *dims,
+            Origin::New { dims, leaf_size: _ } => *dims,
             Origin::Stored(commit) => commit.dims(),
         }
     }
@@ -65,7 +65,7 @@ pub fn open<const D: usize, F: Folder>(
         (IsEvident (IsTrue F.told × IsOriginOf (F.files folder.old) origin) (F.files folder.new)) }
 {
     match origin {
-        Origin::New { dims: _, leaf } => Ok(Session::create(alloc, leaf, settings)?),
+        Origin::New { dims: _, leaf_size } => Ok(Session::create(alloc, leaf_size, settings)?),
         Origin::Stored(commit) => Session::attach(alloc, folder, commit, settings),
     }
 }

@@ -51,12 +51,12 @@ spelled_once D head first (Split d x l r) leaves xs ys h k =
     (subst (λ (ls : List (List ℕ)). SpellsLeaves D head (first + leaf_count l) r ls h.back_items) backs h.back_spells) k.back_spells in
     h.items_joined ∙ (λ i. front_items i ++ back_items i) ∙ sym k.items_joined
 
-fits_once : (D id leaf entries : ℕ) (n : NewSegmentData) (xs ys : List Item) → FitsSegment D id leaf entries n.index n.leaves xs
-    → FitsSegment D id leaf entries n.index n.leaves ys → xs ≡ ys
-fits_once D id leaf entries n xs ys h k =
+fits_once : (D id leaf_size entries : ℕ) (n : NewSegmentData) (xs ys : List Item) → FitsSegment D id leaf_size entries n.index n.leaves xs
+    → FitsSegment D id leaf_size entries n.index n.leaves ys → xs ≡ ys
+fits_once D id leaf_size entries n xs ys h k =
     let trees : h.tree ≡ k.tree = (one_index D n.index.form n.index.leaves n.index.bytes h.root k.root h.tree k.tree h.has k.has).1 in
-    let head : Head = head_of id entries leaf n.index in
+    let head : Head = head_of id entries leaf_size n.index in
     spelled_once D head 0 k.tree n.leaves xs ys (subst (λ (t : IndexTree). SpellsLeaves D head 0 t n.leaves xs) trees h.spells) k.spells
 
 pub has_once : (D : ℕ) (xs ys : List Item) (n : NewSegmentData) → HasEntries D xs n → HasEntries D ys n → xs ≡ ys
-has_once D xs ys n h k = fits_once D 0 n.leaf n.entries n xs ys (h.fits 0) (k.fits 0)
+has_once D xs ys n h k = fits_once D 0 n.leaf_size n.entries n xs ys (h.fits 0) (k.fits 0)

@@ -26,15 +26,16 @@ use Rattle.bkd_build.proofs.Whole.{unmapped}
 use Rattle.segment_build.specs.NewSegments.{NewSegmentData, HasEntries, HasSomeEntries, IsCanonical}
 
 -- the least multiple of a leaf that has the entries
-holds_all : (leaf count n left : ℕ) → n * leaf + left ≡ count + leaf - 1 → left < leaf → 1 ≤ count → (count ≤ n * leaf) × (n * leaf < count + leaf)
-holds_all leaf count n left is less some = (omega arith, omega arith)
+holds_all : (leaf_size count n left : ℕ) → n * leaf_size + left ≡ count + leaf_size - 1 → left < leaf_size → 1 ≤ count
+    → (count ≤ n * leaf_size) × (n * leaf_size < count + leaf_size)
+holds_all leaf_size count n left is less some = (omega arith, omega arith)
 
 -- both crates count the same leaves
-pub same_leaves_for : (leaf count : ℕ) → 1 ≤ leaf → 1 ≤ count → leaves_for count leaf ≡ canon.leaves_for leaf count
-same_leaves_for leaf count some one =
-    let whole : ℕ = count + leaf - 1 in
-    let fits = holds_all leaf count (whole / leaf) (whole % leaf) (div-add-mod' whole leaf) (mod_below whole leaf some) one in
-    leaves_unique leaf (whole / leaf) count some fits.0 fits.1
+pub same_leaves_for : (leaf_size count : ℕ) → 1 ≤ leaf_size → 1 ≤ count → leaves_for count leaf_size ≡ canon.leaves_for leaf_size count
+same_leaves_for leaf_size count some one =
+    let whole : ℕ = count + leaf_size - 1 in
+    let fits = holds_all leaf_size count (whole / leaf_size) (whole % leaf_size) (div-add-mod' whole leaf_size) (mod_below whole leaf_size some) one in
+    leaves_unique leaf_size (whole / leaf_size) count some fits.0 fits.1
 
 -- the index counts the leaves
 pub leaves_counted : (D : ℕ) (t : KdTree) → leaf_count (index_tree_of D t) ≡ length (leaves_of t)
@@ -57,9 +58,9 @@ right_counts head first n ls rs is h k lt =
     ap (λ (xs : List Item). length xs) (sym at) ∙ h (k + n) (omega (arith, length-append ls rs, lt, is)) ∙ ap (count_of head) (omega arith)
 
 -- the leaves of a canonical subtree are spelled one behind the other
-spells_leaves : (D leaf : ℕ) (head : Head) (first : ℕ) (t : KdTree) → IsCanon D leaf t → HasCounts head first (leaves_of t)
+spells_leaves : (D leaf_size : ℕ) (head : Head) (first : ℕ) (t : KdTree) → IsCanon D leaf_size t → HasCounts head first (leaves_of t)
     → SpellsLeaves D head first (index_tree_of D t) (map (spelling D) (leaves_of t)) (entries_of t)
-spells_leaves D leaf head first (Leaf items own) h counts = (
+spells_leaves D leaf_size head first (Leaf items own) h counts = (
   spelling D items,
   refl,
   refl,
@@ -69,13 +70,13 @@ spells_leaves D leaf head first (Leaf items own) h counts = (
     inside = unmapped (λ (p : List ℤ). in_box own p ≡ true) items h.cell.holds;
   },
 )
-spells_leaves D leaf head first (Split d x l r) h counts = record {
+spells_leaves D leaf_size head first (Split d x l r) h counts = record {
   front_leaves = map (spelling D) (leaves_of l);
   back_leaves = map (spelling D) (leaves_of r);
   front_items = entries_of l;
   back_items = entries_of r;
-  front_spells = spells_leaves D leaf head first l h.1 (left_counts head first (leaves_of l) (leaves_of r) counts);
-  back_spells = spells_leaves D leaf head (first + leaf_count (index_tree_of D l)) r h.2
+  front_spells = spells_leaves D leaf_size head first l h.1 (left_counts head first (leaves_of l) (leaves_of r) counts);
+  back_spells = spells_leaves D leaf_size head (first + leaf_count (index_tree_of D l)) r h.2
       (right_counts head first (leaf_count (index_tree_of D l)) (leaves_of l) (leaves_of r) (leaves_counted D l) counts);
   leaves_joined = map-append (spelling D) (leaves_of l) (leaves_of r);
   items_joined = refl;
@@ -84,58 +85,59 @@ spells_leaves D leaf head first (Split d x l r) h counts = record {
 -- ---- what is built
 
 -- it is a segment of its entries, in the order of the leaves
-fits_built : (D id leaf : ℕ) (items : List Item) (b : BuiltValue) → 2 ≤ leaf → leaf ≤ leaf_limit D → 1 ≤ length items → length items ≤ 16777216
-    → (h : IsBuilt D leaf items b) → FitsSegment D id leaf (length items) b.index b.leaves (entries_of h.tree)
-fits_built D id leaf items b two limit some few h =
+fits_built : (D id leaf_size : ℕ) (items : List Item) (b : BuiltValue) → 2 ≤ leaf_size → leaf_size ≤ leaf_limit D → 1 ≤ length items → length items ≤ 16777216
+    → (h : IsBuilt D leaf_size items b) → FitsSegment D id leaf_size (length items) b.index b.leaves (entries_of h.tree)
+fits_built D id leaf_size items b two limit some few h =
     let t : KdTree = h.tree in
-    let one : 1 ≤ leaf = omega arith in
+    let one : 1 ≤ leaf_size = omega arith in
     let all : length (entries_of t) ≡ length items = length_permutation items (entries_of t) h.canon.same in
-    let head : Head = head_of id (length items) leaf b.index in
+    let head : Head = head_of id (length items) leaf_size b.index in
     let counts : HasCounts head 0 (leaves_of t) = λ k lt.
-    size_at D leaf t one h.canon.canon k [] lt ∙ ap (λ (n : ℕ). min leaf (n - k * leaf)) all ∙ ap (count_of head) (omega arith) in
+    size_at D leaf_size t one h.canon.canon k [] lt ∙ ap (λ (n : ℕ). min leaf_size (n - k * leaf_size)) all ∙ ap (count_of head) (omega arith) in
     record {
       least_leaf = two;
       greatest_leaf = limit;
       some = some;
       few = few;
-      leaves_are = (are_leaves D leaf items b one h).told ∙ sym (same_leaves_for leaf (length items) one some);
+      leaves_are = (are_leaves D leaf_size items b one h).told ∙ sym (same_leaves_for leaf_size (length items) one some);
       root = h.root;
       tree = index_tree_of D t;
       has = h.index;
       spells = subst (λ (bs : List (List ℕ)). SpellsLeaves D head 0 (index_tree_of D t) bs (entries_of t)) (sym h.leaves)
-          (spells_leaves D leaf head 0 t h.canon.canon counts);
+          (spells_leaves D leaf_size head 0 t h.canon.canon counts);
     }
 
-abbrev pub segment_of : BuiltValue → (leaf entries : ℕ) → LiveSet → NewSegmentData
-segment_of b leaf entries live = record { index = b.index; leaves = b.leaves; leaf = leaf; entries = entries; live = live }
+abbrev pub segment_of : BuiltValue → (leaf_size entries : ℕ) → LiveSet → NewSegmentData
+segment_of b leaf_size entries live = record { index = b.index; leaves = b.leaves; leaf_size = leaf_size; entries = entries; live = live }
 
 -- it has the entries of its leaves
-has_leaves : (D leaf count : ℕ) (items : List Item) (b : BuiltValue) (live : LiveSet) → 2 ≤ leaf → leaf ≤ leaf_limit D → 1 ≤ length items
+has_leaves : (D leaf_size count : ℕ) (items : List Item) (b : BuiltValue) (live : LiveSet) → 2 ≤ leaf_size → leaf_size ≤ leaf_limit D → 1 ≤ length items
     → length items ≤ 16777216 → count ≡ length items
-    → (h : IsBuilt D leaf items b) → HasEntries D (entries_of h.tree) (segment_of b leaf count live)
-has_leaves D leaf count items b live two limit some few counted h = record {
-  built = built_in_any_order D leaf items (entries_of h.tree) b h.canon.same h;
+    → (h : IsBuilt D leaf_size items b) → HasEntries D (entries_of h.tree) (segment_of b leaf_size count live)
+has_leaves D leaf_size count items b live two limit some few counted h = record {
+  built = built_in_any_order D leaf_size items (entries_of h.tree) b h.canon.same h;
   counted = counted ∙ sym (length_permutation items (entries_of h.tree) h.canon.same);
   fits = λ id.
-      subst (λ (n : ℕ). FitsSegment D id leaf n b.index b.leaves (entries_of h.tree)) (sym counted) (fits_built D id leaf items b two limit some few h);
+      subst (λ (n : ℕ). FitsSegment D id leaf_size n b.index b.leaves (entries_of h.tree)) (sym counted)
+          (fits_built D id leaf_size items b two limit some few h);
 }
 
 -- the same of the entries that it was built of
-pub has_built : {D : ℕ} (leaf count : ℕ) (es : List (Entry D)) (b : BuiltValue) (live : LiveSet) → 2 ≤ leaf → leaf ≤ leaf_limit D → 1 ≤ length es
+pub has_built : {D : ℕ} (leaf_size count : ℕ) (es : List (Entry D)) (b : BuiltValue) (live : LiveSet) → 2 ≤ leaf_size → leaf_size ≤ leaf_limit D → 1 ≤ length es
     → length es ≤ 16777216 → count ≡ length es
-    → IsBuilt D leaf (items_of es) b → (items : List Item) × IsPermutation (items_of es) items × HasEntries D items (segment_of b leaf count live)
-has_built {D} leaf count es b live two limit some few counted h =
+    → IsBuilt D leaf_size (items_of es) b → (items : List Item) × IsPermutation (items_of es) items × HasEntries D items (segment_of b leaf_size count live)
+has_built {D} leaf_size count es b live two limit some few counted h =
     let long : length (items_of es) ≡ length es = length-items es in (
       entries_of h.tree,
       h.canon.same,
-      has_leaves D leaf count (items_of es) b live two limit (omega (arith, long, some)) (omega (arith, long, few)) (counted ∙ sym long) h,
+      has_leaves D leaf_size count (items_of es) b live two limit (omega (arith, long, some)) (omega (arith, long, few)) (counted ∙ sym long) h,
     )
 
-pub some_built : {D : ℕ} (leaf count : ℕ) (es : List (Entry D)) (b : BuiltValue) (live : LiveSet) → 2 ≤ leaf → leaf ≤ leaf_limit D → 1 ≤ length es
-    → length es ≤ 16777216 → count ≡ length es
-    → IsBuilt D leaf (items_of es) b → ∥ HasSomeEntries D (segment_of b leaf count live) ∥₁
-some_built {D} leaf count es b live two limit some few counted h =
-    let (items, same, has) = has_built {D = D} leaf count es b live two limit some few counted h in
+pub some_built : {D : ℕ} (leaf_size count : ℕ) (es : List (Entry D)) (b : BuiltValue) (live : LiveSet) → 2 ≤ leaf_size → leaf_size ≤ leaf_limit D
+    → 1 ≤ length es → length es ≤ 16777216 → count ≡ length es
+    → IsBuilt D leaf_size (items_of es) b → ∥ HasSomeEntries D (segment_of b leaf_size count live) ∥₁
+some_built {D} leaf_size count es b live two limit some few counted h =
+    let (items, same, has) = has_built {D = D} leaf_size count es b live two limit some few counted h in
     merely (record { items = items; has = has })
 
 -- ---- what has entries
@@ -150,19 +152,19 @@ some_live D n live some = ∥∥₁_map some (λ s. record { items = s.items; ha
 -- its parts are those of its entries
 pub fits_parts : (D id : ℕ) (n : NewSegmentData) (index : Body) (leaves : List (List ℕ)) (items : List Item) → index ≡ n.index → leaves ≡ n.leaves
     → HasEntries D items n
-    → FitsSegment D id n.leaf n.entries index leaves items
+    → FitsSegment D id n.leaf_size n.entries index leaves items
 fits_parts D id n index leaves items same_index same_leaves h =
-    subst (λ (i : Body). FitsSegment D id n.leaf n.entries i leaves items) (sym same_index)
-    (subst (λ (bs : List (List ℕ)). FitsSegment D id n.leaf n.entries n.index bs items) (sym same_leaves) (h.fits id))
+    subst (λ (i : Body). FitsSegment D id n.leaf_size n.entries i leaves items) (sym same_index)
+    (subst (λ (bs : List (List ℕ)). FitsSegment D id n.leaf_size n.entries n.index bs items) (sym same_leaves) (h.fits id))
 
 -- so it can be written
 pub can_write : (D id : ℕ) (n : NewSegmentData) (index : Body) (leaves : List (List ℕ)) → index ≡ n.index → leaves ≡ n.leaves → ∥ HasSomeEntries D n ∥₁
-    → ∥ CanWrite D id n.leaf n.entries index leaves ∥₁
+    → ∥ CanWrite D id n.leaf_size n.entries index leaves ∥₁
 can_write D id n index leaves same_index same_leaves some =
     ∥∥₁_map some (λ s. record { items = s.items; fits = fits_parts D id n index leaves s.items same_index same_leaves s.has })
 
 -- and its head is canonical
-pub head_canonical : (D id : ℕ) (n : NewSegmentData) (head : Head) (items : List Item) → head ≡ head_of id n.entries n.leaf n.index → HasEntries D items n
+pub head_canonical : (D id : ℕ) (n : NewSegmentData) (head : Head) (items : List Item) → head ≡ head_of id n.entries n.leaf_size n.index → HasEntries D items n
     → IsCanonical D head items
 head_canonical D id n head items is h = subst (λ (g : Head). IsCanonical D g items) (sym is) (record {
   root = h.built.root;

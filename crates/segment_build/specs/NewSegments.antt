@@ -12,16 +12,16 @@ use Rattle.segment_file.specs.Written.{FitsSegment}
 pub record NewSegmentData : Type 0 where
   pub index : Body
   pub leaves : List (List ℕ)
-  pub leaf : ℕ
+  pub leaf_size : ℕ
   pub entries : ℕ
   pub live : LiveSet
 
 -- The segment has these entries, in the order of its leaves: their canonical tree, spelled. It has no others
 -- (`one_list_of_entries`).
 pub record HasEntries (D : ℕ) (items : List Item) (n : NewSegmentData) : Type 0 where
-  pub built : IsBuilt D n.leaf items (record { index = n.index; leaves = n.leaves })
+  pub built : IsBuilt D n.leaf_size items (record { index = n.index; leaves = n.leaves })
   pub counted : n.entries ≡ length items
-  pub fits : (id : ℕ) → FitsSegment D id n.leaf n.entries n.index n.leaves items
+  pub fits : (id : ℕ) → FitsSegment D id n.leaf_size n.entries n.index n.leaves items
 
 -- there are entries of which it is the segment
 pub record HasSomeEntries (D : ℕ) (n : NewSegmentData) : Type 0 where
@@ -33,6 +33,6 @@ pub record HasSomeEntries (D : ℕ) (n : NewSegmentData) : Type 0 where
 pub record IsCanonical (D : ℕ) (head : Head) (items : List Item) : Type 0 where
   pub root : Region
   pub tree : KdTree
-  pub canon : Canon D head.leaf items root tree
+  pub canon : Canon D head.leaf_size items root tree
   pub form : head.index.form ≡ 3
   pub index : HasTree D head.index root (index_tree_of D tree)

@@ -19,14 +19,14 @@ use std::alloc::Global;
 use std::marker::Sync;
 use std::thread::Threads;
 
-/// Builds the segment of these entries with leaves of `leaf` entries, all of whose numbers are live. The slice holds
-/// the same entries in some order afterwards, also where memory is wanting. The upper `forks` levels of the tree are
-/// built in threads, whose halves pass the gate (`bkd_build::build`); nothing depends on these two.
+/// Builds the segment of these entries with leaves of `leaf_size` entries, all of whose numbers are live. The slice
+/// holds the same entries in some order afterwards, also where memory is wanting. The upper `forks` levels of the tree
+/// are built in threads, whose halves pass the gate (`bkd_build::build`); nothing depends on these two.
 pub fn build_segment<const D: usize, R: Threads + Sync, G: Gate>(
     rt: &R,
     alloc: Global,
     entries: &mut [Entry<D>],
-    leaf: u16,
+    leaf_size: u16,
     forks: u8,
     gate: &G,
 ) -> Result<NewSegment<D>, Memory>
@@ -35,8 +35,8 @@ pub fn build_segment<const D: usize, R: Threads + Sync, G: Gate>(
     requires few { length entries.old ≤ 2 ^ 24 }
     requires numbers { All (λ e. e.doc < 2 ^ 24) entries.old }
     requires once { NoneTwice (items_of entries.old) }
-    requires least_leaf { 2 ≤ leaf }
-    requires greatest_leaf { leaf ≤ leaf_limit D }
+    requires least_leaf { 2 ≤ leaf_size }
+    requires greatest_leaf { leaf_size ≤ leaf_limit D }
     ensures same { IsPermutation entries.old entries.new }
     ensures has { IfOk result
         (λ n. (items : List Item) × IsPermutation (items_of entries.old) items × HasEntries D items n) }
@@ -45,14 +45,14 @@ pub fn build_segment<const D: usize, R: Threads + Sync, G: Gate>(
     // the live numbers are those of its entries
     ensures found { IfOk result
         (λ n. (items : List Item) → HasEntries D items n → is_live n.live ≡ (λ number. has_entry number items)) }
-    ensures leaf { IfOk result (λ n. (n.leaf ≡ leaf) × (n.entries ≡ length entries.old)) }
+    ensures leaf_size { IfOk result (λ n. (n.leaf_size ≡ leaf_size) × (n.entries ≡ length entries.old)) }
 {
     let live = numbers_of(alloc, entries)?;
     let count = entries.len() as u32;
-    let built = build(rt, alloc, entries, leaf, forks, gate)?;
+    let built = build(rt, alloc, entries, leaf_size, forks, gate)?;
     Ok(NewSegment {
         built,
-        leaf,
+        leaf_size,
         entries: count,
         live,
     })

@@ -16,8 +16,8 @@ pub fn one_list_of_entries()
 /// Segments of the same entries, in whatever order, and of one leaf size have the same index; and an index that is
 /// canonical for entries is so for them in any order.
 pub fn one_canonical_index()
-    ensures one { (D : ℕ) (xs ys : List Item) (g h : Head) → g.leaf ≡ h.leaf → IsPermutation xs ys → IsCanonical D g xs
-        → IsCanonical D h ys → g.index ≡ h.index }
+    ensures one { (D : ℕ) (xs ys : List Item) (g h : Head) → g.leaf_size ≡ h.leaf_size → IsPermutation xs ys
+        → IsCanonical D g xs → IsCanonical D h ys → g.index ≡ h.index }
     ensures any_order { (D : ℕ) (xs ys : List Item) (h : Head) → IsPermutation xs ys → IsCanonical D h xs
         → IsCanonical D h ys }
 {}

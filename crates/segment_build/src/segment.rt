@@ -12,7 +12,7 @@ use std::marker::Model;
 #[derive(Debug, Drop)]
 pub struct NewSegment<const D: usize> {
     pub(crate) built: Built<D>,
-    pub(crate) leaf: u16,
+    pub(crate) leaf_size: u16,
     pub(crate) entries: u32,
     pub(crate) live: LiveBits,
 }
@@ -23,13 +23,14 @@ impl<const D: usize> Model for NewSegment<D> {
     ghost Value = { NewSegmentData };
 
     ghost view = { λ n. record
-        { index = n.built.index; leaves = n.built.leaves; leaf = n.leaf; entries = n.entries; live = n.live } };
+        { index = n.built.index; leaves = n.built.leaves; leaf_size = n.leaf_size; entries = n.entries;
+            live = n.live } };
 
     ghost invariant = { λ n. ∥ HasSomeEntries D
         (record {
           index = n.built.index;
           leaves = n.built.leaves;
-          leaf = n.leaf;
+          leaf_size = n.leaf_size;
           entries = n.entries;
           live = n.live;
         }) ∥₁ };
@@ -85,7 +86,7 @@ impl<const D: usize> NewSegment<D> {
         folder: &mut F,
         id: u64,
     ) -> Result<SegmentHead<D>, WriteFault>
-        ensures head { IfOk result (λ h. h ≡ head_of id self.now.entries self.now.leaf self.now.index) }
+        ensures head { IfOk result (λ h. h ≡ head_of id self.now.entries self.now.leaf_size self.now.index) }
         ensures written { IsTrue F.told → (items : List Item) → HasEntries D items self.now
             → IfOk result (λ h. IsSegment D (bytes_of (F.files folder.new (Segment id))) h items) }
         ensures canon { (items : List Item) → HasEntries D items self.now → IfOk result (λ h. IsCanonical D h items) }
@@ -98,7 +99,7 @@ impl<const D: usize> NewSegment<D> {
             alloc,
             folder,
             id,
-            self.leaf,
+            self.leaf_size,
             self.entries,
             index,
             self.built.leaves(),

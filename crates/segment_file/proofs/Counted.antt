@@ -20,23 +20,24 @@ mins_add a b x y n rest sum = omega (arith, rest, sum)
 
 -- the leaves from this number on, all full as long as entries are left
 tree_counted : (D : ℕ) (bytes : List ℕ) (head : Head) (first : ℕ) (s : Spot) (t : IndexTree) (items : List Item) → HoldsTree D bytes head first s t items
-    → length items ≡ min (leaf_count t * head.leaf) (head.entries - first * head.leaf)
+    → length items ≡ min (leaf_count t * head.leaf_size) (head.entries - first * head.leaf_size)
 tree_counted D bytes head first s (Leaf len own) items h =
-    leaf_counted D bytes head first s len own items h ∙ ap (λ (n : ℕ). min n (head.entries - first * head.leaf)) (omega arith)
+    leaf_counted D bytes head first s len own items h ∙ ap (λ (n : ℕ). min n (head.entries - first * head.leaf_size)) (omega arith)
 tree_counted D bytes head first s (Split d x l r) items h =
     let left = tree_counted D bytes head first s l h.front_items h.front_holds in
     let right = tree_counted D bytes head (first + leaf_count l) (right_begin s l r) r h.back_items h.back_holds in
     ap length h.joined
     ∙ length-append h.front_items h.back_items
     ∙ ap (λ (n : ℕ). n + length h.back_items) left
-    ∙ ap (λ (n : ℕ). min (leaf_count l * head.leaf) (head.entries - first * head.leaf) + n) right
-    ∙ mins_add (leaf_count l * head.leaf) (leaf_count r * head.leaf) (head.entries - first * head.leaf) (head.entries - (first + leaf_count l) * head.leaf)
-    ((leaf_count l + leaf_count r) * head.leaf)
-    (omega (arith, add-mul first (leaf_count l) head.leaf)) (add-mul (leaf_count l) (leaf_count r) head.leaf)
+    ∙ ap (λ (n : ℕ). min (leaf_count l * head.leaf_size) (head.entries - first * head.leaf_size) + n) right
+    ∙ mins_add (leaf_count l * head.leaf_size) (leaf_count r * head.leaf_size) (head.entries - first * head.leaf_size)
+        (head.entries - (first + leaf_count l) * head.leaf_size)
+    ((leaf_count l + leaf_count r) * head.leaf_size)
+    (omega (arith, add-mul first (leaf_count l) head.leaf_size)) (add-mul (leaf_count l) (leaf_count r) head.leaf_size)
 
 -- so many leaves have room for all entries
-room_for_all : (entries leaf : ℕ) → 1 ≤ leaf → entries ≤ leaves_for entries leaf * leaf
-room_for_all entries leaf some = omega (arith, mod-add-div' (entries + leaf - 1) leaf, mod-lt (entries + leaf - 1) some)
+room_for_all : (entries leaf_size : ℕ) → 1 ≤ leaf_size → entries ≤ leaves_for entries leaf_size * leaf_size
+room_for_all entries leaf_size some = omega (arith, mod-add-div' (entries + leaf_size - 1) leaf_size, mod-lt (entries + leaf_size - 1) some)
 
 ranges_of : (D : ℕ) (bytes : List ℕ) (head : Head) → IsHeadOf D bytes head → HasRanges D head
 unfolding IsHeadOf
@@ -45,9 +46,9 @@ ranges_of D bytes head h = h.spells.ranges
 all_counted : (D : ℕ) (bytes : List ℕ) (head : Head) (items : List Item) (t : IndexTree) → leaf_count t ≡ head.index.leaves
     → HoldsTree D bytes head 0 front t items → HasRanges D head → length items ≡ head.entries
 all_counted D bytes head items t leaves h ranges =
-    let enough : head.entries ≤ leaf_count t * head.leaf =
-    subst (λ (n : ℕ). head.entries ≤ n * head.leaf) (sym (leaves ∙ ranges.leaves_are))
-    (room_for_all head.entries head.leaf (omega (arith, ranges.least_leaf))) in
+    let enough : head.entries ≤ leaf_count t * head.leaf_size =
+    subst (λ (n : ℕ). head.entries ≤ n * head.leaf_size) (sym (leaves ∙ ranges.leaves_are))
+    (room_for_all head.entries head.leaf_size (omega (arith, ranges.least_leaf))) in
     tree_counted D bytes head 0 front t items h ∙ omega (arith, enough)
 
 pub segment_counted : (D : ℕ) (bytes : List ℕ) (head : Head) (items : List Item) → IsSegment D bytes head items → length items ≡ head.entries

@@ -26,16 +26,16 @@ fields_length f = let m = magic_length f.form in omega (arith, length-append (ma
 pub narrow_fields : (f : Fields) → AreFields f → AreNarrow f
 narrow_fields f h =
     let limit : leaf_limit f.dims ≤ 4000 = div-le_self 4000 (4 + 4 * f.dims) in
-    let few : leaves_for f.entries f.leaf ≤ f.entries + f.leaf - 1 = div-le_self (f.entries + f.leaf - 1) f.leaf in
+    let few : leaves_for f.entries f.leaf_size ≤ f.entries + f.leaf_size - 1 = div-le_self (f.entries + f.leaf_size - 1) f.leaf_size in
     let e = h.greatest_leaf in
     let s = h.few in
     let l = h.leaves_are in
-    record { leaf = omega arith; entries = omega arith; leaves = omega arith; index_length = h.short; leaf_pages = h.pages_fit }
+    record { leaf_size = omega arith; entries = omega arith; leaves = omega arith; index_length = h.short; leaf_pages = h.pages_fit }
 
 pub record AreSame (f g : Fields) (x y : List ℕ) : Type 0 where
   pub dims : f.dims ≡ g.dims
   pub form : f.form ≡ g.form
-  pub leaf : f.leaf ≡ g.leaf
+  pub leaf_size : f.leaf_size ≡ g.leaf_size
   pub entries : f.entries ≡ g.entries
   pub leaves : f.leaves ≡ g.leaves
   pub index_length : f.index_length ≡ g.index_length
@@ -46,14 +46,15 @@ pub record AreSame (f g : Fields) (x y : List ℕ) : Type 0 where
 pub numbers_unique : (f g : Fields) (x y : List ℕ) → AreNarrow f → AreNarrow g → numbers_bytes f ++ x ≡ numbers_bytes g ++ y → AreSame f g x y
 numbers_unique f g x y p q numbers =
     let rest_of : Fields → List ℕ → List ℕ = λ h z.
-    to_be_bytes w16 h.leaf
+    to_be_bytes w16 h.leaf_size
     ++ (to_be_bytes w32 h.entries ++ (to_be_bytes w32 h.leaves ++ (to_be_bytes w32 h.index_length ++ (to_be_bytes w32 h.leaf_pages ++ z)))) in
     let same_dims : f.dims ≡ g.dims = cc in
     let same_form : f.form ≡ g.form = cc in
     let behind : rest_of f x ≡ rest_of g y = cc in
-    let first = spelling_unique w16 f.leaf g.leaf
+    let first = spelling_unique w16 f.leaf_size g.leaf_size
     (to_be_bytes w32 f.entries ++ (to_be_bytes w32 f.leaves ++ (to_be_bytes w32 f.index_length ++ (to_be_bytes w32 f.leaf_pages ++ x))))
-    (to_be_bytes w32 g.entries ++ (to_be_bytes w32 g.leaves ++ (to_be_bytes w32 g.index_length ++ (to_be_bytes w32 g.leaf_pages ++ y)))) p.leaf q.leaf behind in
+    (to_be_bytes w32 g.entries ++ (to_be_bytes w32 g.leaves ++ (to_be_bytes w32 g.index_length ++ (to_be_bytes w32 g.leaf_pages ++ y)))) p.leaf_size q.leaf_size
+        behind in
     let second = spelling_unique w32 f.entries g.entries (to_be_bytes w32 f.leaves ++ (to_be_bytes w32 f.index_length ++ (to_be_bytes w32 f.leaf_pages ++ x)))
     (to_be_bytes w32 g.leaves ++ (to_be_bytes w32 g.index_length ++ (to_be_bytes w32 g.leaf_pages ++ y))) p.entries q.entries first.1 in
     let third = spelling_unique w32 f.leaves g.leaves (to_be_bytes w32 f.index_length ++ (to_be_bytes w32 f.leaf_pages ++ x))
@@ -64,7 +65,7 @@ numbers_unique f g x y p q numbers =
     record {
       dims = same_dims;
       form = same_form;
-      leaf = first.0;
+      leaf_size = first.0;
       entries = second.0;
       leaves = third.0;
       index_length = fourth.0;
@@ -98,7 +99,7 @@ pub same_fields : (f g : Fields) (x y : List ℕ) → AreSame f g x y → f ≡ 
 same_fields f g x y s = λ i. record {
   dims = s.dims i;
   form = s.form i;
-  leaf = s.leaf i;
+  leaf_size = s.leaf_size i;
   entries = s.entries i;
   leaves = s.leaves i;
   index_length = s.index_length i;

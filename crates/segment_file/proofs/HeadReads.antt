@@ -207,7 +207,7 @@ head_payloads files id count payload rest page front back pages = record {
 
 pub read_ranges : (D id : ℕ) (f : HeadFields) (payloads : List ℕ) (index : IndexBody) → id < 2 ^ 64 → f.dims ≡ D → AreFields (fields_said f)
     → IsIndexOf D f payloads index
-    → HasRanges D (head_of id f.entries f.leaf index)
+    → HasRanges D (head_of id f.entries f.leaf_size index)
 read_ranges D id f payloads index fits dims are i =
     let form = i.form in
     let leaves = i.leaves in
@@ -223,7 +223,7 @@ read_ranges D id f payloads index fits dims are i =
       least_form = omega arith;
       greatest_form = omega arith;
       least_leaf = are.least_leaf;
-      greatest_leaf = subst (λ (n : ℕ). f.leaf ≤ leaf_limit n) dims are.greatest_leaf;
+      greatest_leaf = subst (λ (n : ℕ). f.leaf_size ≤ leaf_limit n) dims are.greatest_leaf;
       some = are.some;
       few = are.few;
       leaves_are = leaves ∙ told;
@@ -231,11 +231,11 @@ read_ranges D id f payloads index fits dims are i =
     }
 
 pub said_fields : (D id : ℕ) (f : HeadFields) (payloads : List ℕ) (index : IndexBody) → f.dims ≡ D → IsIndexOf D f payloads index
-    → fields_said f ≡ fields_of D (head_of id f.entries f.leaf index) f.leaf_pages
+    → fields_said f ≡ fields_of D (head_of id f.entries f.leaf_size index) f.leaf_pages
 said_fields D id f payloads index dims i = λ k. record {
   dims = dims k;
   form = sym i.form k;
-  leaf = f.leaf;
+  leaf_size = f.leaf_size;
   entries = f.entries;
   leaves = sym i.leaves k;
   index_length = sym i.len k;
@@ -246,7 +246,7 @@ pub spells_head : (D id : ℕ) (bytes payload : List ℕ) (f : HeadFields) (inde
     → HasFields payload f
     → IsIndexOf D f (payloads_of bytes 1 (pages_for f.index_length)) index → HasTree D index root tree → IsFilePage (Segment id) bytes 0
     → payload ≡ payload_of (page_at bytes 0)
-    → ArePages (Segment id) bytes 1 (1 + pages_for f.index_length) → SpellsHead D bytes (head_of id f.entries f.leaf index) f.leaf_pages root tree
+    → ArePages (Segment id) bytes 1 (1 + pages_for f.index_length) → SpellsHead D bytes (head_of id f.entries f.leaf_size index) f.leaf_pages root tree
 spells_head D id bytes payload f index root tree fits dims has i tree_is page front pages =
     let count : pages_for f.index_length ≡ pages_for (length index.bytes) = ap (λ (n : ℕ). pages_for n) (sym i.len) in
     let are = has.are in

@@ -33,9 +33,9 @@ head_fields D head said h fits = record {
 pub narrow_head : (D : ℕ) (head : Head) (said : ℕ) → HasRanges D head → said < 2 ^ 32 → AreNarrow (fields_of D head said)
 narrow_head D head said h fits = narrow_fields (fields_of D head said) (head_fields D head said h fits)
 
-same_heads : (g h : Head) → g.id ≡ h.id → g.entries ≡ h.entries → g.leaf ≡ h.leaf → g.index.form ≡ h.index.form → g.index.leaves ≡ h.index.leaves
+same_heads : (g h : Head) → g.id ≡ h.id → g.entries ≡ h.entries → g.leaf_size ≡ h.leaf_size → g.index.form ≡ h.index.form → g.index.leaves ≡ h.index.leaves
     → g.index.bytes ≡ h.index.bytes → g ≡ h
-same_heads g h a b c d e f = λ i. record { id = a i; entries = b i; leaf = c i; index = record { form = d i; leaves = e i; bytes = f i } }
+same_heads g h a b c d e f = λ i. record { id = a i; entries = b i; leaf_size = c i; index = record { form = d i; leaves = e i; bytes = f i } }
 
 -- heads of one file that say two numbers of leaf pages
 pub spelled_once : (D E : ℕ) (bytes : List ℕ) (g h : Head) (m n : ℕ) (q r : Region) (t u : IndexTree) → g.id ≡ h.id
@@ -47,7 +47,7 @@ spelled_once D E bytes g h m n q r t u ids a b =
     let long : length g.index.bytes ≡ length h.index.bytes = same.index_length in
     let pages : index_pages g ≡ index_pages h = ap (λ (l : ℕ). pages_for l) long in
     let payloads : padded_body g.index.bytes ≡ padded_body h.index.bytes = sym a.index ∙ ap (λ (l : ℕ). payloads_of bytes 1 l) pages ∙ b.index in
-    (same_heads g h ids same.entries same.leaf same.form same.leaves (bodies_equal g.index.bytes h.index.bytes long payloads), same.leaf_pages, same.dims)
+    (same_heads g h ids same.entries same.leaf_size same.form same.leaves (bodies_equal g.index.bytes h.index.bytes long payloads), same.leaf_pages, same.dims)
 
 pub one_head : (D : ℕ) (bytes : List ℕ) (g h : Head) → g.id ≡ h.id → IsHeadOf D bytes g → IsHeadOf D bytes h → g ≡ h
 unfolding IsHeadOf

@@ -106,14 +106,14 @@ leaves_laid pre payloads base (leaf ∷ leaves) t front_is same lengths e =
 
 -- ---- the whole
 
-pub written : (D id leaf entries : ℕ) (index : Body) (leaves : List (List ℕ)) (items : List Item) (bytes : List ℕ) (count : ℕ) (f : Fields)
-    (fits : FitsSegment D id leaf entries index leaves items) → HasRanges D (head_of id entries leaf index)
-    → f ≡ fields_of D (head_of id entries leaf index) (pages_of fits.tree) → pages_of fits.tree < 2 ^ 32
+pub written : (D id leaf_size entries : ℕ) (index : Body) (leaves : List (List ℕ)) (items : List Item) (bytes : List ℕ) (count : ℕ) (f : Fields)
+    (fits : FitsSegment D id leaf_size entries index leaves items) → HasRanges D (head_of id entries leaf_size index)
+    → f ≡ fields_of D (head_of id entries leaf_size index) (pages_of fits.tree) → pages_of fits.tree < 2 ^ 32
     → IsPaged (Segment id) count (padded_body (fields_bytes f) ++ padded_body index.bytes ++ laid_pages [] leaves) bytes
-    → IsSegment D bytes (head_of id entries leaf index) items
+    → IsSegment D bytes (head_of id entries leaf_size index) items
 unfolding IsSegment IsHeadOf
-written D id leaf entries index leaves items bytes count f fits ranges fields narrow p =
-    let head = head_of id entries leaf index in
+written D id leaf_size entries index leaves items bytes count f fits ranges fields narrow p =
+    let head = head_of id entries leaf_size index in
     let t = fits.tree in
     let has = fits.has in
     let tree = has.tree in
@@ -175,28 +175,28 @@ short_ones (x ∷ xs) h =
     let n = head_length (length x) (map length xs) h in
     All-cons (λ (b : List ℕ). length b ≤ 4064) x xs n.1 (short_ones xs (tail_lengths (length x) (map length xs) h))
 
-pub short_leaves : (D id leaf entries : ℕ) (index : Body) (leaves : List (List ℕ)) (items : List Item) → FitsSegment D id leaf entries index leaves items
-    → All (λ b. length b ≤ 4064) leaves
-short_leaves D id leaf entries index leaves items fits =
+pub short_leaves : (D id leaf_size entries : ℕ) (index : Body) (leaves : List (List ℕ)) (items : List Item)
+    → FitsSegment D id leaf_size entries index leaves items → All (λ b. length b ≤ 4064) leaves
+short_leaves D id leaf_size entries index leaves items fits =
     let has = fits.has in
     let tree = has.tree in
-    short_ones leaves (subst AreLengths (sym (spelled_lengths D (head_of id entries leaf index) 0 fits.tree leaves items fits.spells)) tree.lengths)
+    short_ones leaves (subst AreLengths (sym (spelled_lengths D (head_of id entries leaf_size index) 0 fits.tree leaves items fits.spells)) tree.lengths)
 
-pub few_leaves : (D id leaf entries : ℕ) (index : Body) (leaves : List (List ℕ)) (items : List Item) → FitsSegment D id leaf entries index leaves items
-    → length leaves ≤ 8388608
-few_leaves D id leaf entries index leaves items fits =
+pub few_leaves : (D id leaf_size entries : ℕ) (index : Body) (leaves : List (List ℕ)) (items : List Item)
+    → FitsSegment D id leaf_size entries index leaves items → length leaves ≤ 8388608
+few_leaves D id leaf_size entries index leaves items fits =
     let has = fits.has in
     let tree = has.tree in
     let few = tree.few in
-    let same = spelled_lengths D (head_of id entries leaf index) 0 fits.tree leaves items fits.spells in
+    let same = spelled_lengths D (head_of id entries leaf_size index) 0 fits.tree leaves items fits.spells in
     let count = count_shaped index.leaves fits.tree tree.shaped in
     omega (arith, ap (λ (ns : List ℕ). length ns) same, length-map leaves (λ (b : List ℕ). length b), length-lengths_of fits.tree, count, few)
 
 -- ---- its head
 
-pub head_ranges : (D id leaf entries : ℕ) (index : Body) (leaves : List (List ℕ)) (items : List Item) → id < 2 ^ 64 → length index.bytes < 2 ^ 32
-    → FitsSegment D id leaf entries index leaves items → HasRanges D (head_of id entries leaf index)
-head_ranges D id leaf entries index leaves items small short fits =
+pub head_ranges : (D id leaf_size entries : ℕ) (index : Body) (leaves : List (List ℕ)) (items : List Item) → id < 2 ^ 64 → length index.bytes < 2 ^ 32
+    → FitsSegment D id leaf_size entries index leaves items → HasRanges D (head_of id entries leaf_size index)
+head_ranges D id leaf_size entries index leaves items small short fits =
     let has = fits.has in
     let tree = has.tree in
     record {

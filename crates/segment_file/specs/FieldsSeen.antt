@@ -9,7 +9,7 @@ abbrev pub fields_said : HeadFields → Fields
 fields_said f = record {
   dims = f.dims;
   form = f.form;
-  leaf = f.leaf;
+  leaf_size = f.leaf_size;
   entries = f.entries;
   leaves = f.leaves;
   index_length = f.index_length;
@@ -18,7 +18,7 @@ fields_said f = record {
 
 -- each field fits the bytes that spell it
 pub record AreNarrow (f : Fields) : Type 0 where
-  pub leaf : f.leaf < 2 ^ 16
+  pub leaf_size : f.leaf_size < 2 ^ 16
   pub entries : f.entries < 2 ^ 32
   pub leaves : f.leaves < 2 ^ 32
   pub index_length : f.index_length < 2 ^ 32

@@ -10,16 +10,16 @@ use Rattle.page_cache.specs.Bodies.{pages_for}
 pub record Head : Type 0 where
   pub id : ℕ
   pub entries : ℕ
-  pub leaf : ℕ
+  pub leaf_size : ℕ
   pub index : Body
 
 -- how many leaves so many entries fill
-abbrev pub leaves_for : (entries leaf : ℕ) → ℕ
-leaves_for entries leaf = (entries + leaf - 1) / leaf
+abbrev pub leaves_for : (entries leaf_size : ℕ) → ℕ
+leaves_for entries leaf_size = (entries + leaf_size - 1) / leaf_size
 
 -- how many entries a leaf has: all leaves are full but the last one, which has the rest. Leaves count from 0
 abbrev pub count_of : Head → ℕ → ℕ
-count_of head number = min head.leaf (head.entries - number * head.leaf)
+count_of head number = min head.leaf_size (head.entries - number * head.leaf_size)
 
 -- how many pages the index takes
 abbrev pub index_pages : Head → ℕ
@@ -34,7 +34,7 @@ page_of head page = 1 + index_pages head + page
 pub record Fields : Type 0 where
   pub dims : ℕ
   pub form : ℕ
-  pub leaf : ℕ
+  pub leaf_size : ℕ
   pub entries : ℕ
   pub leaves : ℕ
   pub index_length : ℕ
@@ -46,11 +46,11 @@ pub record AreFields (f : Fields) : Type 0 where
   pub few_dims : f.dims ≤ 8
   pub least_form : 1 ≤ f.form
   pub greatest_form : f.form ≤ 3
-  pub least_leaf : 2 ≤ f.leaf
-  pub greatest_leaf : f.leaf ≤ leaf_limit f.dims
+  pub least_leaf : 2 ≤ f.leaf_size
+  pub greatest_leaf : f.leaf_size ≤ leaf_limit f.dims
   pub some : 1 ≤ f.entries
   pub few : f.entries ≤ 16777216
-  pub leaves_are : f.leaves ≡ leaves_for f.entries f.leaf
+  pub leaves_are : f.leaves ≡ leaves_for f.entries f.leaf_size
   pub short : f.index_length < 2 ^ 32
   pub pages_fit : f.leaf_pages < 2 ^ 32
 
@@ -61,7 +61,7 @@ magic form = if form == 3 then codes "BKDPSEG2" else codes "BKDPSEG1"
 -- the fields behind the magic bytes, the greatest byte of a number first (this project's layout)
 abbrev pub numbers_bytes : Fields → List ℕ
 numbers_bytes f =
-    f.dims ∷ f.form ∷ to_be_bytes w16 f.leaf ++ (to_be_bytes w32 f.entries ++ (to_be_bytes w32 f.leaves
+    f.dims ∷ f.form ∷ to_be_bytes w16 f.leaf_size ++ (to_be_bytes w32 f.entries ++ (to_be_bytes w32 f.leaves
     ++ (to_be_bytes w32 f.index_length ++ to_be_bytes w32 f.leaf_pages)))
 
 unfoldable pub fields_bytes : Fields → List ℕ
@@ -72,7 +72,7 @@ abbrev pub fields_of : ℕ → Head → ℕ → Fields
 fields_of D head leaf_pages = record {
   dims = D;
   form = head.index.form;
-  leaf = head.leaf;
+  leaf_size = head.leaf_size;
   entries = head.entries;
   leaves = head.index.leaves;
   index_length = length head.index.bytes;
@@ -88,11 +88,11 @@ pub record HasRanges (D : ℕ) (head : Head) : Type 0 where
   pub id_fits : head.id < 2 ^ 64
   pub least_form : 1 ≤ head.index.form
   pub greatest_form : head.index.form ≤ 3
-  pub least_leaf : 2 ≤ head.leaf
-  pub greatest_leaf : head.leaf ≤ leaf_limit D
+  pub least_leaf : 2 ≤ head.leaf_size
+  pub greatest_leaf : head.leaf_size ≤ leaf_limit D
   pub some : 1 ≤ head.entries
   pub few : head.entries ≤ 16777216
-  pub leaves_are : head.index.leaves ≡ leaves_for head.entries head.leaf
+  pub leaves_are : head.index.leaves ≡ leaves_for head.entries head.leaf_size
   pub short : length head.index.bytes < 2 ^ 32
 
 -- a head whose index has a tree

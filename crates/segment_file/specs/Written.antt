@@ -27,23 +27,23 @@ SpellsLeaves D head first (Split d x l r) leaves items =
     JoinsBoth (SpellsLeaves D head first l) (SpellsLeaves D head (first + leaf_count l) r) leaves items
 
 -- the head of these arguments
-abbrev pub head_of : (id entries leaf : ℕ) → Body → Head
-head_of id entries leaf index = record { id = id; entries = entries; leaf = leaf; index = index }
+abbrev pub head_of : (id entries leaf_size : ℕ) → Body → Head
+head_of id entries leaf_size index = record { id = id; entries = entries; leaf_size = leaf_size; index = index }
 
 -- these parts are those of a segment with these entries
-pub record FitsSegment (D id leaf entries : ℕ) (index : Body) (leaves : List (List ℕ)) (items : List Item)
+pub record FitsSegment (D id leaf_size entries : ℕ) (index : Body) (leaves : List (List ℕ)) (items : List Item)
     : Type 0 where
-  pub least_leaf : 2 ≤ leaf
-  pub greatest_leaf : leaf ≤ leaf_limit D
+  pub least_leaf : 2 ≤ leaf_size
+  pub greatest_leaf : leaf_size ≤ leaf_limit D
   pub some : 1 ≤ entries
   pub few : entries ≤ 16777216
-  pub leaves_are : index.leaves ≡ leaves_for entries leaf
+  pub leaves_are : index.leaves ≡ leaves_for entries leaf_size
   pub root : Region
   pub tree : IndexTree
   pub has : HasTree D index root tree
-  pub spells : SpellsLeaves D (head_of id entries leaf index) 0 tree leaves items
+  pub spells : SpellsLeaves D (head_of id entries leaf_size index) 0 tree leaves items
 
 -- these parts are those of some segment
-pub record CanWrite (D id leaf entries : ℕ) (index : Body) (leaves : List (List ℕ)) : Type 0 where
+pub record CanWrite (D id leaf_size entries : ℕ) (index : Body) (leaves : List (List ℕ)) : Type 0 where
   pub items : List Item
-  pub fits : FitsSegment D id leaf entries index leaves items
+  pub fits : FitsSegment D id leaf_size entries index leaves items

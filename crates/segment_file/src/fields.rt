@@ -27,7 +27,7 @@ const OWN_CELLS: u8 = 3;
 pub(crate) struct HeadFields {
     pub(crate) dims: u8,
     pub(crate) form: u8,
-    pub(crate) leaf: u16,
+    pub(crate) leaf_size: u16,
     pub(crate) entries: u32,
     pub(crate) leaves: u32,
     pub(crate) index_length: u32,
@@ -67,13 +67,13 @@ impl HeadFields {
         if self.form == 0 || self.form > OWN_CELLS {
             return false;
         }
-        if self.leaf < 2 || self.leaf > greatest_leaf(self.dims) {
+        if self.leaf_size < 2 || self.leaf_size > greatest_leaf(self.dims) {
             return false;
         }
         if self.entries == 0 || self.entries > MOST_POINTS {
             return false;
         }
-        self.leaves == (self.entries + u32::from(self.leaf) - 1) / u32::from(self.leaf)
+        self.leaves == (self.entries + u32::from(self.leaf_size) - 1) / u32::from(self.leaf_size)
     }
 
     /// The bytes of the fields.
@@ -84,7 +84,7 @@ impl HeadFields {
         put_slice(&mut out, magic_of(self.form))?;
         put_u8(&mut out, self.dims)?;
         put_u8(&mut out, self.form)?;
-        put_u16(&mut out, self.leaf)?;
+        put_u16(&mut out, self.leaf_size)?;
         put_u32(&mut out, self.entries)?;
         put_u32(&mut out, self.leaves)?;
         put_u32(&mut out, self.index_length)?;
@@ -131,7 +131,7 @@ fn take_numbers(cursor: &mut Cursor<'_>) -> Option<HeadFields>
 {
     let dims = cursor.take_u8().ok()?;
     let form = cursor.take_u8().ok()?;
-    let leaf = cursor.take_u16().ok()?;
+    let leaf_size = cursor.take_u16().ok()?;
     let entries = cursor.take_u32().ok()?;
     let leaves = cursor.take_u32().ok()?;
     let index_length = cursor.take_u32().ok()?;
@@ -139,7 +139,7 @@ fn take_numbers(cursor: &mut Cursor<'_>) -> Option<HeadFields>
     Some(HeadFields {
         dims,
         form,
-        leaf,
+        leaf_size,
         entries,
         leaves,
         index_length,

@@ -12,7 +12,7 @@ use std::marker::Model;
 pub struct SegmentHead<const D: usize> {
     pub(crate) id: u64,
     pub(crate) entries: u32,
-    pub(crate) leaf: u16,
+    pub(crate) leaf_size: u16,
     pub(crate) index: Index<D>,
 }
 
@@ -22,9 +22,9 @@ impl<const D: usize> Model for SegmentHead<D> {
 
     ghost Value = { Head };
 
-    ghost view = { λ h. head_of h.id h.entries h.leaf h.index };
+    ghost view = { λ h. head_of h.id h.entries h.leaf_size h.index };
 
-    ghost invariant = { λ h. HasRanges D (head_of h.id h.entries h.leaf h.index) };
+    ghost invariant = { λ h. HasRanges D (head_of h.id h.entries h.leaf_size h.index) };
 }
 
 impl<const D: usize> SegmentHead<D> {
@@ -47,9 +47,9 @@ impl<const D: usize> SegmentHead<D> {
 
     /// How many entries a leaf has; the last one may have fewer.
     pub fn leaf_size(&self) -> u16
-        ensures { result ≡ self.now.leaf }
+        ensures { result ≡ self.now.leaf_size }
     {
-        self.leaf
+        self.leaf_size
     }
 
     /// The index of the segment, which leads to its leaves.
@@ -72,9 +72,9 @@ impl<const D: usize> SegmentHead<D> {
     pub fn count_of(&self, leaf: u32) -> u16
         ensures { result ≡ count_of self.now leaf }
     {
-        let before = u64::from(leaf) * u64::from(self.leaf);
+        let before = u64::from(leaf) * u64::from(self.leaf_size);
         let left = u64::from(self.entries).saturating_sub(before);
-        left.min(u64::from(self.leaf)) as u16
+        left.min(u64::from(self.leaf_size)) as u16
     }
 
     /// The same head once more.
@@ -84,7 +84,7 @@ impl<const D: usize> SegmentHead<D> {
         Ok(SegmentHead {
             id: self.id,
             entries: self.entries,
-            leaf: self.leaf,
+            leaf_size: self.leaf_size,
             index: self.index.copy(alloc)?,
         })
     }

@@ -64,7 +64,7 @@ pub fn open_segment<const D: usize, F: Pages>(
     Ok(SegmentHead {
         id,
         entries: fields.entries,
-        leaf: fields.leaf,
+        leaf_size: fields.leaf_size,
         index,
     })
 }

@@ -28,14 +28,15 @@ pub fn write_segment<const D: usize, F: Folder>(
     alloc: Global,
     folder: &mut F,
     id: u64,
-    leaf: u16,
+    leaf_size: u16,
     entries: u32,
     index: Index<D>,
     leaves: &[Bytes],
 ) -> Result<SegmentHead<D>, WriteFault>
-    requires { ∥ CanWrite D id leaf entries index leaves.now ∥₁ }
-    ensures head { IfOk result (λ h. h ≡ head_of id entries leaf index.entry) }
-    ensures written { IsTrue F.told → (items : List Item) → FitsSegment D id leaf entries index.entry leaves.now items
+    requires { ∥ CanWrite D id leaf_size entries index leaves.now ∥₁ }
+    ensures head { IfOk result (λ h. h ≡ head_of id entries leaf_size index.entry) }
+    ensures written { IsTrue F.told → (items : List Item)
+        → FitsSegment D id leaf_size entries index.entry leaves.now items
         → IfOk result (λ h. IsSegment D (bytes_of (F.files folder.new (Segment id))) h items) }
     ensures others { IsTrue F.told → SameBut (Segment id) (F.files folder.old) (F.files folder.new) }
     ensures reads { F.reads folder.new ≡ F.reads folder.old }
@@ -47,7 +48,7 @@ pub fn write_segment<const D: usize, F: Folder>(
     let fields = HeadFields {
         dims: D as u8,
         form: index.form(),
-        leaf,
+        leaf_size,
         entries,
         leaves: index.leaves(),
         index_length,
@@ -57,7 +58,7 @@ pub fn write_segment<const D: usize, F: Folder>(
     Ok(SegmentHead {
         id,
         entries,
-        leaf,
+        leaf_size,
         index,
     })
 }

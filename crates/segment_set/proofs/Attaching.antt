@@ -114,7 +114,7 @@ commit_unlisted c names is = false_from_ne_true (is_named names Commit) (λ name
 
 abbrev pub attached : CommitData → NameList → List LiveSegment → PageCache → SetData
 attached c names parts cache = record {
-  leaf = c.leaf;
+  leaf_size = c.leaf_size;
   next = c.next;
   points_given = c.points_given;
   names = names;
@@ -148,7 +148,7 @@ sees_attached D files c names parts cache i dims says stored heads lives agrees 
         agrees = agrees;
       };
       dims = dims;
-      leaf = refl;
+      leaf_size = refl;
       next = refl;
       points_given = refl;
       begun = refl;
@@ -195,7 +195,7 @@ well_attached D told files c names parts cache dims commit all placed listed own
   some_dims = subst (λ n. 1 ≤ n) dims commit.ranges.some_dims;
   few_dims = subst (λ n. n ≤ 8) dims commit.ranges.most_dims;
   least_leaf = commit.ranges.least_leaf;
-  greatest_leaf = subst (λ n. c.leaf ≤ leaf_limit n) dims commit.ranges.most_leaf;
+  greatest_leaf = subst (λ n. c.leaf_size ≤ leaf_limit n) dims commit.ranges.most_leaf;
   numbered = commit.ranges.numbered;
   most_given = commit.ranges.most_given;
   spread = record { alone = λ number. (let one = (placed number).0 in omega (arith, one)); below = λ number le. ((placed number).1 le, refl) };
@@ -204,7 +204,7 @@ well_attached D told files c names parts cache dims commit all placed listed own
   once = once_none;
   sixteen = λ number. omega arith;
   few = let long = zip_length (IsOpened told files c) c.listed parts all in let few = commit.ranges.few in omega arith;
-  leaf_size = zip_right (IsOpened told files c) (λ (s : Listed). Unit {0}) (λ (p : LiveSegment). p.head.leaf ≡ c.leaf) c.listed parts
+  leaf_size = zip_right (IsOpened told files c) (λ (s : Listed). Unit {0}) (λ (p : LiveSegment). p.head.leaf_size ≡ c.leaf_size) c.listed parts
       (λ s p u one. one.listed.leaf_size) (λ k s lt. tt) all;
   live_fits = zip_right (IsOpened told files c) (λ (s : Listed). s.live ≤ s.entries) (λ (p : LiveSegment). length p.live.live ≤ p.head.entries) c.listed parts
       (λ s p le one. omega (arith, le, one.listed.live, one.listed.entries)) (λ k s lt. (commit.segments.each k s lt).live) all;
@@ -225,7 +225,7 @@ pub at_rest_attached : (told : Type 0) (files : Files) (c : CommitData) (names :
     → AllZip (IsOpened told files c) c.listed parts → names.next_segment ≡ c.next_segment
     → IsAtRest (attached c names parts cache) c
 at_rest_attached told files c names parts cache all next = record {
-  leaf = refl;
+  leaf_size = refl;
   as_committed = record {
     next = refl;
     points_given = refl;
@@ -243,9 +243,9 @@ at_rest_attached told files c names parts cache all next = record {
 }
 
 -- the set as a call makes it
-pub attached_is : (c : CommitData) (names : NameList) (parts : List LiveSegment) (cache : PageCache) (leaf next points_given : ℕ) (buffer : List Item)
-    (snapshots : List NamedView) → leaf ≡ c.leaf → next ≡ c.next → points_given ≡ c.points_given → buffer ≡ [] → snapshots ≡ []
-    → record (attached c names parts cache) { leaf = leaf; next = next; points_given = points_given; buffer = buffer; snapshots = snapshots }
+pub attached_is : (c : CommitData) (names : NameList) (parts : List LiveSegment) (cache : PageCache) (leaf_size next points_given : ℕ) (buffer : List Item)
+    (snapshots : List NamedView) → leaf_size ≡ c.leaf_size → next ≡ c.next → points_given ≡ c.points_given → buffer ≡ [] → snapshots ≡ []
+    → record (attached c names parts cache) { leaf_size = leaf_size; next = next; points_given = points_given; buffer = buffer; snapshots = snapshots }
     ≡ attached c names parts cache
-attached_is c names parts cache leaf next points_given buffer snapshots l n g b s =
-    λ i. record (attached c names parts cache) { leaf = l i; next = n i; points_given = g i; buffer = b i; snapshots = s i }
+attached_is c names parts cache leaf_size next points_given buffer snapshots l n g b s =
+    λ i. record (attached c names parts cache) { leaf_size = l i; next = n i; points_given = g i; buffer = b i; snapshots = s i }

@@ -78,11 +78,11 @@ keeps_written told old new before after name next joined fresh other same = reco
 -- ---- the set alone
 
 pub stays_none : (s : SetData) → StaysAlone s s
-stays_none s = record { leaf = refl; next = refl; points_given = refl; snapshots = refl; begun = refl; live = λ n h. h }
+stays_none s = record { leaf_size = refl; next = refl; points_given = refl; snapshots = refl; begun = refl; live = λ n h. h }
 
 pub stays_then : (a b c : SetData) → StaysAlone a b → StaysAlone b c → StaysAlone a c
 stays_then a b c first second = record {
-  leaf = second.leaf ∙ first.leaf;
+  leaf_size = second.leaf_size ∙ first.leaf_size;
   next = second.next ∙ first.next;
   points_given = second.points_given ∙ first.points_given;
   snapshots = second.snapshots ∙ first.snapshots;
@@ -93,7 +93,7 @@ stays_then a b c first second = record {
 -- of a call that changes the cache alone
 pub stays_cached : (s t : SetData) → StaysButCache s t → StaysAlone s t
 stays_cached s t alone =
-    subst (StaysAlone s) (sym alone.is) (record { leaf = refl; next = refl; points_given = refl; snapshots = refl; begun = refl; live = λ n h. h })
+    subst (StaysAlone s) (sym alone.is) (record { leaf_size = refl; next = refl; points_given = refl; snapshots = refl; begun = refl; live = λ n h. h })
 
 -- ---- the segments
 

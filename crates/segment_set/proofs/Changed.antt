@@ -78,7 +78,7 @@ sees_but D number files s i seen = record {
   contents = seen.contents;
   stands = stands_but D number files seen.contents s seen.stands;
   dims = seen.dims;
-  leaf = seen.leaf;
+  leaf_size = seen.leaf_size;
   next = seen.next;
   points_given = seen.points_given;
   begun = seen.begun ∙ flag s.begun;
@@ -122,7 +122,7 @@ sees_with D files s i points ok seen = record {
   contents = seen.contents;
   stands = record { now = seen.stands.now; kept = seen.stands.kept; begun = seen.stands.begun; agrees = seen.stands.agrees };
   dims = seen.dims;
-  leaf = seen.leaf;
+  leaf_size = seen.leaf_size;
   next = ap (λ n. n + 1) seen.next;
   points_given = ap (λ n. n + length points) seen.points_given;
   begun = seen.begun;
@@ -183,7 +183,7 @@ live_without number s = λ i n. live_but number n s i
 
 pub stays_but : (number : ℕ) (s : SetData) → StaysAlone s (set_but number s)
 stays_but number s = record {
-  leaf = refl;
+  leaf_size = refl;
   next = refl;
   points_given = refl;
   snapshots = refl;

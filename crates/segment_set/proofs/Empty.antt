@@ -16,8 +16,8 @@ use Rattle.segment_set.specs.Sets.{IsWell, NamedView, SetData}
 use Rattle.segment_set.specs.Seen.{Sees}
 
 abbrev pub empty_set : ℕ → NameList → PageCache → SetData
-empty_set leaf names cache = record {
-  leaf = leaf;
+empty_set leaf_size names cache = record {
+  leaf_size = leaf_size;
   next = 0;
   points_given = 0;
   names = names;
@@ -30,19 +30,19 @@ empty_set leaf names cache = record {
 }
 
 -- a set whose fields are those of the empty one is that
-pub empty_is : (leaf next : ℕ) (names : NameList) (cache : PageCache) (parts : List LiveSegment) (buffer : List Item) (snapshots : List NamedView) → next ≡ 0
-    → parts ≡ [] → buffer ≡ [] → snapshots ≡ []
-    → record (empty_set leaf names cache) { next = next; parts = parts; buffer = buffer; snapshots = snapshots } ≡ empty_set leaf names cache
-empty_is leaf next names cache parts buffer snapshots n p b s =
-    λ i. record (empty_set leaf names cache) { next = n i; parts = p i; buffer = b i; snapshots = s i }
+pub empty_is : (leaf_size next : ℕ) (names : NameList) (cache : PageCache) (parts : List LiveSegment) (buffer : List Item) (snapshots : List NamedView)
+    → next ≡ 0 → parts ≡ [] → buffer ≡ [] → snapshots ≡ []
+    → record (empty_set leaf_size names cache) { next = next; parts = parts; buffer = buffer; snapshots = snapshots } ≡ empty_set leaf_size names cache
+empty_is leaf_size next names cache parts buffer snapshots n p b s =
+    λ i. record (empty_set leaf_size names cache) { next = n i; parts = p i; buffer = b i; snapshots = s i }
 
 none_twice_empty : NoneTwice []
 unfolding NoneTwice
 none_twice_empty x = omega arith
 
-pub well_empty : (D leaf : ℕ) (names : NameList) (cache : PageCache) → 1 ≤ D → D ≤ 8 → 2 ≤ leaf → leaf ≤ leaf_limit D → ((id : ℕ) → KeepsFile cache id → ⊥)
-    → is_named names.names Commit ≡ false → IsWell D (empty_set leaf names cache)
-well_empty D leaf names cache some few least greatest none own = record {
+pub well_empty : (D leaf_size : ℕ) (names : NameList) (cache : PageCache) → 1 ≤ D → D ≤ 8 → 2 ≤ leaf_size → leaf_size ≤ leaf_limit D
+    → ((id : ℕ) → KeepsFile cache id → ⊥) → is_named names.names Commit ≡ false → IsWell D (empty_set leaf_size names cache)
+well_empty D leaf_size names cache some few least greatest none own = record {
   some_dims = some;
   few_dims = few;
   least_leaf = least;
@@ -69,13 +69,13 @@ well_empty D leaf names cache some few least greatest none own = record {
   unhidden = All-nil _;
 }
 
-pub sees_empty : (D leaf : ℕ) (names : NameList) (cache : PageCache) (files : Files) → Agrees files cache
-    → Sees D files (empty_set leaf names cache) (new_index D leaf)
-sees_empty D leaf names cache files agrees = record {
+pub sees_empty : (D leaf_size : ℕ) (names : NameList) (cache : PageCache) (files : Files) → Agrees files cache
+    → Sees D files (empty_set leaf_size names cache) (new_index D leaf_size)
+sees_empty D leaf_size names cache files agrees = record {
   contents = λ id. [];
   stands = record { now = All-nil _; kept = All-nil _; begun = tt; agrees = agrees };
   dims = refl;
-  leaf = refl;
+  leaf_size = refl;
   next = refl;
   points_given = refl;
   begun = refl;

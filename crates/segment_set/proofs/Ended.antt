@@ -69,16 +69,16 @@ module _ (D : ℕ) (told : Type 0) (files new_files : Files) {s : SetData} (name
   inputs_are : inputs_of s.begun ≡ b.inputs
   inputs_are = ap inputs_of begun
 
-  built_is : (n : NewSegmentData) → living b.built ≡ Some n → IsBuiltOf D s.leaf (parts_among b.inputs s.parts) n × (1 ≤ length n.live.live)
+  built_is : (n : NewSegmentData) → living b.built ≡ Some n → IsBuiltOf D s.leaf_size (parts_among b.inputs s.parts) n × (1 ≤ length n.live.live)
   built_is n is =
       let living = living_is b.built n is in
-      (subst (λ (ids : List ℕ). IsBuiltOf D s.leaf (parts_among ids s.parts) n) inputs_are (well.built n (ap built_of begun ∙ living.0)), living.1)
+      (subst (λ (ids : List ℕ). IsBuiltOf D s.leaf_size (parts_among ids s.parts) n) inputs_are (well.built n (ap built_of begun ∙ living.0)), living.1)
 
-  is_made : (n : NewSegmentData) → living b.built ≡ Some n → IsMade D s.leaf n
+  is_made : (n : NewSegmentData) → living b.built ≡ Some n → IsMade D s.leaf_size n
   is_made n is = let of = built_is n is in record { leaf_size = of.0.leaf_size; has = of.0.has; fits = of.0.fits; some = of.1 }
 
   fewer_living : (o : Option NewSegmentData) (number : ℕ)
-      → ((n : NewSegmentData) → o ≡ Some n → IsBuiltOf D s.leaf (parts_among b.inputs s.parts) n × (1 ≤ length n.live.live))
+      → ((n : NewSegmentData) → o ≡ Some n → IsBuiltOf D s.leaf_size (parts_among b.inputs s.parts) n × (1 ≤ length n.live.live))
       → place_built number o ≤ sum_by (place_in number) (parts_among b.inputs s.parts)
   fewer_living None number of = omega arith
   fewer_living (Some n) number of = elim (cases_Bool (is_live n.live number)) [
@@ -96,12 +96,12 @@ module _ (D : ℕ) (told : Type 0) (files new_files : Files) {s : SetData} (name
   }
 
   few_parts : (o : Option NewSegmentData) → Replaces D told s.names names new_files b.inputs o s.parts parts
-      → ((n : NewSegmentData) → o ≡ Some n → IsBuiltOf D s.leaf (parts_among b.inputs s.parts) n × (1 ≤ length n.live.live))
+      → ((n : NewSegmentData) → o ≡ Some n → IsBuiltOf D s.leaf_size (parts_among b.inputs s.parts) n × (1 ≤ length n.live.live))
       → length parts ≤ length s.parts
   few_parts None r of = let same : length parts ≡ length (parts_but b.inputs s.parts) = ap length r in omega (arith, length_parted b.inputs s.parts)
   few_parts (Some n) r of =
       let live =
-      live_number D s.leaf n (record { leaf_size = (of n refl).0.leaf_size; has = (of n refl).0.has; fits = (of n refl).0.fits; some = (of n refl).1 }) in
+      live_number D s.leaf_size n (record { leaf_size = (of n refl).0.leaf_size; has = (of n refl).0.has; fits = (of n refl).0.fits; some = (of n refl).1 }) in
       omega (
         arith,
         some (place_in live.0) (parts_among b.inputs s.parts) (some_place live.0 (parts_among b.inputs s.parts) ((of n refl).0.within live.0 live.1)),

@@ -81,8 +81,8 @@ module _ (D : ℕ) (entries items : List Item) (n : NewSegmentData) (same : IsPe
       by [] h = cc
       by (m ∷ ms) h = omega arith
 
-  pub made : (leaf : ℕ) → n.leaf ≡ leaf → IsLiveSet n.live → 1 ≤ length entries → AreUncrowded entries → IsMade D leaf n
-  made leaf leaf_is set some fair = record {
+  pub made : (leaf_size : ℕ) → n.leaf_size ≡ leaf_size → IsLiveSet n.live → 1 ≤ length entries → AreUncrowded entries → IsMade D leaf_size n
+  made leaf_size leaf_is set some fair = record {
     leaf_size = leaf_is;
     has = merely (record { items = items; has = has; uncrowded = uncrowded_permuted entries items same fair });
     fits = omega (arith, live_fit n.live items set (λ number is. sym (live_is number) ∙ is), has.counted);
@@ -101,12 +101,12 @@ within entries parts all number there =
     subst (λ (m : ℕ). has_live m parts ≡ true) found.2 (All-contains (λ (x : Item). has_live x.doc parts ≡ true) entries found.0 all found.1)
 
 -- what is built of entries that are live in segments
-pub gathered_of : (D leaf : ℕ) (entries items : List Item) (n : NewSegmentData) (parts : List LiveSegment) → IsPermutation entries items → HasEntries D items n
-    → is_live n.live ≡ (λ number. has_entry number entries)
-    → n.leaf ≡ leaf → IsLiveSet n.live → 1 ≤ length entries → All (λ (x : Item). has_live x.doc parts ≡ true) entries → AreUncrowded entries
-    → IsGathered D leaf parts n
-gathered_of D leaf entries items n parts same has live leaf_is set some all fair = record {
-  made = made D entries items n same has live leaf leaf_is set some fair;
+pub gathered_of : (D leaf_size : ℕ) (entries items : List Item) (n : NewSegmentData) (parts : List LiveSegment) → IsPermutation entries items
+    → HasEntries D items n → is_live n.live ≡ (λ number. has_entry number entries)
+    → n.leaf_size ≡ leaf_size → IsLiveSet n.live → 1 ≤ length entries → All (λ (x : Item). has_live x.doc parts ≡ true) entries → AreUncrowded entries
+    → IsGathered D leaf_size parts n
+gathered_of D leaf_size entries items n parts same has live leaf_is set some all fair = record {
+  made = made D entries items n same has live leaf_size leaf_is set some fair;
   all = merely (record { items = items; has = has; all = all_live D entries items n same has live });
   within = λ number is. within entries parts all number (sym (ap (λ (f : ℕ → Bool). f number) live) ∙ is);
 }

@@ -99,17 +99,17 @@ settled_lives D files c inputs ids parts are whole reads =
     λ k p lt. whole_lives D files c _ (all k p lt) (read k p lt)
 
 -- one that builds a segment
-pub merged_lives : (D : ℕ) (told : Type 0) (leaf : ℕ) (before after : NameList) (files new_files : Files) (inputs ids : List ℕ)
+pub merged_lives : (D : ℕ) (told : Type 0) (leaf_size : ℕ) (before after : NameList) (files new_files : Files) (inputs ids : List ℕ)
     (old new : List LiveSegment) (c : Contents) → told
     → ids ≡ filter (λ id. not (is_among inputs id)) (ids_of old) → ((id : ℕ) → is_among inputs id ≡ true → is_named before.names (Segment id) ≡ true)
-    → IsMerged D told leaf before after files new_files ids old new → AreRead D new_files c new → AllLive c (parts_but inputs new)
-merged_lives D told leaf before after files new_files inputs ids old new c is_told are named m reads = by m.built m.replaces m.gathered
+    → IsMerged D told leaf_size before after files new_files ids old new → AreRead D new_files c new → AllLive c (parts_but inputs new)
+merged_lives D told leaf_size before after files new_files inputs ids old new c is_told are named m reads = by m.built m.replaces m.gathered
   where
     none : parts_but inputs (parts_but ids old) ≡ []
     none = none_free inputs ids old are
 
     by : (built : Option NewSegmentData) → Replaces D told before after new_files ids built old new
-        → ((n : NewSegmentData) → built ≡ Some n → IsGathered D leaf (parts_among ids old) n) → AllLive c (parts_but inputs new)
+        → ((n : NewSegmentData) → built ≡ Some n → IsGathered D leaf_size (parts_among ids old) n) → AllLive c (parts_but inputs new)
     by None r gathered =
         subst (AllLive c) (sym (ap (parts_but inputs) r ∙ none)) (All-nil (λ (p : LiveSegment). All (λ x. is_live p.live x.doc ≡ true) (c p.head.id)))
     by (Some n) r gathered =

@@ -45,7 +45,7 @@ pub record Moves (D : ℕ) (told : Type 0) (files new_files : Files) (s : SetDat
   pub kept : KeepsNamed told s.names names files new_files
   pub built : Option NewSegmentData
   pub replaces : Replaces D told s.names names new_files ids built s.parts parts
-  pub made : (n : NewSegmentData) → built ≡ Some n → IsMade D s.leaf n
+  pub made : (n : NewSegmentData) → built ≡ Some n → IsMade D s.leaf_size n
   pub fewer : (number : ℕ)
       → place_built number built + one_if (has_entry number left) ≤ sum_by (place_in number) (parts_among ids s.parts) + one_if (has_entry number s.buffer)
 
@@ -76,7 +76,7 @@ module _ (D : ℕ) (told : Type 0) (files new_files : Files) (s : SetData) (name
   pub well_moved : IsWell D s → (begun : Option BegunMerge) (cache : PageCache) → length parts ≤ 200 → length left ≤ 16384 → IsNonDecreasingBy (λ x. x.doc) left
       → NoneTwice left → AreFew left
       → All (λ id. is_among (ids_of parts) id ≡ true) (inputs_of begun) → length (inputs_of begun) ≤ 64
-      → ((n : NewSegmentData) → built_of begun ≡ Some n → IsBuiltOf D s.leaf (parts_among (inputs_of begun) parts) n)
+      → ((n : NewSegmentData) → built_of begun ≡ Some n → IsBuiltOf D s.leaf_size (parts_among (inputs_of begun) parts) n)
       → ((id : ℕ) → KeepsFile cache id → is_named s.names.names (Segment id) ≡ true) → MarksGo s.cache cache
       → IsWell D (moved s names parts left begun cache)
   well_moved well begun cache few room ordered once sixteen inputs few_inputs built cached go = record {
@@ -92,7 +92,7 @@ module _ (D : ℕ) (told : Type 0) (files new_files : Files) (s : SetData) (name
     once = once;
     sixteen = sixteen;
     few = few;
-    leaf_size = all_replaced D told s.names names new_files ids s.parts parts (λ (p : LiveSegment). p.head.leaf ≡ s.leaf) m.built m.replaces
+    leaf_size = all_replaced D told s.names names new_files ids s.parts parts (λ (p : LiveSegment). p.head.leaf_size ≡ s.leaf_size) m.built m.replaces
         (λ id n is named. (m.made n is).leaf_size) well.leaf_size;
     live_fits = all_replaced D told s.names names new_files ids s.parts parts (λ (p : LiveSegment). length p.live.live ≤ p.head.entries) m.built m.replaces
         (λ id n is named. (m.made n is).fits) well.live_fits;
@@ -137,7 +137,7 @@ module _ (D : ℕ) (told : Type 0) (files new_files : Files) (s : SetData) (name
 
   pub stays_moved : (begun : Option BegunMerge) (cache : PageCache) → is_some begun ≡ is_some s.begun → StaysAlone s (moved s names parts left begun cache)
   stays_moved begun cache same =
-      record { leaf = refl; next = refl; points_given = refl; snapshots = refl; begun = same; live = λ number live. live_before number begun cache live }
+      record { leaf_size = refl; next = refl; points_given = refl; snapshots = refl; begun = same; live = λ number live. live_before number begun cache live }
 
   -- ---- the segments
 
@@ -152,7 +152,7 @@ module _ (D : ℕ) (told : Type 0) (files new_files : Files) (s : SetData) (name
       others = canon_filter D new_files s.names (λ p. not (is_among ids p.head.id)) s.parts (canon_named D new_files s.names s.parts well.named)
 
       by : (built : Option NewSegmentData) → Replaces D told s.names names new_files ids built s.parts parts
-          → ((n : NewSegmentData) → built ≡ Some n → IsMade D s.leaf n) → AreCanonical D new_files s.names parts
+          → ((n : NewSegmentData) → built ≡ Some n → IsMade D s.leaf_size n) → AreCanonical D new_files s.names parts
       by None r made = subst (AreCanonical D new_files s.names) (sym r) others
       by (Some n) r made =
           canon_placed D new_files s.names (part_at r.id n) (parts_but ids s.parts) parts r.placed
@@ -175,7 +175,7 @@ module _ (D : ℕ) (told : Type 0) (files new_files : Files) (s : SetData) (name
         begun = stands g.after g.alike;
         agrees = agrees_other files new_files cache (λ id keeps. m.kept.files is_told (Segment id) (cached id keeps)) agrees;
       })
-      (record { leaf = refl; next = refl; points_given = refl; snapshots = refl })
+      (record { leaf_size = refl; next = refl; points_given = refl; snapshots = refl })
       (λ f.
       omega (
         arith,

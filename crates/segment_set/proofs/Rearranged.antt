@@ -97,7 +97,7 @@ pub entries_merged : (D : ℕ) (told : Type 0) (files new_files : Files) {s : Se
     → KeepsNamed told s.names names files new_files
     → (told → Agrees files s.cache → Agrees files cache)
     → ((id : ℕ) → KeepsFile cache id → KeepsFile s.cache id ⊎ Contains (ids_of (parts_among ids s.parts)) id)
-    → {T E : Type 0} (r : Result T E) → OnOk r (IsMerged D told s.leaf s.names names files new_files ids s.parts parts) → OnErr r (parts ≡ s.parts)
+    → {T E : Type 0} (r : Result T E) → OnOk r (IsMerged D told s.leaf_size s.names names files new_files ids s.parts parts) → OnErr r (parts ≡ s.parts)
     → KeepsEntries D told files new_files s (moved s names parts s.buffer s.begun cache)
 entries_merged D told files new_files {s} well names ids parts cache kept agrees others r merged refused = record {
   agrees = λ t agreed. agrees_other files new_files cache

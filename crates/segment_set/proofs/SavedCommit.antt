@@ -44,7 +44,7 @@ saved_lines told last before after files n listed parts same =
     (λ l p there saved. (saved.line.segment, subst (λ m. IsListed m l) (sym same) saved.may))
 
 pub is_commit : (D : ℕ) (s : SetData) (n : ℕ) (listed : List Listed) → IsWell D s → IsStrictlyIncreasing (ids_of s.parts) → AllZip (IsLine n) listed s.parts
-    → IsCommit (record { dims = D; leaf = s.leaf; next = s.next; points_given = s.points_given; next_segment = n; listed = listed })
+    → IsCommit (record { dims = D; leaf_size = s.leaf_size; next = s.next; points_given = s.points_given; next_segment = n; listed = listed })
 is_commit D s n listed well ascend all = record {
   ranges = record {
     some_dims = well.some_dims;
@@ -91,10 +91,10 @@ listed_named told last before files names c parts named all CommitNew none = abs
 pub commit_of_set : (D : ℕ) (told : Type 0) (last : List Listed) (before : NameList) (files : Files) (s : SetData) (n : ℕ) (listed : List Listed)
     → n ≡ s.names.next_segment
     → IsWell D s → AllZip (IsSaved told last before s.names files) listed s.parts
-    → IsCommitOf D s (record { dims = D; leaf = s.leaf; next = s.next; points_given = s.points_given; next_segment = n; listed = listed })
+    → IsCommitOf D s (record { dims = D; leaf_size = s.leaf_size; next = s.next; points_given = s.points_given; next_segment = n; listed = listed })
 commit_of_set D told last before files s n listed same well all = record {
   dims = refl;
-  leaf = refl;
+  leaf_size = refl;
   next = refl;
   points_given = refl;
   next_segment = same;
@@ -102,7 +102,7 @@ commit_of_set D told last before files s n listed same well all = record {
       (λ (l : Listed) (p : LiveSegment). (l.segment ≡ p.head.id) × (l.entries ≡ p.head.entries) × (l.live ≡ length p.live.live)) listed s.parts
       (λ l p there saved. (saved.line.segment, saved.line.entries, saved.line.live)) all;
   named = listed_named told last before files s.names
-      (record { dims = D; leaf = s.leaf; next = s.next; points_given = s.points_given; next_segment = n; listed = listed })
+      (record { dims = D; leaf_size = s.leaf_size; next = s.next; points_given = s.points_given; next_segment = n; listed = listed })
       s.parts
       well.named all;
 }
@@ -122,8 +122,8 @@ entries_of c [] = refl
 entries_of c (p ∷ ps) = ap (λ (xs : List Item). filter (λ (x : Item). is_live p.live x.doc) (c p.head.id) ++ xs) (entries_of c ps)
 
 -- what is known of a segment of the set and its line in the commit
-abbrev IsPartSaved : (D leaf : ℕ) → Files → Contents → Listed → LiveSegment → Type 0
-IsPartSaved D leaf now contents l p = IsListedAs now l p × IsRead D now contents p × (p.head.leaf ≡ leaf)
+abbrev IsPartSaved : (D leaf_size : ℕ) → Files → Contents → Listed → LiveSegment → Type 0
+IsPartSaved D leaf_size now contents l p = IsListedAs now l p × IsRead D now contents p × (p.head.leaf_size ≡ leaf_size)
 
 -- a commit that was saved of a set, whose buffer is empty, is stored once its file says it and as long as the files that it lists stay
 pub saved_is_stored : (D : ℕ) (now : Files) (s : SetData) (c : CommitData) (i : Index) → IsWell D s → s.buffer ≡ [] → IsCommitOf D s c
@@ -142,8 +142,8 @@ saved_is_stored D now s c i well empty commit all seen files says same =
     entries = entries_of contents s.parts ∙ sym (append-nil (live_in_parts contents s.parts))
         ∙ ap (λ (xs : List Item). live_in_parts contents s.parts ++ xs) (sym empty)
 
-    one : (l : Listed) (p : LiveSegment) → Contains c.listed l → IsPartSaved D s.leaf now contents l p → HoldsFiles files c l (data_of contents p)
-    one l p there (saved, read, leaf) =
+    one : (l : Listed) (p : LiveSegment) → Contains c.listed l → IsPartSaved D s.leaf_size now contents l p → HoldsFiles files c l (data_of contents p)
+    one l p there (saved, read, leaf_size) =
         let bytes : bytes_of (files (Segment l.segment)) ≡ bytes_of (now (Segment p.head.id)) =
         ap bytes_of (same (Segment l.segment) (l, there, refl)) ∙ ap (λ n. bytes_of (now (Segment n))) saved.segment in
         record {
@@ -152,16 +152,16 @@ saved_is_stored D now s c i well empty commit all seen files says same =
           live = subst (λ (b : List ℕ). IsLiveFile l.segment l.generation b p.live)
               (sym (ap bytes_of (same (Live l.segment l.generation) (l, there, refl, refl)))) saved.file;
           id = sym saved.segment;
-          leaf_size = leaf ∙ sym commit.leaf;
+          leaf_size = leaf_size ∙ sym commit.leaf_size;
           count = sym saved.entries;
           live_count = sym saved.count;
           found = read.found;
         }
 
     held : HoldAll files c parts
-    held = zip_map (IsPartSaved D s.leaf now contents) (HoldsFiles files c) (data_of contents) c.listed s.parts one
-        (zip_beside (IsListedAs now) (IsPartSaved D s.leaf now contents)
-        (λ (p : LiveSegment). IsRead D now contents p × (p.head.leaf ≡ s.leaf)) c.listed s.parts
+    held = zip_map (IsPartSaved D s.leaf_size now contents) (HoldsFiles files c) (data_of contents) c.listed s.parts one
+        (zip_beside (IsListedAs now) (IsPartSaved D s.leaf_size now contents)
+        (λ (p : LiveSegment). IsRead D now contents p × (p.head.leaf_size ≡ s.leaf_size)) c.listed s.parts
         (λ l p saved facts. (saved, facts.0, facts.1)) (λ k d lt. (seen.stands.now k d lt, well.leaf_size k d lt)) all)
 
     alone : (number : ℕ) → places number (live_sets parts) ≤ 1
@@ -177,7 +177,7 @@ saved_is_stored D now s c i well empty commit all seen files says same =
     is : index_of c i.docs ≡ at_rest i
     is = λ j. record {
       dims = (commit.dims ∙ sym seen.dims) j;
-      leaf = (commit.leaf ∙ sym seen.leaf) j;
+      leaf_size = (commit.leaf_size ∙ sym seen.leaf_size) j;
       next = (commit.next ∙ sym seen.next) j;
       points_given = (commit.points_given ∙ sym seen.points_given) j;
       docs = i.docs;

@@ -97,7 +97,7 @@ well_saved D told before after s t well keeps alone = subst (IsWell D) (sym is) 
   where
     is : t ≡ record s { names = t.names; saved = t.saved }
     is = λ i. record {
-      leaf = alone.leaf i;
+      leaf_size = alone.leaf_size i;
       next = alone.next i;
       points_given = alone.points_given i;
       names = t.names;
@@ -111,7 +111,7 @@ well_saved D told before after s t well keeps alone = subst (IsWell D) (sym is) 
 
 pub but_saved : (s v : SetData) → v ≡ s → (names : NameList) (saved : Option CommitData) → StaysButSaved s (record v { names = names; saved = saved })
 but_saved s v same names saved = record {
-  leaf = ap (λ (u : SetData). u.leaf) same;
+  leaf_size = ap (λ (u : SetData). u.leaf_size) same;
   next = ap (λ (u : SetData). u.next) same;
   points_given = ap (λ (u : SetData). u.points_given) same;
   parts = ap (λ (u : SetData). u.parts) same;
@@ -126,14 +126,14 @@ pub sees_saved : (D : ℕ) (told : Type 0) (before after : Files) (s t : SetData
     → StaysButSaved s t → Sees D before s i → Sees D after t i
 sees_saved D told before after s t i to well keeps alone seen =
     let there = sees_alike D before after s i well told to t.names keeps seen in
-    sees_like D after s t i (record { leaf = alone.leaf; next = alone.next; points_given = alone.points_given; snapshots = alone.snapshots })
+    sees_like D after s t i (record { leaf_size = alone.leaf_size; next = alone.next; points_given = alone.points_given; snapshots = alone.snapshots })
     alone.parts alone.buffer
     alone.begun
     (subst (Agrees after) (sym alone.cache) there.stands.agrees) there
 
 pub stays_saved : (s t : SetData) → StaysButSaved s t → StaysAlone s t
 stays_saved s t alone = record {
-  leaf = alone.leaf;
+  leaf_size = alone.leaf_size;
   next = alone.next;
   points_given = alone.points_given;
   snapshots = alone.snapshots;

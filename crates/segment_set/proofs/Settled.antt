@@ -49,13 +49,13 @@ settles_one D told old mid new done one = record { spots = done.spots ++ new ∷
 pub merges_chosen : (D : ℕ) (told : Type 0) (old new : SetMoment) (ids these : List ℕ) → these ≡ ids
     → (positions : List ℕ) × IsChoice (sizes_of old.set.parts) (pins_of old.set.begun old.set.parts) positions
     × (ids ≡ map (λ i. get_or (ids_of old.set.parts) i 0) positions)
-    → IsMerged D told old.set.leaf old.set.names new.set.names old.files new.files these old.set.parts new.set.parts
+    → IsMerged D told old.set.leaf_size old.set.names new.set.names old.files new.files these old.set.parts new.set.parts
     → StaysButParts old.set new.set → MergesChoice D told old new
 merges_chosen D told old new ids these same chosen merged alone = record {
   positions = chosen.0;
   choice = chosen.1;
   merges = record {
-    merged = subst (λ (ns : List ℕ). IsMerged D told old.set.leaf old.set.names new.set.names old.files new.files ns old.set.parts new.set.parts)
+    merged = subst (λ (ns : List ℕ). IsMerged D told old.set.leaf_size old.set.names new.set.names old.files new.files ns old.set.parts new.set.parts)
         (same ∙ chosen.2) merged;
     alone = alone;
   };
@@ -75,7 +75,7 @@ left_settled D told old t left = (left.0, flushes_settled D told old left.0 left
 -- what waited went to a segment, where the set is told by its fields
 pub spills_moved : (D : ℕ) (told : Type 0) (files new_files : Files) (s was : SetData) → was ≡ s
     → (names : NameList) (parts : List LiveSegment) (buffer : List Item)
-    → IsSpilled D told was.leaf was.names names new_files was.buffer was.parts parts → buffer ≡ []
+    → IsSpilled D told was.leaf_size was.names names new_files was.buffer was.parts parts → buffer ≡ []
     → WritesBuffer D told (moment files s) (moment new_files (moved was names parts buffer was.begun was.cache))
 spills_moved D told files new_files s was view names parts buffer spilled none =
     subst (λ (u : SetData). WritesBuffer D told (moment files u) (moment new_files (moved was names parts buffer was.begun was.cache))) view

@@ -41,7 +41,7 @@ pub rewrites_of : (D : ℕ) (told : Type 0) (files new_files : Files) (s t : Set
 rewrites_of D told files new_files s t m faithful = record { kept = m.kept; follows = m.follows; canon = m.canon; faithful = faithful }
 
 pub alone_of : (D : ℕ) (told : Type 0) (files new_files : Files) (s t : SetData) → Rearranges D told files new_files s t → AddsAlone s t
-alone_of D told files new_files s t m = record { saved = m.saved; begun = m.begun; snapshots = m.stays.snapshots; leaf = m.stays.leaf }
+alone_of D told files new_files s t m = record { saved = m.saved; begun = m.begun; snapshots = m.stays.snapshots; leaf_size = m.stays.leaf_size }
 
 -- Full isn't answered, and the points are few enough
 pub never_refuses : (told : Type 0) (files new_files : Files) (s t : SetData) (reads new_reads points : ℕ) (r : Result ℕ AddFault)

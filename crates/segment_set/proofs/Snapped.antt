@@ -32,7 +32,7 @@ sees_snapped D files s i name seen = record {
     agrees = seen.stands.agrees;
   };
   dims = seen.dims;
-  leaf = seen.leaf;
+  leaf_size = seen.leaf_size;
   next = seen.next;
   points_given = seen.points_given;
   begun = seen.begun;
@@ -110,7 +110,7 @@ sees_released D files s i name seen = record {
     agrees = seen.stands.agrees;
   };
   dims = seen.dims;
-  leaf = seen.leaf;
+  leaf_size = seen.leaf_size;
   next = seen.next;
   points_given = seen.points_given;
   begun = seen.begun;
@@ -162,7 +162,7 @@ sees_rested D files s i seen = record {
     agrees = seen.stands.agrees;
   };
   dims = seen.dims;
-  leaf = seen.leaf;
+  leaf_size = seen.leaf_size;
   next = seen.next;
   points_given = seen.points_given;
   begun = refl;

@@ -84,7 +84,7 @@ chosen_few which ids =
 
 pub begun_well : (D : ℕ) {s : SetData} (well : IsWell D s) (b : BegunMerge) (cache : PageCache) → All (λ id. is_among (ids_of s.parts) id ≡ true) b.inputs
     → length b.inputs ≤ 64
-    → ((n : NewSegmentData) → b.built ≡ Some n → IsGathered D s.leaf (parts_among b.inputs s.parts) n)
+    → ((n : NewSegmentData) → b.built ≡ Some n → IsGathered D s.leaf_size (parts_among b.inputs s.parts) n)
     → ((id : ℕ) → KeepsFile cache id → is_named s.names.names (Segment id) ≡ true) → All (HidesNoneOf D cache) s.parts
     → IsWell D (moved s s.names s.parts s.buffer (Some b) cache)
 begun_well D {s} well b cache inputs few gathered cached unhidden = record {
@@ -127,7 +127,7 @@ begun_seen D files s i h b cache merges agrees = record {
   contents = h.contents;
   stands = record { now = h.stands.now; kept = h.stands.kept; begun = merges; agrees = agrees };
   dims = h.dims;
-  leaf = h.leaf;
+  leaf_size = h.leaf_size;
   next = h.next;
   points_given = h.points_given;
   begun = refl;

@@ -35,13 +35,13 @@ some_is x y h = cc
 
 module _ (D : ℕ) (told : Type 0) (files new_files : Files) {s : SetData} (names : NameList) (parts : List LiveSegment)
     (kept : KeepsNamed told s.names names files new_files)
-    (sp : IsSpilled D told s.leaf s.names names new_files s.buffer s.parts parts) (well : IsWell D s) where
+    (sp : IsSpilled D told s.leaf_size s.names names new_files s.buffer s.parts parts) (well : IsWell D s) where
   spill_moves : Moves D told files new_files s names [] parts []
   spill_moves = record {
     kept = kept;
     built = Some sp.n;
     replaces = sp.put;
-    made = λ n is. subst (IsMade D s.leaf) (some_is sp.n n is) sp.made;
+    made = λ n is. subst (IsMade D s.leaf_size) (some_is sp.n n is) sp.made;
     fewer = λ number.
         let same : one_if (is_live sp.n.live number) ≡ one_if (has_entry number s.buffer) = ap (λ (f : ℕ → Bool). one_if (f number)) sp.live in
         omega arith;
@@ -58,7 +58,7 @@ module _ (D : ℕ) (told : Type 0) (files new_files : Files) {s : SetData} (name
       (omega (arith, few, length_replaced D told s.names names new_files [] s.parts parts (Some sp.n) sp.put)) (omega arith)
       (λ i j d le lt. absurd (omega (arith, lt))) none_twice_none few_none
       (ids_stay (inputs_of s.begun) s.parts parts stay well.inputs) well.few_inputs
-      (λ n is. subst (λ (ps : List LiveSegment). IsBuiltOf D s.leaf ps n) (sym stay) (well.built n is)) well.cached
+      (λ n is. subst (λ (ps : List LiveSegment). IsBuiltOf D s.leaf_size ps n) (sym stay) (well.built n is)) well.cached
       (λ i n offset len page known. known)
 
   pub spill_stays : StaysAlone s (moved s names parts [] s.begun s.cache)
@@ -96,7 +96,7 @@ pub spill_after : (D : ℕ) (told : Type 0) (files new_files : Files) {s : SetDa
     (left : List Item)
     → length s.parts < 200
     → KeepsNamed told s.names names files new_files → {T E : Type 0} (r : Result T E)
-    → OnOk r (IsSpilled D told s.leaf s.names names new_files s.buffer s.parts parts × (left ≡ [])) → OnErr r ((parts ≡ s.parts) × (left ≡ s.buffer))
+    → OnOk r (IsSpilled D told s.leaf_size s.names names new_files s.buffer s.parts parts × (left ≡ [])) → OnErr r ((parts ≡ s.parts) × (left ≡ s.buffer))
     → IsAfter D told files new_files s (moved s names parts left s.begun s.cache)
 spill_after D told files new_files {s} well names parts left few kept r spilled refused = elim (ok_or_err r spilled refused) [
   | inl sp ↦ subst (λ (es : List Item). IsAfter D told files new_files s (moved s names parts es s.begun s.cache)) (sym sp.1) (record {

@@ -169,7 +169,7 @@ sees_alike D old new s i well told t more keeps seen = record {
   contents = seen.contents;
   stands = stands_alike D old new seen.contents seen.contents s well (alike_kept told s.names more old new seen.contents t keeps) seen.stands;
   dims = seen.dims;
-  leaf = seen.leaf;
+  leaf_size = seen.leaf_size;
   next = seen.next;
   points_given = seen.points_given;
   begun = seen.begun;
@@ -180,13 +180,13 @@ sees_alike D old new s i well told t more keeps seen = record {
 
 -- the numbers of two sets are the same, and so are their snapshots
 pub record IsLike (s t : SetData) : Type 0 where
-  pub leaf : t.leaf ≡ s.leaf
+  pub leaf_size : t.leaf_size ≡ s.leaf_size
   pub next : t.next ≡ s.next
   pub points_given : t.points_given ≡ s.points_given
   pub snapshots : t.snapshots ≡ s.snapshots
 
 pub like_itself : (s : SetData) → IsLike s s
-like_itself s = record { leaf = refl; next = refl; points_given = refl; snapshots = refl }
+like_itself s = record { leaf_size = refl; next = refl; points_given = refl; snapshots = refl }
 
 -- another set over other files, with the same entries in whatever order
 pub sees_moved : (D : ℕ) (old new : Files) (s t : SetData) (i : Index) (d : Contents) (seen : Sees D old s i) → IsWell D s
@@ -197,7 +197,7 @@ sees_moved D old new s t i d seen well same stands like totals = record {
   contents = d;
   stands = stands;
   dims = seen.dims;
-  leaf = seen.leaf ∙ sym like.leaf;
+  leaf_size = seen.leaf_size ∙ sym like.leaf_size;
   next = seen.next ∙ sym like.next;
   points_given = seen.points_given ∙ sym like.points_given;
   begun = refl;
@@ -223,7 +223,7 @@ sees_like D files s t i like parts buffer begun agrees seen = record {
   contents = seen.contents;
   stands = stands_like D files seen.contents s t parts like.snapshots begun agrees seen.stands;
   dims = seen.dims;
-  leaf = seen.leaf ∙ sym like.leaf;
+  leaf_size = seen.leaf_size ∙ sym like.leaf_size;
   next = seen.next ∙ sym like.next;
   points_given = seen.points_given ∙ sym like.points_given;
   begun = seen.begun ∙ sym (ap is_some begun);

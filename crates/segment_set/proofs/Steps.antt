@@ -39,9 +39,9 @@ but_none [] = refl
 but_none (p ∷ ps) = ap (λ (qs : List LiveSegment). p ∷ qs) (but_none ps)
 
 -- a live number of a segment that was built
-pub live_number : (D leaf : ℕ) (n : NewSegmentData) → IsMade D leaf n → (number : ℕ) × (is_live n.live number ≡ true)
+pub live_number : (D leaf_size : ℕ) (n : NewSegmentData) → IsMade D leaf_size n → (number : ℕ) × (is_live n.live number ≡ true)
 unfolding is_live
-live_number D leaf n made = by n.live.live refl made.some
+live_number D leaf_size n made = by n.live.live refl made.some
   where
     by : (ns : List ℕ) → n.live.live ≡ ns → 1 ≤ length ns → (number : ℕ) × (is_live n.live number ≡ true)
     by [] is h = absurd (omega (arith, h))
@@ -84,18 +84,18 @@ module _ (D : ℕ) (told : Type 0) (files new_files : Files) (cache : PageCache)
     | inr dead ↦ omega (arith, ap one_if dead)
   ]
 
-  length_built : (built : Option NewSegmentData) (inputs : List LiveSegment) → ((n : NewSegmentData) → built ≡ Some n → IsGathered D s.leaf inputs n)
+  length_built : (built : Option NewSegmentData) (inputs : List LiveSegment) → ((n : NewSegmentData) → built ≡ Some n → IsGathered D s.leaf_size inputs n)
       → (built ≡ None) ⊎ (1 ≤ length inputs)
   length_built None inputs gathered = inl refl
   length_built (Some n) inputs gathered =
-      let live = live_number D s.leaf n (gathered n refl).made in
+      let live = live_number D s.leaf_size n (gathered n refl).made in
       inr (some (place_in live.0) inputs (some_place live.0 inputs ((gathered n refl).within live.0 live.1)))
     where
       some : (g : LiveSegment → ℕ) (ps : List LiveSegment) → 1 ≤ sum_by g ps → 1 ≤ length ps
       some g [] h = absurd (omega (arith, h))
       some g (p ∷ ps) h = omega arith
 
-  step_merged : IsMerged D told s.leaf s.names names files new_files ids s.parts parts → IsStep D told files new_files cache s names ids parts
+  step_merged : IsMerged D told s.leaf_size s.names names files new_files ids s.parts parts → IsStep D told files new_files cache s names ids parts
   step_merged m = record {
     gone = ids;
     some = λ id h. h;
@@ -120,7 +120,7 @@ module _ (D : ℕ) (told : Type 0) (files new_files : Files) (cache : PageCache)
           let same : length parts ≡ length (parts_but ids s.parts) = ap length only in
           omega (arith, length_parted ids s.parts)
 
-  pub step : {T E : Type 0} (r : Result T E) → OnOk r (IsMerged D told s.leaf s.names names files new_files ids s.parts parts) → OnErr r (parts ≡ s.parts)
+  pub step : {T E : Type 0} (r : Result T E) → OnOk r (IsMerged D told s.leaf_size s.names names files new_files ids s.parts parts) → OnErr r (parts ≡ s.parts)
       → IsStep D told files new_files cache s names ids parts
   step r merged refused = elim (ok_or_err r merged refused) [ inl m ↦ step_merged m | inr same ↦ step_none same ]
 
@@ -147,7 +147,7 @@ module _ (D : ℕ) (told : Type 0) (files new_files : Files) (before : PageCache
       well_moved D told files new_files s names st.gone parts s.buffer st.moves well s.begun cache
       (omega (arith, st.few, well.few)) well.room well.ordered well.once well.sixteen
       (ids_stay (inputs_of s.begun) s.parts parts stay well.inputs) well.few_inputs
-      (λ n is. subst (λ (ps : List LiveSegment). IsBuiltOf D s.leaf ps n) (sym stay) (well.built n is)) cached go
+      (λ n is. subst (λ (ps : List LiveSegment). IsBuiltOf D s.leaf_size ps n) (sym stay) (well.built n is)) cached go
 
   pub step_stays : (cache : PageCache) → StaysAlone s (moved s names parts s.buffer s.begun cache)
   step_stays cache = stays_moved D told files new_files s names st.gone parts s.buffer st.moves s.begun cache refl
@@ -189,7 +189,7 @@ pub merge_after : (D : ℕ) (told : Type 0) (files new_files : Files) {s : SetDa
     → (told → Agrees files s.cache → Agrees files cache)
     → ((id : ℕ) → KeepsFile cache id → KeepsFile s.cache id ⊎ Contains (ids_of (parts_among ids s.parts)) id)
     → MarksGo s.cache cache
-    → {T E : Type 0} (r : Result T E) → OnOk r (IsMerged D told s.leaf s.names names files new_files ids s.parts parts) → OnErr r (parts ≡ s.parts)
+    → {T E : Type 0} (r : Result T E) → OnOk r (IsMerged D told s.leaf_size s.names names files new_files ids s.parts parts) → OnErr r (parts ≡ s.parts)
     → IsAfter D told files new_files s (moved s names parts s.buffer s.begun cache)
 merge_after D told files new_files {s} well names ids parts cache kept apart agrees others go r merged refused =
     let st = step D told files new_files s.cache s names ids parts kept r merged refused in

@@ -155,13 +155,13 @@ module _ (D : ℕ) (s : SetData) (k : CommitData) (name : FileName) (cache : Pag
   sees_swept before after t i same agrees like parts buffer begun is seen =
       let mid : SetData = record s { names = names_but name s.names; cache = cache } in
       let first : Sees D before mid i =
-      sees_like D before s mid i (record { leaf = refl; next = refl; points_given = refl; snapshots = refl }) refl refl refl agrees seen in
+      sees_like D before s mid i (record { leaf_size = refl; next = refl; points_given = refl; snapshots = refl }) refl refl refl agrees seen in
       let second : Sees D after mid i = record {
         contents = first.contents;
         stands = stands_alike D before after first.contents first.contents mid well_swept
             (record { files = λ id there. same (Segment id) (not_it (Segment id) there); entries = λ id there. refl }) first.stands;
         dims = first.dims;
-        leaf = first.leaf;
+        leaf_size = first.leaf_size;
         next = first.next;
         points_given = first.points_given;
         begun = first.begun;
@@ -169,7 +169,8 @@ module _ (D : ℕ) (s : SetData) (k : CommitData) (name : FileName) (cache : Pag
         few = first.few;
         snapshots = first.snapshots;
       } in
-      sees_like D after mid t i (record { leaf = like.leaf; next = like.next; points_given = like.points_given; snapshots = like.snapshots }) parts buffer begun
+      sees_like D after mid t i (record { leaf_size = like.leaf_size; next = like.next; points_given = like.points_given; snapshots = like.snapshots }) parts
+          buffer begun
       (subst (Agrees after) (sym is) second.stands.agrees) second
     where
       not_it : (m : FileName) → is_named (names_but name s.names).names m ≡ true → m ≢ name

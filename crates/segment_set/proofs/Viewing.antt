@@ -74,8 +74,9 @@ faithful_released D files s name keeps = record {
 
 -- ---- a set that is made anew
 
-pub faithful_empty : (D leaf : ℕ) (names : NameList) (cache : PageCache) (files : Files) → Agrees files cache → IsFaithful D files (empty_set leaf names cache)
-faithful_empty D leaf names cache files agrees = record {
+pub faithful_empty : (D leaf_size : ℕ) (names : NameList) (cache : PageCache) (files : Files) → Agrees files cache
+    → IsFaithful D files (empty_set leaf_size names cache)
+faithful_empty D leaf_size names cache files agrees = record {
   pages = agrees;
   heads = All-nil (HasFileHead D files);
   kept = All-nil (λ (v : NamedView). All (HasFileHead D files) v.parts);

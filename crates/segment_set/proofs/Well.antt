@@ -134,9 +134,9 @@ built_back number (Some b) n is = by b.built refl is
     by None e h = cc
     by (Some old) e h = (old, e, cc)
 
-built_of_but : (D leaf number : ℕ) (inputs : List LiveSegment) (n : NewSegmentData) → IsBuiltOf D leaf inputs n
-    → IsBuiltOf D leaf (cleared_parts number inputs) (record n { live = live_set_without number n.live })
-built_of_but D leaf number inputs n is = record {
+built_of_but : (D leaf_size number : ℕ) (inputs : List LiveSegment) (n : NewSegmentData) → IsBuiltOf D leaf_size inputs n
+    → IsBuiltOf D leaf_size (cleared_parts number inputs) (record n { live = live_set_without number n.live })
+built_of_but D leaf_size number inputs n is = record {
   leaf_size = is.leaf_size;
   has = ∥∥₁_elim is.has ∥∥₁_prop
       (λ some. merely
@@ -173,7 +173,7 @@ well_but D number s well = record {
   once = none_twice_filter (λ (x : Item). not (eqb x.doc number)) s.buffer well.once;
   sixteen = few_filter (λ (x : Item). not (eqb x.doc number)) s.buffer well.sixteen;
   few = omega (arith, well.few, length-map s.parts clear);
-  leaf_size = All-map (λ (p : LiveSegment). p.head.leaf ≡ s.leaf) clear s.parts well.leaf_size;
+  leaf_size = All-map (λ (p : LiveSegment). p.head.leaf_size ≡ s.leaf_size) clear s.parts well.leaf_size;
   live_fits = All-map (λ (p : LiveSegment). length p.live.live ≤ p.head.entries) clear s.parts
       (All-weaker (λ (p : LiveSegment). length p.live.live ≤ p.head.entries)
       (λ (p : LiveSegment). length (live_set_without number p.live).live ≤ p.head.entries)
@@ -188,10 +188,10 @@ well_but D number s well = record {
   few_inputs = subst (λ (ns : List ℕ). length ns ≤ 64) (sym (inputs_but number s.begun)) well.few_inputs;
   built = λ n is.
       let old = built_back number s.begun n is in
-      subst (λ (ns : List ℕ). IsBuiltOf D s.leaf (parts_among ns (cleared_parts number s.parts)) n) (sym (inputs_but number s.begun))
-      (subst (λ (ps : List LiveSegment). IsBuiltOf D s.leaf ps n) (sym (among_cleared number (inputs_of s.begun) s.parts))
-      (subst (IsBuiltOf D s.leaf (cleared_parts number (parts_among (inputs_of s.begun) s.parts))) (sym old.2)
-      (built_of_but D s.leaf number (parts_among (inputs_of s.begun) s.parts) old.0 (well.built old.0 old.1))));
+      subst (λ (ns : List ℕ). IsBuiltOf D s.leaf_size (parts_among ns (cleared_parts number s.parts)) n) (sym (inputs_but number s.begun))
+      (subst (λ (ps : List LiveSegment). IsBuiltOf D s.leaf_size ps n) (sym (among_cleared number (inputs_of s.begun) s.parts))
+      (subst (IsBuiltOf D s.leaf_size (cleared_parts number (parts_among (inputs_of s.begun) s.parts))) (sym old.2)
+      (built_of_but D s.leaf_size number (parts_among (inputs_of s.begun) s.parts) old.0 (well.built old.0 old.1))));
   cached = well.cached;
   unhidden = All-map (HidesNoneOf D s.cache) clear s.parts
       (All-weaker (HidesNoneOf D s.cache) (λ (p : LiveSegment). HidesNoneOf D s.cache (clear p))

@@ -94,11 +94,11 @@ built_form : (D : ℕ) (n : NewSegmentData) → ∥ HasUncrowded D n ∥₁ → 
 built_form D n has = ∥∥₁_elim has (hlevel props) (λ some. some.has.built.form)
 
 -- where all that are no inputs are merged what is built is the only one of them
-pub merged_one : (D : ℕ) (told : Type 0) (leaf : ℕ) (before after : NameList) (files new_files : Files) (inputs ids : List ℕ)
+pub merged_one : (D : ℕ) (told : Type 0) (leaf_size : ℕ) (before after : NameList) (files new_files : Files) (inputs ids : List ℕ)
     (old new : List LiveSegment)
     → ids ≡ filter (λ id. not (is_among inputs id)) (ids_of old) → ((id : ℕ) → is_among inputs id ≡ true → is_named before.names (Segment id) ≡ true)
-    → IsMerged D told leaf before after files new_files ids old new → IsOne (parts_but inputs new)
-merged_one D told leaf before after files new_files inputs ids old new are named m = by m.built m.replaces (λ n is. (m.gathered n is).made.has)
+    → IsMerged D told leaf_size before after files new_files ids old new → IsOne (parts_but inputs new)
+merged_one D told leaf_size before after files new_files inputs ids old new are named m = by m.built m.replaces (λ n is. (m.gathered n is).made.has)
   where
     none : parts_but inputs (parts_but ids old) ≡ []
     none = none_free inputs ids old are

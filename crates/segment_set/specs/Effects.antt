@@ -130,7 +130,7 @@ pub record AddsAlone (s t : SetData) : Type 0 where
   pub saved : t.saved ≡ s.saved
   pub begun : t.begun ≡ s.begun
   pub snapshots : t.snapshots ≡ s.snapshots
-  pub leaf : t.leaf ≡ s.leaf
+  pub leaf_size : t.leaf_size ≡ s.leaf_size
 
 -- after a fault: what whole merges left
 pub record LeavesWhole {T E : Type 0} (Done : SetMoment → Type 0) (s t : SetData) (result : Result T E) : Type 0 where

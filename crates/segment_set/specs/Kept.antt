@@ -29,7 +29,7 @@ pub record KeepsNamed (told : Type 0) (old new : NameList) (before after : Files
 
 -- of the set alone: it is seen as before, but that no number is live that wasn't
 pub record StaysAlone (old new : SetData) : Type 0 where
-  pub leaf : new.leaf ≡ old.leaf
+  pub leaf_size : new.leaf_size ≡ old.leaf_size
   pub next : new.next ≡ old.next
   pub points_given : new.points_given ≡ old.points_given
   pub snapshots : new.snapshots ≡ old.snapshots
@@ -82,7 +82,7 @@ pub record IsAsCommitted (s : SetData) (c : CommitData) : Type 0 where
 -- are named
 pub record IsCommitOf (D : ℕ) (s : SetData) (c : CommitData) : Type 0 where
   pub dims : c.dims ≡ D
-  pub leaf : c.leaf ≡ s.leaf
+  pub leaf_size : c.leaf_size ≡ s.leaf_size
   pub next : c.next ≡ s.next
   pub points_given : c.points_given ≡ s.points_given
   pub next_segment : c.next_segment ≡ s.names.next_segment
@@ -114,7 +114,7 @@ pub record StaysButFiles (old new : SetData) : Type 0 where
 
 -- the set is as the commit says, without snapshots, a begun merge or a save
 pub record IsAtRest (s : SetData) (c : CommitData) : Type 0 where
-  pub leaf : s.leaf ≡ c.leaf
+  pub leaf_size : s.leaf_size ≡ c.leaf_size
   pub as_committed : IsAsCommitted s c
   pub entries : sizes_of s.parts ≡ map (λ l. l.entries) c.listed
   pub next_segment : s.names.next_segment ≡ c.next_segment

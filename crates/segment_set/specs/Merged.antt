@@ -24,7 +24,7 @@ chosen_ids positions ids = map (slice_index ids) (take 64 (filter (λ i. nat_lt 
 
 -- the segment is the one that was built, under whatever id
 abbrev pub IsWritten : NewSegmentData → LiveSegment → Type 0
-IsWritten n p = (p.head ≡ head_of p.head.id n.entries n.leaf n.index) × (p.live ≡ n.live)
+IsWritten n p = (p.head ≡ head_of p.head.id n.entries n.leaf_size n.index) × (p.live ≡ n.live)
 
 -- the segment that was built came to the others where something of it is live, and else nothing came
 abbrev pub HasCome : Option NewSegmentData → (others new : List LiveSegment) → Type 0

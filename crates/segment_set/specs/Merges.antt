@@ -31,15 +31,15 @@ MakesLive D entries (Some n) = HoldsLive D entries n
 
 -- a segment was built with this leaf size: it is the canonical tree of some entries, and has some live numbers, no more
 -- than entries
-pub record IsMade (D leaf : ℕ) (n : NewSegmentData) : Type 0 where
-  pub leaf_size : n.leaf ≡ leaf
+pub record IsMade (D size : ℕ) (n : NewSegmentData) : Type 0 where
+  pub leaf_size : n.leaf_size ≡ size
   pub has : ∥ HasUncrowded D n ∥₁
   pub fits : length n.live.live ≤ n.entries
   pub some : 1 ≤ length n.live.live
 
 -- the segment as it is under this id
 abbrev pub part_at : ℕ → NewSegmentData → LiveSegment
-part_at id n = live_segment (head_of id n.entries n.leaf n.index) n.live
+part_at id n = live_segment (head_of id n.entries n.leaf_size n.index) n.live
 
 -- The segment was written under the next id, whose name wasn't in the list and is in it now, and stands in the place
 -- of its id among those that are not of these ids, which went.
@@ -66,8 +66,8 @@ pub record HasLiveEntries (D : ℕ) (n : NewSegmentData) : Type 0 where
   pub all : All (λ x. is_live n.live x.doc ≡ true) items
 
 -- a segment was built of what is live in these: each of its numbers is live in one of them
-pub record IsGathered (D leaf : ℕ) (inputs : List LiveSegment) (n : NewSegmentData) : Type 0 where
-  pub made : IsMade D leaf n
+pub record IsGathered (D leaf_size : ℕ) (inputs : List LiveSegment) (n : NewSegmentData) : Type 0 where
+  pub made : IsMade D leaf_size n
   pub all : ∥ HasLiveEntries D n ∥₁
   pub within : (number : ℕ) → is_live n.live number ≡ true → has_live number inputs ≡ true
 
@@ -98,19 +98,19 @@ LosesNone D told files ids parts built =
     told → All (HasFileHead D files) parts → KeepsNumbers D files (parts_among ids parts) built
 
 -- what is built of the inputs of a merge that is begun: no entry of it is dead, and no document is lost
-pub record Collects (D leaf : ℕ) (told : Type 0) (files : Files) (parts : List LiveSegment) (b : BegunMerge)
+pub record Collects (D leaf_size : ℕ) (told : Type 0) (files : Files) (parts : List LiveSegment) (b : BegunMerge)
     : Type 0 where
-  pub gathered : (n : NewSegmentData) → b.built ≡ Some n → IsGathered D leaf (parts_among b.inputs parts) n
+  pub gathered : (n : NewSegmentData) → b.built ≡ Some n → IsGathered D leaf_size (parts_among b.inputs parts) n
   pub loses : LosesNone D told files b.inputs parts b.built
 
 -- The live entries of the segments of these ids were read and a segment was built of them, which took their place;
 -- where there were none, the segments only went.
-pub record IsMerged (D : ℕ) (told : Type 0) (leaf : ℕ) (before after : NameList) (files new_files : Files)
+pub record IsMerged (D : ℕ) (told : Type 0) (leaf_size : ℕ) (before after : NameList) (files new_files : Files)
     (ids : List ℕ) (old new : List LiveSegment) : Type 0 where
   pub built : Option NewSegmentData
   pub replaces : Replaces D told before after new_files ids built old new
   pub unnamed : built ≡ None → after ≡ before
-  pub gathered : (n : NewSegmentData) → built ≡ Some n → IsGathered D leaf (parts_among ids old) n
+  pub gathered : (n : NewSegmentData) → built ≡ Some n → IsGathered D leaf_size (parts_among ids old) n
   pub makes : told → (c : Contents) → AreRead D files c old
       → MakesLive D (live_in_parts c (parts_among ids old)) built
   pub loses : LosesNone D told files ids old built
@@ -125,10 +125,10 @@ living None = None
 living (Some n) = with_live n.live.live n
 
 -- the buffer went to a segment, all of whose entries are live
-pub record IsSpilled (D : ℕ) (told : Type 0) (leaf : ℕ) (before after : NameList) (new_files : Files)
+pub record IsSpilled (D : ℕ) (told : Type 0) (leaf_size : ℕ) (before after : NameList) (new_files : Files)
     (buffer : List Item) (old new : List LiveSegment) : Type 0 where
   pub n : NewSegmentData
-  pub made : IsMade D leaf n
+  pub made : IsMade D leaf_size n
   pub put : Swaps D told before after new_files [] n old new
   pub live : is_live n.live ≡ (λ number. has_entry number buffer)
   pub holds : HoldsLive D buffer n

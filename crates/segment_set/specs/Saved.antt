@@ -79,7 +79,7 @@ pub record IsSaved (told : Type 0) (last : List Listed) (before after : NameList
 
 -- all but the list of names and the saved commit is as before
 pub record StaysButSaved (old new : SetData) : Type 0 where
-  pub leaf : new.leaf ≡ old.leaf
+  pub leaf_size : new.leaf_size ≡ old.leaf_size
   pub next : new.next ≡ old.next
   pub points_given : new.points_given ≡ old.points_given
   pub parts : new.parts ≡ old.parts

@@ -50,7 +50,7 @@ pub record Sees (D : ℕ) (files : Files) (s : SetData) (i : Index) : Type 0 whe
   pub contents : Contents
   pub stands : StandsOver D files contents s
   pub dims : i.dims ≡ D
-  pub leaf : i.leaf ≡ s.leaf
+  pub leaf_size : i.leaf_size ≡ s.leaf_size
   pub next : i.next ≡ s.next
   pub points_given : i.points_given ≡ s.points_given
   pub begun : i.begun ≡ is_some s.begun

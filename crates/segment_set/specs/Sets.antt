@@ -36,7 +36,7 @@ pub record BegunMerge : Type 0 where
 -- a set: the leaf size, the next number, the points given, its list of names, the segments and the buffer of now, the
 -- snapshots, the begun merge, its cache, and the commit that the last save answered
 pub record SetData : Type 0 where
-  pub leaf : ℕ
+  pub leaf_size : ℕ
   pub next : ℕ
   pub points_given : ℕ
   pub names : NameList
@@ -167,8 +167,8 @@ pub record HasUncrowded (D : ℕ) (n : NewSegmentData) : Type 0 where
 
 -- a segment was built with the leaf size: it is the canonical tree of some entries, has no more live numbers than
 -- entries, and each of them is live in an input
-pub record IsBuiltOf (D leaf : ℕ) (inputs : List LiveSegment) (n : NewSegmentData) : Type 0 where
-  pub leaf_size : n.leaf ≡ leaf
+pub record IsBuiltOf (D size : ℕ) (inputs : List LiveSegment) (n : NewSegmentData) : Type 0 where
+  pub leaf_size : n.leaf_size ≡ size
   pub has : ∥ HasUncrowded D n ∥₁
   pub fits : length n.live.live ≤ n.entries
   pub within : (number : ℕ) → is_live n.live number ≡ true → list_any (λ p. is_live p.live number) inputs ≡ true
@@ -176,8 +176,8 @@ pub record IsBuiltOf (D leaf : ℕ) (inputs : List LiveSegment) (n : NewSegmentD
 pub record IsWell (D : ℕ) (s : SetData) : Type 0 where
   pub some_dims : 1 ≤ D
   pub few_dims : D ≤ 8
-  pub least_leaf : 2 ≤ s.leaf
-  pub greatest_leaf : s.leaf ≤ leaf_limit D
+  pub least_leaf : 2 ≤ s.leaf_size
+  pub greatest_leaf : s.leaf_size ≤ leaf_limit D
   pub numbered : s.next ≤ s.points_given
   pub most_given : s.points_given ≤ 2 ^ 24
   pub spread : IsSpread s.next s.parts s.buffer
@@ -186,7 +186,7 @@ pub record IsWell (D : ℕ) (s : SetData) : Type 0 where
   pub once : NoneTwice s.buffer
   pub sixteen : AreFew s.buffer
   pub few : length s.parts ≤ 200
-  pub leaf_size : All (λ p. p.head.leaf ≡ s.leaf) s.parts
+  pub leaf_size : All (λ p. p.head.leaf_size ≡ s.leaf_size) s.parts
   pub live_fits : All (λ p. length p.live.live ≤ p.head.entries) s.parts
   pub named : All (IsNamed s.names) s.parts
   pub kept : All (λ v. All (IsNamed s.names) v.parts) s.snapshots
@@ -196,6 +196,6 @@ pub record IsWell (D : ℕ) (s : SetData) : Type 0 where
   pub inputs : All (λ id. is_among (ids_of s.parts) id ≡ true) (inputs_of s.begun)
   pub few_inputs : length (inputs_of s.begun) ≤ 64
   pub built : (n : NewSegmentData) → built_of s.begun ≡ Some n
-      → IsBuiltOf D s.leaf (parts_among (inputs_of s.begun) s.parts) n
+      → IsBuiltOf D s.leaf_size (parts_among (inputs_of s.begun) s.parts) n
   pub cached : (id : ℕ) → KeepsFile s.cache id → is_named s.names.names (Segment id) ≡ true
   pub unhidden : All (HidesNoneOf D s.cache) s.parts

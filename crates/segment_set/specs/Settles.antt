@@ -17,7 +17,7 @@ moment files set = record { files = files; set = set }
 
 -- the segments of these ids were merged into one at most
 pub record MergesParts (D : ℕ) (told : Type 0) (ids : List ℕ) (old new : SetMoment) : Type 0 where
-  pub merged : IsMerged D told old.set.leaf old.set.names new.set.names old.files new.files ids
+  pub merged : IsMerged D told old.set.leaf_size old.set.names new.set.names old.files new.files ids
       old.set.parts new.set.parts
   pub alone : StaysButParts old.set new.set
 
@@ -39,7 +39,7 @@ pub record Settles (D : ℕ) (told : Type 0) (old new : SetMoment) : Type 0 wher
 
 -- what waited in the buffer went to a segment
 pub record WritesBuffer (D : ℕ) (told : Type 0) (old new : SetMoment) : Type 0 where
-  pub spilled : IsSpilled D told old.set.leaf old.set.names new.set.names new.files old.set.buffer old.set.parts
+  pub spilled : IsSpilled D told old.set.leaf_size old.set.names new.set.names new.files old.set.buffer old.set.parts
       new.set.parts
   pub alone : new.set ≡ record old.set { names = new.set.names; parts = new.set.parts; buffer = [] }
 

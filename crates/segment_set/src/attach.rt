@@ -65,7 +65,7 @@ impl<const D: usize> SegmentSet<D> {
         check_numbers(alloc, segments.lives(), c.next())?;
         let cache = PageCache::new(alloc, settings.cache_pages)?;
         Ok(SegmentSet {
-            leaf: c.leaf(),
+            leaf_size: c.leaf_size(),
             forks: settings.forks,
             points_given: c.points_given(),
             names,
@@ -86,7 +86,7 @@ impl<const D: usize> SegmentSet<D> {
         ensures faithful { (files : Files) → IsFaithful D files set.entry → IsFaithful D files self.new }
         ensures kept { self.new ≡ record set.entry { names = self.old.names } }
     {
-        self.leaf = set.leaf;
+        self.leaf_size = set.leaf_size;
         self.forks = set.forks;
         self.points_given = set.points_given;
         self.segments = set.segments;

@@ -99,7 +99,7 @@ impl<const D: usize> SegmentSet<D> {
             × (b.inputs ≡ chosen_ids which.now (ids_of self.old.parts))) }
         // what is built has no dead entry, and no document is lost
         ensures built { OnOk result ((b : BegunMerge) → self.new.begun ≡ Some b
-            → Collects D self.old.leaf (IsTrue F.told) (F.files folder.old) self.old.parts b) }
+            → Collects D self.old.leaf_size (IsTrue F.told) (F.files folder.old) self.old.parts b) }
         // what stays
         ensures files { IsTrue F.told → F.files folder.new ≡ F.files folder.old }
         ensures cache { self.new.cache ≡ self.old.cache }
@@ -169,11 +169,11 @@ impl<const D: usize> SegmentSet<D> {
 
     /// The plan by which this set's segments are built: its leaf size, levels that fork, and points given.
     pub(crate) fn plan(&self) -> BuildPlan<D>
-        ensures leaf { result.leaf ≡ self.now.leaf }
+        ensures leaf_size { result.leaf_size ≡ self.now.leaf_size }
         ensures points_given { result.points_given ≡ self.now.points_given }
     {
         BuildPlan {
-            leaf: self.leaf,
+            leaf_size: self.leaf_size,
             forks: self.forks,
             points_given: self.points_given,
         }
@@ -212,7 +212,7 @@ impl<const D: usize> SegmentSet<D> {
         ensures buffer { self.new.buffer ≡ self.old.buffer }
         ensures cache { self.new.cache ≡ self.old.cache }
         ensures merged { OnOk result
-            (IsMerged D (IsTrue F.told) self.old.leaf self.old.names self.new.names (F.files folder.old)
+            (IsMerged D (IsTrue F.told) self.old.leaf_size self.old.names self.new.names (F.files folder.old)
             (F.files folder.new) ids.now self.old.parts self.new.parts) }
         ensures fewer { OnOk result
             (length self.new.parts + length (parts_among ids.now self.old.parts) ≤ length self.old.parts + 1) }

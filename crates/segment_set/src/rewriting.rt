@@ -83,7 +83,7 @@ fn build_of<const D: usize, R: Threads + Sync, G: Gate>(
         (λ n. (items : List Item) × IsPermutation (items_of entries.old) items × HasEntries D items n) }
     ensures live { IfOk result
         (λ n. IsLiveSet n.live × (is_live n.live ≡ (λ number. has_entry number (items_of entries.old)))) }
-    ensures leaf { IfOk result (λ n. n.leaf ≡ plan.now.leaf) }
+    ensures leaf_size { IfOk result (λ n. n.leaf_size ≡ plan.now.leaf_size) }
     ensures uncrowded { OnOk result (AreUncrowded (items_of entries.old)) }
     ensures unfailed { IsErrOf result fault.Failed → ⊥ }
     ensures shown { OnDamage result (IsDoubt plan.now.points_given (items_of entries.old)) }
@@ -91,7 +91,7 @@ fn build_of<const D: usize, R: Threads + Sync, G: Gate>(
         → NotDamaged result }
 {
     check_entries(alloc, entries, plan.points_given)?;
-    Ok(build_segment(rt, alloc, entries, plan.leaf, plan.forks, gate)?)
+    Ok(build_segment(rt, alloc, entries, plan.leaf_size, plan.forks, gate)?)
 }
 
 /// Gathers what is live in the segments of these ids, and builds a segment of it; none, where nothing is live. Leaves
@@ -107,7 +107,8 @@ pub(crate) fn gathered<const D: usize, R: Threads + Sync, F: Pages, G: Gate>(
 ) -> Result<Option<NewSegment<D>>, PageFault>
     requires { D ≤ 8 }
     ensures gathered { IfOk result
-        (λ o. (n : NewSegmentData) → o ≡ Some n → IsGathered D plan.now.leaf (parts_among ids.now segments.now) n) }
+        (λ o. (n : NewSegmentData) → o ≡ Some n
+            → IsGathered D plan.now.leaf_size (parts_among ids.now segments.now) n) }
     ensures makes { IsTrue F.told → (c : Contents) → AreRead D (F.files folder.old) c segments.now
         → IfOk result (MakesLive D (live_in_parts c (parts_among ids.now segments.now))) }
     ensures loses { IfOk result (LosesNone D (IsTrue F.told) (F.files folder.old) ids.now segments.now) }
@@ -210,7 +211,7 @@ pub(crate) fn merge<const D: usize, R: Threads + Sync, F: Folder, G: Gate>(
     requires named { All (IsNamed names.old) segments.old }
     requires among { (id : ℕ) → is_among ids.now id ≡ true → is_named names.old.names (Segment id) ≡ true }
     ensures merged { OnOk result
-        (IsMerged D (IsTrue F.told) plan.now.leaf names.old names.new (F.files folder.old)
+        (IsMerged D (IsTrue F.told) plan.now.leaf_size names.old names.new (F.files folder.old)
         (F.files folder.new) ids.now segments.old segments.new) }
     ensures refused { OnErr result (segments.new ≡ segments.old) }
     ensures kept { KeepsNamed (IsTrue F.told) names.old names.new (F.files folder.old) (F.files folder.new) }
@@ -251,7 +252,7 @@ pub(crate) fn write_buffer<const D: usize, R: Threads + Sync, F: Folder, G: Gate
     requires once { NoneTwice buffer.old.items }
     requires sixteen { AreFew buffer.old.items }
     ensures spilled { OnOk result
-        (IsSpilled D (IsTrue F.told) plan.now.leaf names.old names.new (F.files folder.new)
+        (IsSpilled D (IsTrue F.told) plan.now.leaf_size names.old names.new (F.files folder.new)
         buffer.old.items segments.old segments.new) }
     ensures emptied { OnOk result (buffer.new.items ≡ []) }
     ensures next { buffer.new.next ≡ buffer.old.next }
@@ -264,7 +265,14 @@ pub(crate) fn write_buffer<const D: usize, R: Threads + Sync, F: Folder, G: Gate
     buffer.settle();
     // a build leaves its entries in another order
     let mut copy = Vec::from_slice(alloc, buffer.as_slice())?;
-    let new = build_segment(rt, alloc, copy.as_mut_slice(), plan.leaf, plan.forks, gate)?;
+    let new = build_segment(
+        rt,
+        alloc,
+        copy.as_mut_slice(),
+        plan.leaf_size,
+        plan.forks,
+        gate,
+    )?;
     swap(alloc, folder, names, segments, &new, &[])?;
     buffer.clear();
     Ok(())

@@ -109,7 +109,7 @@ impl<const D: usize> SegmentSet<D> {
         let next = self.buffer.next();
         let kept = Commit::new(
             D as u8,
-            self.leaf,
+            self.leaf_size,
             next,
             self.points_given,
             next_segment,
@@ -118,7 +118,7 @@ impl<const D: usize> SegmentSet<D> {
         self.saved = Some(kept);
         Ok(Commit::new(
             D as u8,
-            self.leaf,
+            self.leaf_size,
             next,
             self.points_given,
             next_segment,

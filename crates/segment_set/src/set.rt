@@ -38,7 +38,7 @@ impl<const D: usize> Model for Begun<D> {
 /// A set of segments of `D` dimensions. Contracts see it as `SetData`.
 #[derive(Drop)]
 pub struct SegmentSet<const D: usize> {
-    pub(crate) leaf: u16,
+    pub(crate) leaf_size: u16,
     pub(crate) forks: u8,
     pub(crate) points_given: u32,
     pub(crate) names: FileNames,
@@ -57,7 +57,7 @@ impl<const D: usize> Model for SegmentSet<D> {
     ghost Value = { SetData };
 
     ghost view = { λ s. record {
-      leaf = s.leaf;
+      leaf_size = s.leaf_size;
       next = s.buffer.next;
       points_given = s.points_given;
       names = s.names;
@@ -70,7 +70,7 @@ impl<const D: usize> Model for SegmentSet<D> {
     } };
 
     ghost invariant = { λ s. IsWell D (record {
-      leaf = s.leaf;
+      leaf_size = s.leaf_size;
       next = s.buffer.next;
       points_given = s.points_given;
       names = s.names;
@@ -91,18 +91,18 @@ impl<const D: usize> SegmentSet<D> {
     ghost use Rattle.segment_set.specs.Faithful.{IsFaithful};
 
     /// A set without documents, over a folder without an index.
-    pub fn new(alloc: Global, leaf: u16, settings: Settings) -> Result<SegmentSet<D>, Memory>
+    pub fn new(alloc: Global, leaf_size: u16, settings: Settings) -> Result<SegmentSet<D>, Memory>
         requires dims { (1 ≤ D) × (D ≤ 8) }
-        requires least_leaf { 2 ≤ leaf }
-        requires greatest_leaf { leaf ≤ leaf_limit D }
-        ensures seen { IfOk result (λ s. (files : Files) → Sees D files s (new_index D leaf)) }
+        requires least_leaf { 2 ≤ leaf_size }
+        requires greatest_leaf { leaf_size ≤ leaf_limit D }
+        ensures seen { IfOk result (λ s. (files : Files) → Sees D files s (new_index D leaf_size)) }
         ensures faithful { IfOk result (λ s. (files : Files) → IsFaithful D files s) }
         ensures unsaved { IfOk result (λ s. s.saved ≡ None) }
         ensures names { IfOk result (λ s. s.names ≡ record { names = []; next_segment = 0 }) }
         ensures room { IfOk result (λ s. room_of s.cache ≡ settings.cache_pages) }
     {
         Ok(SegmentSet {
-            leaf,
+            leaf_size,
             forks: settings.forks,
             points_given: 0,
             names: FileNames::new(alloc),
@@ -130,11 +130,11 @@ impl<const D: usize> SegmentSet<D> {
     }
 
     /// The greatest number of entries of a leaf.
-    pub fn leaf(&self) -> u16
-        ensures value { result ≡ self.now.leaf }
+    pub fn leaf_size(&self) -> u16
+        ensures value { result ≡ self.now.leaf_size }
         ensures well { IsWell D self.now }
     {
-        self.leaf
+        self.leaf_size
     }
 
     /// Whether a merge is begun.

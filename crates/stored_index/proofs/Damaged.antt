@@ -39,7 +39,7 @@ no_segment files c s says listed none =
     none_held files c says (λ docs held. let part = held_of (HoldsFiles files c) c.listed held.parts held.segments s listed in none part.0 part.1)
 
 pub no_head : (files : Files) (c : CommitData) (s : Listed) → IsCommitFile (bytes_of (files Commit)) c → Contains c.listed s
-    → ((head : Head) → HasHead c.dims files s head → head.leaf ≡ c.leaf → head.entries ≡ s.entries → ⊥) → IsUndefined files
+    → ((head : Head) → HasHead c.dims files s head → head.leaf_size ≡ c.leaf_size → head.entries ≡ s.entries → ⊥) → IsUndefined files
 no_head files c s says listed none =
     no_segment files c s says listed
     (λ d held. none d.head (record { id = held.id; is = head_of_segment c.dims (bytes_of (files (Segment s.segment))) d.head d.entries held.segment })
@@ -58,10 +58,10 @@ no_entry once files c s head entries live number says listed id segment set aliv
     (λ d held.
     let bytes = bytes_of (files (Segment s.segment)) in
     let heads : head ≡ d.head =
-    held_head c.dims c.leaf s bytes (bytes_of (files (Live s.segment s.generation))) d head held id (head_of_segment c.dims bytes head entries segment) in
+    held_head c.dims c.leaf_size s bytes (bytes_of (files (Live s.segment s.generation))) d head held id (head_of_segment c.dims bytes head entries segment) in
     let same : entries ≡ d.entries =
     once c.dims bytes d.head entries d.entries (subst (λ (h : Head). IsSegment c.dims bytes h entries) heads segment) held.segment in
-    let sets : live ≡ d.live = held_live c.dims c.leaf s bytes (bytes_of (files (Live s.segment s.generation))) d live held set in
+    let sets : live ≡ d.live = held_live c.dims c.leaf_size s bytes (bytes_of (files (Live s.segment s.generation))) d live held set in
     let found : has_entry number d.entries ≡ true = held.found number (subst (λ (l : LiveSet). is_live l number ≡ true) sets alive) in
     let not_found : has_entry number d.entries ≡ false = subst (λ (xs : List Item). has_entry number xs ≡ false) same none in
     absurd (cc))

@@ -28,27 +28,28 @@ use Rattle.stored_index.proofs.Pairwise.{zip_once, zip_map, zip_moved, zip_same}
 abbrev pub EntriesOnce : Type 0
 EntriesOnce = (D : ℕ) (bytes : List ℕ) (h : Head) (xs ys : List Item) → IsSegment D bytes h xs → IsSegment D bytes h ys → xs ≡ ys
 
-pub held_head : (dims leaf : ℕ) (s : Listed) (a b : List ℕ) (d : SegmentData) (head : Head) → HoldsListed dims leaf s a b d → head.id ≡ s.segment
+pub held_head : (dims leaf_size : ℕ) (s : Listed) (a b : List ℕ) (d : SegmentData) (head : Head) → HoldsListed dims leaf_size s a b d → head.id ≡ s.segment
     → IsHeadOf dims a head → head ≡ d.head
-held_head dims leaf s a b d head p id is = one_head dims a head d.head (id ∙ sym p.id) is (head_of_segment dims a d.head d.entries p.segment)
+held_head dims leaf_size s a b d head p id is = one_head dims a head d.head (id ∙ sym p.id) is (head_of_segment dims a d.head d.entries p.segment)
 
-pub held_live : (dims leaf : ℕ) (s : Listed) (a b : List ℕ) (d : SegmentData) (live : LiveSet) → HoldsListed dims leaf s a b d
+pub held_live : (dims leaf_size : ℕ) (s : Listed) (a b : List ℕ) (d : SegmentData) (live : LiveSet) → HoldsListed dims leaf_size s a b d
     → IsLiveFile s.segment s.generation b live → live ≡ d.live
-held_live dims leaf s a b d live p is = one_live_set s.segment s.generation b live d.live is p.live
+held_live dims leaf_size s a b d live p is = one_live_set s.segment s.generation b live d.live is p.live
 
-pub held_once : EntriesOnce → (dims leaf : ℕ) (s : Listed) (a b : List ℕ) (d e : SegmentData) → HoldsListed dims leaf s a b d → HoldsListed dims leaf s a b e
-    → d ≡ e
-held_once once dims leaf s a b d e p q =
-    let head : d.head ≡ e.head = held_head dims leaf s a b e d.head q p.id (head_of_segment dims a d.head d.entries p.segment) in
+pub held_once : EntriesOnce → (dims leaf_size : ℕ) (s : Listed) (a b : List ℕ) (d e : SegmentData) → HoldsListed dims leaf_size s a b d
+    → HoldsListed dims leaf_size s a b e → d ≡ e
+held_once once dims leaf_size s a b d e p q =
+    let head : d.head ≡ e.head = held_head dims leaf_size s a b e d.head q p.id (head_of_segment dims a d.head d.entries p.segment) in
     let entries : d.entries ≡ e.entries =
     once dims a e.head d.entries e.entries (subst (λ (h : Head). IsSegment dims a h d.entries) head p.segment) q.segment in
-    let live : d.live ≡ e.live = held_live dims leaf s a b e d.live q p.live in
+    let live : d.live ≡ e.live = held_live dims leaf_size s a b e d.live q p.live in
     λ i. record { head = head i; entries = entries i; live = live i }
 
 pub all_once : EntriesOnce → (files : Files) (c : CommitData) (xs ys : List SegmentData) → HoldAll files c xs → HoldAll files c ys → xs ≡ ys
 all_once once files c xs ys p q =
     zip_once (HoldsFiles files c)
-    (λ s d e h k. held_once once c.dims c.leaf s (bytes_of (files (Segment s.segment))) (bytes_of (files (Live s.segment s.generation))) d e h k) c.listed xs ys
+    (λ s d e h k. held_once once c.dims c.leaf_size s (bytes_of (files (Segment s.segment))) (bytes_of (files (Live s.segment s.generation))) d e h k) c.listed
+        xs ys
     p q
 
 -- ---- heads and live sets of a list of segments
@@ -83,8 +84,8 @@ sets_are files c parts sets h have =
 pub stays : (old new : Files) (c : CommitData) (s : Listed) (d : SegmentData) → new (Segment s.segment) ≡ old (Segment s.segment)
     → new (Live s.segment s.generation) ≡ old (Live s.segment s.generation) → HoldsFiles old c s d → HoldsFiles new c s d
 stays old new c s d segment live h =
-    subst (λ (b : List ℕ). HoldsListed c.dims c.leaf s (bytes_of (new (Segment s.segment))) b d) (sym (ap bytes_of live))
-    (subst (λ (a : List ℕ). HoldsListed c.dims c.leaf s a (bytes_of (old (Live s.segment s.generation))) d) (sym (ap bytes_of segment)) h)
+    subst (λ (b : List ℕ). HoldsListed c.dims c.leaf_size s (bytes_of (new (Segment s.segment))) b d) (sym (ap bytes_of live))
+    (subst (λ (a : List ℕ). HoldsListed c.dims c.leaf_size s a (bytes_of (old (Live s.segment s.generation))) d) (sym (ap bytes_of segment)) h)
 
 pub all_stay : (old new : Files) (c : CommitData) (parts : List SegmentData) → ((name : FileName) → ListsFile c name → new name ≡ old name)
     → HoldAll old c parts → HoldAll new c parts

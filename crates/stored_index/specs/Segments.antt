@@ -17,11 +17,11 @@ pub record SegmentData : Type 0 where
 
 -- the file of a segment and that of its live bits hold this segment and agree with a commit of these dimensions and
 -- this leaf size that lists it so. Each live number is that of an entry
-pub record HoldsListed (dims leaf : ℕ) (s : Listed) (segment_bytes live_bytes : List ℕ) (d : SegmentData) : Type 0 where
+pub record HoldsListed (dims size : ℕ) (s : Listed) (segment_bytes live_bytes : List ℕ) (d : SegmentData) : Type 0 where
   pub segment : IsSegment dims segment_bytes d.head d.entries
   pub live : IsLiveFile s.segment s.generation live_bytes d.live
   pub id : d.head.id ≡ s.segment
-  pub leaf_size : d.head.leaf ≡ leaf
+  pub leaf_size : d.head.leaf_size ≡ size
   pub count : d.head.entries ≡ s.entries
   pub live_count : length d.live.live ≡ s.live
   pub found : (number : ℕ) → is_live d.live number ≡ true → has_entry number d.entries ≡ true

@@ -18,7 +18,7 @@ use Rattle.stored_index.specs.Segments.{SegmentData, HoldsListed, all_live_entri
 -- the files of the segment that the commit lists so hold this
 abbrev pub HoldsFiles : Files → CommitData → Listed → SegmentData → Type 0
 HoldsFiles files c s d =
-    HoldsListed c.dims c.leaf s (bytes_of (files (Segment s.segment)))
+    HoldsListed c.dims c.leaf_size s (bytes_of (files (Segment s.segment)))
     (bytes_of (files (Live s.segment s.generation))) d
 
 -- the segments that the commit lists, in its order, are held by their files
@@ -58,7 +58,7 @@ abbrev pub index_of : CommitData → List Document → Index
 index_of c docs =
     record {
       dims = c.dims;
-      leaf = c.leaf;
+      leaf_size = c.leaf_size;
       next = c.next;
       points_given = c.points_given;
       docs = docs;

@@ -27,12 +27,12 @@ use segment_file::one_segment;
 
 /// The files of a listed segment hold one segment at most: the head and the live bits that the files spell are its own.
 pub fn one_holding()
-    ensures segment { (dims leaf : ℕ) (s : Listed) (a b : List ℕ) (d e : SegmentData)
-        → HoldsListed dims leaf s a b d → HoldsListed dims leaf s a b e → d ≡ e }
-    ensures head { (dims leaf : ℕ) (s : Listed) (a b : List ℕ) (d : SegmentData) (head : Head)
-        → HoldsListed dims leaf s a b d → head.id ≡ s.segment → IsHeadOf dims a head → head ≡ d.head }
-    ensures live { (dims leaf : ℕ) (s : Listed) (a b : List ℕ) (d : SegmentData) (live : LiveSet)
-        → HoldsListed dims leaf s a b d → IsLiveFile s.segment s.generation b live → live ≡ d.live }
+    ensures segment { (dims leaf_size : ℕ) (s : Listed) (a b : List ℕ) (d e : SegmentData)
+        → HoldsListed dims leaf_size s a b d → HoldsListed dims leaf_size s a b e → d ≡ e }
+    ensures head { (dims leaf_size : ℕ) (s : Listed) (a b : List ℕ) (d : SegmentData) (head : Head)
+        → HoldsListed dims leaf_size s a b d → head.id ≡ s.segment → IsHeadOf dims a head → head ≡ d.head }
+    ensures live { (dims leaf_size : ℕ) (s : Listed) (a b : List ℕ) (d : SegmentData) (live : LiveSet)
+        → HoldsListed dims leaf_size s a b d → IsLiveFile s.segment s.generation b live → live ≡ d.live }
 {
     one_segment();
 }
@@ -168,7 +168,7 @@ pub fn damage_is_undefined()
     // a listed segment has no head, or one of another leaf size or number of entries
     ensures head { (files : Files) (c : CommitData) (s : Listed) → IsCommitFile (bytes_of (files Commit)) c
         → Contains c.listed s
-        → ((head : Head) → HasHead c.dims files s head → head.leaf ≡ c.leaf → head.entries ≡ s.entries → ⊥)
+        → ((head : Head) → HasHead c.dims files s head → head.leaf_size ≡ c.leaf_size → head.entries ≡ s.entries → ⊥)
         → IsUndefined files }
     // it has no live bits, or another number of them
     ensures live { (files : Files) (c : CommitData) (s : Listed) → IsCommitFile (bytes_of (files Commit)) c

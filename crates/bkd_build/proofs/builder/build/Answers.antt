@@ -23,7 +23,7 @@ pack-requires g c =
     let a = c.in_ok-part.ensures.built in
     let are : AreParts g.row.D (region_of c.cell_round-root.result) c.as_slice.result.now c.as_slice-2.result.now c.as_slice-3.result.now = record {
       tree = index_tree_of g.row.D a.tree;
-      are = parts_lent g.row.D c.args.leaf c.args.entries.now (region_of c.cell_round-root.result) c.in_ok-part.part c.as_slice.result.now
+      are = parts_lent g.row.D c.args.leaf_size c.args.entries.now (region_of c.cell_round-root.result) c.in_ok-part.part c.as_slice.result.now
           c.as_slice-2.result.now c.as_slice-3.result.now
           c.requires.dims.0 c.requires.dims.1 c.requires.least_leaf c.requires.some c.requires.few c.cell_round-root.ensures c.as_slice.ensures.value
           c.as_slice-2.ensures.value c.as_slice-3.ensures.value a;
@@ -35,9 +35,10 @@ returns-clause-built g c =
     let a = c.in_ok-part.ensures.built in
     let root = region_of c.cell_round-root.result in
     let are =
-    parts_lent g.row.D c.args.leaf c.args.entries.now root c.in_ok-part.part c.as_slice.result.now c.as_slice-2.result.now c.as_slice-3.result.now
+    parts_lent g.row.D c.args.leaf_size c.args.entries.now root c.in_ok-part.part c.as_slice.result.now c.as_slice-2.result.now c.as_slice-3.result.now
     c.requires.dims.0 c.requires.dims.1 c.requires.least_leaf c.requires.some c.requires.few c.cell_round-root.ensures c.as_slice.ensures.value
     c.as_slice-2.ensures.value c.as_slice-3.ensures.value a in
     let packed = c.in_ok-index.ensures.packed (index_tree_of g.row.D a.tree) are in
-    whole_built g.row.D c.args.leaf (items_of c.args.entries.now) root (held_pieces c.in_ok-part.part) c.in_ok-index.index c.cell_round-root.ensures a packed.0
+    whole_built g.row.D c.args.leaf_size (items_of c.args.entries.now) root (held_pieces c.in_ok-part.part) c.in_ok-index.index c.cell_round-root.ensures a
+        packed.0
     packed.2

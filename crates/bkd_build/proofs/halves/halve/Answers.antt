@@ -44,8 +44,8 @@ returns-clause-split g c =
     let rank : ℕ = c.left_count-rank.result in
     let fs = c.cut-at.new.entries in
     let round : c.cut-at.result ≡ to_z w32 (of_z w32 c.cut-at.result) = search rules in
-    subst (λ (x : ℤ). IsCanonSplit g.row.D c.args.leaf c.widest-dimension.result x (items_of (take rank fs)) (items_of (drop rank fs))) round
-    (split_of_cut g.row.D c.args.leaf c.widest-dimension.result rank c.cut-at.result c.args.entries.now fs c.cut-at.ensures.same c.requires.many
+    subst (λ (x : ℤ). IsCanonSplit g.row.D c.args.leaf_size c.widest-dimension.result x (items_of (take rank fs)) (items_of (drop rank fs))) round
+    (split_of_cut g.row.D c.args.leaf_size c.widest-dimension.result rank c.cut-at.result c.args.entries.now fs c.cut-at.ensures.same c.requires.many
     c.left_count-rank.ensures.value c.left_count-rank.ensures.right
     c.widest-dimension.ensures.widest c.cut-at.ensures.cut c.cut-at.ensures.split)
 

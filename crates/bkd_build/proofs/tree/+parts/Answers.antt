@@ -33,9 +33,9 @@ build_part-returns-clause-built g t c =
     let ls = c.split_at_mut-left.result.0.now in
     let rs = c.split_at_mut-left.result.1.now in
     let node = c.halve-node.result in
-    let split : IsCanonSplit g.row.D c.args.leaf node.dimension node.at (items_of ls) (items_of rs) =
+    let split : IsCanonSplit g.row.D c.args.leaf_size node.dimension node.at (items_of ls) (items_of rs) =
     rw (c.split_at_mut-left.ensures.front, c.split_at_mut-left.ensures.back) c.halve-node.ensures.split in
-    halves_add g.row.D c.args.leaf node.dimension node.at (items_of c.args.entries.now) (items_of ls) (items_of rs) (held_pieces c.in_ok-first.first)
+    halves_add g.row.D c.args.leaf_size node.dimension node.at (items_of c.args.entries.now) (items_of ls) (items_of rs) (held_pieces c.in_ok-first.first)
     (held_pieces c.in_ok-second.second) (held_pieces c.in_ok-part.part)
     (items_joined c.args.entries.now c.halve-node.new.entries ls rs c.halve-node.ensures.same c.split_at_mut-left.ensures.value)
     split

@@ -23,11 +23,12 @@ grow-returns-clause-added g t c =
     let rs = c.split_at_mut-left.result.1.now in
     let node = c.halve-node.result in
     let both = c.in_ok-grow_halves.ensures.added in
-    let split : IsCanonSplit g.row.D c.args.leaf node.dimension node.at (items_of ls) (items_of rs) =
+    let split : IsCanonSplit g.row.D c.args.leaf_size node.dimension node.at (items_of ls) (items_of rs) =
     rw (c.split_at_mut-left.ensures.front, c.split_at_mut-left.ensures.back) c.halve-node.ensures.split in
-    node_adds g.row.D c.args.leaf node.dimension node.at (items_of c.args.entries.now) (items_of ls) (items_of rs) (held_pieces c.args.part.now) both.middle
+    node_adds g.row.D c.args.leaf_size node.dimension node.at (items_of c.args.entries.now) (items_of ls) (items_of rs) (held_pieces c.args.part.now)
+        both.middle
     (held_pieces c.grow_halves.new.part)
     (items_joined c.args.entries.now c.halve-node.new.entries ls rs c.halve-node.ensures.same c.split_at_mut-left.ensures.value)
     split
-    (subst (λ (ps : Pieces). AddsPieces g.row.D c.args.leaf (items_of ls) ps both.middle) c.in_ok-push_node.ensures both.left)
+    (subst (λ (ps : Pieces). AddsPieces g.row.D c.args.leaf_size (items_of ls) ps both.middle) c.in_ok-push_node.ensures both.left)
     both.right

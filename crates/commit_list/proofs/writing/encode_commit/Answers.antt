@@ -9,7 +9,7 @@ returns-clause-spelling c =
     (λ i. record {
       layout = Second;
       dims = c.dims.ensures.value i;
-      leaf = c.leaf.ensures.value i;
+      leaf_size = c.leaf_size.ensures.value i;
       next = c.next.ensures.value i;
       points_given = c.points_given.ensures.value i;
       next_segment = c.next_segment.ensures.value i;
@@ -25,7 +25,7 @@ returns-clause-spells c =
     (λ i. record {
       layout = Second;
       dims = c.dims.ensures.value i;
-      leaf = c.leaf.ensures.value i;
+      leaf_size = c.leaf_size.ensures.value i;
       next = c.next.ensures.value i;
       points_given = c.points_given.ensures.value i;
       next_segment = c.next_segment.ensures.value i;

@@ -12,5 +12,5 @@ returns c =
     (line_more _ _ _ (codes " segments ") _ _ c.in_ok-put_number-5.ensures (ap length c.listed.ensures.value)
     (line_more _ _ _ (codes " live ") _ _ c.in_ok-put_number-4.ensures refl
     (line_more _ _ _ (codes " next ") _ _ c.in_ok-put_number-3.ensures (c.from-3.ensures ∙ c.next.ensures.value)
-    (line_more _ _ _ (codes " leaf ") _ _ c.in_ok-put_number-2.ensures (c.from-2.ensures ∙ c.leaf.ensures.value)
+    (line_more _ _ _ (codes " leaf ") _ _ c.in_ok-put_number-2.ensures (c.from-2.ensures ∙ c.leaf_size.ensures.value)
     (line_more _ _ _ (codes "ok dims ") _ _ c.in_ok-put_number.ensures (c.from.ensures ∙ c.dims.ensures.value) c.new-line.ensures.items)))))

@@ -19,7 +19,7 @@ returns-in_err-agree-clause-damage g c = λ told.
     let e = err_from_is_err_and c.from_residual-in_err-agree.result c.from_residual-in_err-agree.ensures.1 in
     rw (e.1, e.2)
     (pair_fault files c.args.c.now c.args.s (Segment c.args.s.segment) c.from.result c.from-2.result c.in_err-agree.field-0.0
-    (leaf_pair files c.args.c.now c.args.s c.in_ok-head.head c.from.result c.from-2.result has (c.from.ensures ∙ c.leaf-leaf.ensures.value)
+    (leaf_pair files c.args.c.now c.args.s c.in_ok-head.head c.from.result c.from-2.result has (c.from.ensures ∙ c.leaf_size-leaf_size.ensures.value)
     (c.from-2.ensures ∙ c.leaf_size.ensures))
     c.in_err-agree.ensures.pair)
 
@@ -31,7 +31,8 @@ returns-in_err-agree-clause-whole g c = λ told d held.
     let e = err_from_is_err_and c.from_residual-in_err-agree.result c.from_residual-in_err-agree.ensures.1 in
     rw (e.1, e.2)
     (equal_fault (Segment c.args.s.segment) c.from.result c.from-2.result c.in_err-agree.field-0.0
-    (c.from.ensures ∙ c.leaf-leaf.ensures.value ∙ sym held.leaf_size ∙ sym (c.from-2.ensures ∙ c.leaf_size.ensures ∙ ap (λ (h : Head). h.leaf) same))
+    (c.from.ensures ∙ c.leaf_size-leaf_size.ensures.value ∙ sym held.leaf_size
+        ∙ sym (c.from-2.ensures ∙ c.leaf_size.ensures ∙ ap (λ (h : Head). h.leaf_size) same))
     c.in_err-agree.ensures.pair)
 
 pub returns-in_err-agree-2-clause-damage : goal.returns-in_err-agree-2-clause-damage

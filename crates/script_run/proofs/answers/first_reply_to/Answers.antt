@@ -21,14 +21,14 @@ returns-in-Ok-Blank-clause-text c =
 pub returns-in_ok-put_ok-in-Ok-Create-clause-opening :
     goal.returns-in_ok-put_ok-in-Ok-Create-clause-opening
 returns-in_ok-put_ok-in-Ok-Create-clause-opening c =
-    let is = first_is c.args.language c.args.number c.args.line.now (Ok (first_request_of (first.Create c.in-Ok-Create.dims c.in-Ok-Create.leaf)))
+    let is = first_is c.args.language c.args.number c.args.line.now (Ok (first_request_of (first.Create c.in-Ok-Create.dims c.in-Ok-Create.leaf_size)))
     (rw c.in-Ok-Create.field-0-is at c.in-Ok-Create.ensures.reads) in
     rw is (refl, refl)
 
 pub returns-in_ok-put_ok-in-Ok-Create-clause-text :
     goal.returns-in_ok-put_ok-in-Ok-Create-clause-text
 returns-in_ok-put_ok-in-Ok-Create-clause-text c =
-    let is = first_is c.args.language c.args.number c.args.line.now (Ok (first_request_of (first.Create c.in-Ok-Create.dims c.in-Ok-Create.leaf)))
+    let is = first_is c.args.language c.args.number c.args.line.now (Ok (first_request_of (first.Create c.in-Ok-Create.dims c.in-Ok-Create.leaf_size)))
     (rw c.in-Ok-Create.field-0-is at c.in-Ok-Create.ensures.reads) in
     rw is c.in_ok-put_ok-in-Ok-Create.ensures.ok
 

@@ -73,13 +73,14 @@ returns-in-Ok-Made-clause-does g c =
     (λ ls does none.
     let so = so_far.1 (gives.line ∷ ls) in
     let still : g.F.Pages.files c.lines.folder Commit ≡ None = rw same none in
-    let done = does (new_index c.in-Ok-Made.dims c.in-Ok-Made.leaf) None (still, refl, refl) in
+    let done = does (new_index c.in-Ok-Made.dims c.in-Ok-Made.leaf_size) None (still, refl, refl) in
     rw (append_assoc so_far.0.lines (gives.line ∷ []) ls) (
-      made_ends c.args.work.now.language _ _ _ _ _ so.0 gives.line ls refl (new_index c.in-Ok-Made.dims c.in-Ok-Made.leaf) _ state
+      made_ends c.args.work.now.language _ _ _ _ _ so.0 gives.line ls refl (new_index c.in-Ok-Made.dims c.in-Ok-Made.leaf_size) _ state
           (ap (λ (a : Answer). a.refused) is ∙ made.1)
           (λ sink. c.in-Ok-Made.ensures.text sink ∙ ap (λ (a : Answer). g.K.Sink.written c.lines.out ++ a.text) (sym is)) _ _ c.run_from.result done.0,
       leads_same c.args.work.now.language None _ _ _ _ _ _ _ c.run_from.result same (ap (λ f. g.F.Pages.reads f) c.lines.invariant.folder)
-          (made_leads c.args.work.now.language _ _ _ so.1 gives.line ls refl c.in-Ok-Made.dims c.in-Ok-Made.leaf state _ _ _ _ still c.run_from.result done.1),
+          (made_leads c.args.work.now.language _ _ _ so.1 gives.line ls refl c.in-Ok-Made.dims c.in-Ok-Made.leaf_size state _ _ _ _ still c.run_from.result
+              done.1),
     ))
     (c.run_from.ensures.does told)
 

@@ -15,7 +15,7 @@ pub create-requires : goal.create-requires
 create-requires g c =
     let made = rw c.in-New.is at c.requires.made in (
       session_fits g.row.D c.requires.few,
-      ((c.requires.some, c.requires.few), (made.2, subst (λ (n : ℕ). c.in-New.leaf ≤ greatest_leaf n) (rw c.in-New.is at c.requires.dims) made.3)),
+      ((c.requires.some, c.requires.few), (made.2, subst (λ (n : ℕ). c.in-New.leaf_size ≤ greatest_leaf n) (rw c.in-New.is at c.requires.dims) made.3)),
     )
 
 pub attach-requires : goal.attach-requires

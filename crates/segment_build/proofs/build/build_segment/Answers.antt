@@ -10,13 +10,15 @@ use Rattle.segment_build.proofs.build.build_segment.Goals as goal
 pub invariant_of-result : goal.invariant_of-result
 invariant_of-result g c =
     let r = c.requires in
-    some_built c.args.leaf (length c.args.entries.now) c.args.entries.now c.in_ok-built.built c.in_ok-live.live r.least_leaf r.greatest_leaf r.some r.few refl
+    some_built c.args.leaf_size (length c.args.entries.now) c.args.entries.now c.in_ok-built.built c.in_ok-live.live r.least_leaf r.greatest_leaf r.some r.few
+        refl
     c.in_ok-built.ensures.built
 
 pub returns-clause-has : goal.returns-clause-has
 returns-clause-has g c =
     let r = c.requires in
-    has_built c.args.leaf (length c.args.entries.now) c.args.entries.now c.in_ok-built.built c.in_ok-live.live r.least_leaf r.greatest_leaf r.some r.few refl
+    has_built c.args.leaf_size (length c.args.entries.now) c.args.entries.now c.in_ok-built.built c.in_ok-live.live r.least_leaf r.greatest_leaf r.some r.few
+        refl
     c.in_ok-built.ensures.built
 
 pub returns-clause-found : goal.returns-clause-found
@@ -24,7 +26,7 @@ returns-clause-found g c = λ items has.
     let r = c.requires in
     let live = c.in_ok-live.live in
     let (own, same, own_has) =
-    has_built c.args.leaf (length c.args.entries.now) c.args.entries.now c.in_ok-built.built live r.least_leaf r.greatest_leaf r.some r.few refl
+    has_built c.args.leaf_size (length c.args.entries.now) c.args.entries.now c.in_ok-built.built live r.least_leaf r.greatest_leaf r.some r.few refl
     c.in_ok-built.ensures.built in
     live_in_order live (items_of c.args.entries.now) items
     (subst (λ (xs : List Item). IsPermutation (items_of c.args.entries.now) xs) (has_once g.row.D own items _ own_has has) same) c.in_ok-live.ensures.live

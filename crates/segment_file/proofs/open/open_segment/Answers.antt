@@ -52,7 +52,7 @@ returns-in_err-agree-clause-damage g c = λ told.
     rw (e.1, e.2)
     (fault_weaker c.in_err-agree.field-0.0 (IsPairDamage name f.leaf_pages c.leaf_pages.result) (IsHeadDamageOf g.row.D files)
     (λ d told_pair. head_pair_of g.row.D files name f.leaf_pages c.leaf_pages.result d
-    (inr (head_of c.args.id f.entries f.leaf index, s.root, s.tree, head, found)) told_pair)
+    (inr (head_of c.args.id f.entries f.leaf_size index, s.root, s.tree, head, found)) told_pair)
     pair)
 
 pub returns-in_err-agree-clause-whole : goal.returns-in_err-agree-clause-whole
@@ -94,7 +94,7 @@ returns-clause-head g c = λ told.
     record {
       root = s.root;
       tree = s.tree;
-      spells = subst (λ (n : ℕ). SpellsHead g.row.D (bytes_of (files name)) (head_of c.args.id f.entries f.leaf index) n s.root s.tree) said head;
+      spells = subst (λ (n : ℕ). SpellsHead g.row.D (bytes_of (files name)) (head_of c.args.id f.entries f.leaf_size index) n s.root s.tree) said head;
       size = omega arith;
     }
 

@@ -114,10 +114,10 @@ returns-clause-gathered g c = λ n is.
     let has = c.in_ok-build_of.ensures.has in
     let live = c.in_ok-build_of.ensures.live in
     let long : 1 ≤ length c.in_ok-entries.entries.items = grind (arith, nat_tests, c.in_ok-entries.entries.ok.0, c.is_empty.ensures, c.if-is_empty.false) in
-    subst (IsGathered g.row.D c.args.plan.now.leaf (parts_among c.args.ids.now c.args.segments.now)) (some_is c.in_ok-build_of.field-0 n is)
-    (gathered_of g.row.D c.args.plan.now.leaf (items_of c.as_mut_slice.result.now) has.0 c.in_ok-build_of.field-0
+    subst (IsGathered g.row.D c.args.plan.now.leaf_size (parts_among c.args.ids.now c.args.segments.now)) (some_is c.in_ok-build_of.field-0 n is)
+    (gathered_of g.row.D c.args.plan.now.leaf_size (items_of c.as_mut_slice.result.now) has.0 c.in_ok-build_of.field-0
     (parts_among c.args.ids.now c.args.segments.now) has.1 has.2 live.1
-    c.in_ok-build_of.ensures.leaf live.0 (omega (arith, long, items_length c.as_mut_slice.result.now, ap length c.as_mut_slice.ensures.value))
+    c.in_ok-build_of.ensures.leaf_size live.0 (omega (arith, long, items_length c.as_mut_slice.result.now, ap length c.as_mut_slice.ensures.value))
     (subst (λ (es : List (Entry g.row.D)). All (λ (x : Item). has_live x.doc (parts_among c.args.ids.now c.args.segments.now) ≡ true) (items_of es))
     (sym c.as_mut_slice.ensures.value) c.in_ok-entries.ensures.live)
     c.in_ok-build_of.ensures.uncrowded)

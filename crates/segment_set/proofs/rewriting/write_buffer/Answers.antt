@@ -48,7 +48,8 @@ returns-clause-spilled g c =
     let live = c.in_ok-new.ensures.live in
     record {
       n = c.in_ok-new.new;
-      made = made g.row.D (items_of c.as_mut_slice.result.now) has.0 c.in_ok-new.new has.1 has.2 live.1 c.args.plan.now.leaf c.in_ok-new.ensures.leaf.0 live.0
+      made = made g.row.D (items_of c.as_mut_slice.result.now) has.0 c.in_ok-new.new has.1 has.2 live.1 c.args.plan.now.leaf_size
+          c.in_ok-new.ensures.leaf_size.0 live.0
           (omega (arith, c.requires.some, ap length same))
           (subst AreUncrowded (sym same) (uncrowded c.args.buffer.now.items c.requires.once c.requires.sixteen));
       put = c.in_ok-swap.ensures.put;

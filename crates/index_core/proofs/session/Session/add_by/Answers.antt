@@ -8,8 +8,8 @@ use Rattle.index_core.proofs.session.Session.add_by.Goals as goal
 pub add-requires-after_bounds : goal.add-requires-after_bounds
 add-requires-after_bounds g c κs = λ _. (set_fits g.row.D c.self.invariant.few, lit< tt)
 
-pub leaf-leaf-requires : goal.leaf-leaf-requires
-leaf-leaf-requires g c = set_fits g.row.D c.self.invariant.few
+pub leaf_size-leaf_size-requires : goal.leaf_size-leaf_size-requires
+leaf_size-leaf_size-requires g c = set_fits g.row.D c.self.invariant.few
 
 pub set_one-requires : goal.set_one-requires
 set_one-requires g c = (lit< tt, point_fits g.row.D c.self.invariant.few)
@@ -21,10 +21,10 @@ returns g c =
     (adds_one _ _ _ _ _ c.add.result (record {
       commit = refl;
       refused = refl;
-      grows = grows_added _ _ _ c.add.result c.add.ensures.alone.leaf c.add.ensures.gives.points_given c.add.ensures.left.stays;
+      grows = grows_added _ _ _ c.add.result c.add.ensures.alone.leaf_size c.add.ensures.gives.points_given c.add.ensures.left.stays;
       keeps = c.add.ensures.rewrites.kept;
       follows = c.add.ensures.rewrites.follows;
-      named = c.leaf-leaf.ensures.well.named;
+      named = c.leaf_size-leaf_size.ensures.well.named;
       second = c.add.ensures.rewrites.canon;
       seen = put_seen _ _ _ _ _ _ _ _ _ c.set_one.ensures c.add.ensures.seen;
       points_given = put_given _ _ _ _ _ _ c.set_one.ensures c.add.ensures.gives.points_given;

@@ -15,8 +15,8 @@ use Rattle.index_core.proofs.session.Session.add_point.Goals.{After-drop-of}
 pub add-requires-after_bounds : goal.add-requires-after_bounds
 add-requires-after_bounds g c κs = λ _. (set_fits g.row.D c.self.invariant.few, lit< tt)
 
-pub leaf-leaf-requires : goal.leaf-leaf-requires
-leaf-leaf-requires g c = set_fits g.row.D c.self.invariant.few
+pub leaf_size-leaf_size-requires : goal.leaf_size-leaf_size-requires
+leaf_size-leaf_size-requires g c = set_fits g.row.D c.self.invariant.few
 
 pub returns-in_err-list : goal.returns-in_err-list
 returns-in_err-list g c =
@@ -38,10 +38,10 @@ returns g c =
     (adds_one _ _ _ _ _ c.add-2.result (record {
       commit = refl;
       refused = refl;
-      grows = grows_added _ _ _ c.add-2.result c.add-2.ensures.alone.leaf c.add-2.ensures.gives.points_given c.add-2.ensures.left.stays;
+      grows = grows_added _ _ _ c.add-2.result c.add-2.ensures.alone.leaf_size c.add-2.ensures.gives.points_given c.add-2.ensures.left.stays;
       keeps = c.add-2.ensures.rewrites.kept;
       follows = c.add-2.ensures.rewrites.follows;
-      named = c.leaf-leaf.ensures.well.named;
+      named = c.leaf_size-leaf_size.ensures.well.named;
       second = c.add-2.ensures.rewrites.canon;
       seen = put_seen _ _ _ _ _ _ _ _ _ (made g c) c.add-2.ensures.seen;
       points_given = put_given _ _ _ _ _ _ (made g c) c.add-2.ensures.gives.points_given;

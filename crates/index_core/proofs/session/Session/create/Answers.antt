@@ -10,11 +10,11 @@ returns-clause-guards g c files none = record { set = inl none; last = λ done. 
 pub new-requires : goal.new-requires
 new-requires g c = (set_fits g.row.D c.requires.dims.1, (c.requires.dims, (c.requires.least_leaf, c.requires.greatest_leaf)))
 
-pub leaf-leaf-requires : goal.leaf-leaf-requires
-leaf-leaf-requires g c = set_fits g.row.D c.requires.dims.1
+pub leaf_size-leaf_size-requires : goal.leaf_size-leaf_size-requires
+leaf_size-leaf_size-requires g c = set_fits g.row.D c.requires.dims.1
 
 pub returns-clause-bare : goal.returns-clause-bare
-returns-clause-bare g c = bare_parts _ _ c.in_ok-set.ensures.names c.leaf-leaf.ensures.well.named
+returns-clause-bare g c = bare_parts _ _ c.in_ok-set.ensures.names c.leaf_size-leaf_size.ensures.well.named
 
 pub returns-clause-faithful : goal.returns-clause-faithful
 returns-clause-faithful g c = c.in_ok-set.ensures.faithful

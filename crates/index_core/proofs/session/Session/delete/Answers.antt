@@ -26,7 +26,7 @@ pub returns-then-delete-clause-applies : goal.returns-then-delete-clause-applies
 returns-then-delete-clause-applies g c files faults = applies_seen _ _ _ _ _ _ _ _ _ _ _ c.self.view_is
     (applies _ _ _ _ _ _
     (calm_like _ _ _ _ _ _ _ _ _ _ _ _ (ap (λ (u : SetData). u.names) c.delete.ensures.alone)
-    (grows_same _ _ (ap (λ (u : SetData). u.leaf) c.delete.ensures.alone) (ap (λ (u : SetData). u.next) c.delete.ensures.alone)
+    (grows_same _ _ (ap (λ (u : SetData). u.leaf_size) c.delete.ensures.alone) (ap (λ (u : SetData). u.next) c.delete.ensures.alone)
     (ap (λ (u : SetData). u.points_given) c.delete.ensures.alone))
     c.delete.ensures.follows (λ told. refl) (λ told. brings_cleared _ files _ _ _ (ap (λ (u : SetData). u.parts) c.delete.ensures.alone))
     (λ told. c.delete.ensures.faithful files))
@@ -40,7 +40,7 @@ returns-in_err-put_deleted-2-clause-applies g c files faults =
     applies_seen _ _ _ _ _ _ _ _ _ _ _ c.self.view_is
     (applies_unsaid {T = Unit {0}} _ _ _ _ _ _ tt
     (calm_like _ _ _ _ _ _ _ _ _ _ _ _ (ap (λ (u : SetData). u.names) c.delete.ensures.alone)
-    (grows_same _ _ (ap (λ (u : SetData). u.leaf) c.delete.ensures.alone) (ap (λ (u : SetData). u.next) c.delete.ensures.alone)
+    (grows_same _ _ (ap (λ (u : SetData). u.leaf_size) c.delete.ensures.alone) (ap (λ (u : SetData). u.next) c.delete.ensures.alone)
     (ap (λ (u : SetData). u.points_given) c.delete.ensures.alone))
     c.delete.ensures.follows (λ told. refl) (λ told. brings_cleared _ files _ _ _ (ap (λ (u : SetData). u.parts) c.delete.ensures.alone))
     (λ told. c.delete.ensures.faithful files))
@@ -60,7 +60,7 @@ returns-clause-applies g c files faults =
     applies_seen _ _ _ _ _ _ _ _ _ _ _ c.self.view_is
     (applies _ _ _ _ _ _
     (calm_like _ _ _ _ _ _ _ _ _ _ _ _ (ap (λ (u : SetData). u.names) c.delete.ensures.alone)
-    (grows_same _ _ (ap (λ (u : SetData). u.leaf) c.delete.ensures.alone) (ap (λ (u : SetData). u.next) c.delete.ensures.alone)
+    (grows_same _ _ (ap (λ (u : SetData). u.leaf_size) c.delete.ensures.alone) (ap (λ (u : SetData). u.next) c.delete.ensures.alone)
     (ap (λ (u : SetData). u.points_given) c.delete.ensures.alone))
     c.delete.ensures.follows (λ told. refl) (λ told. brings_cleared _ files _ _ _ (ap (λ (u : SetData). u.parts) c.delete.ensures.alone))
     (λ told. c.delete.ensures.faithful files))

@@ -46,13 +46,13 @@ returns-clause-applies g c =
     applies_seen _ _ _ _ _ _ _ _ _ _ _ c.self.view_is
     (applies_done _ _ _ _ _ c.in_ok-hits.hits _
     (calm_like _ _ _ _ _ _ _ _ _ _ _ _ (c.delete_all.ensures.names ∙ ap (λ (u : SetData). u.names) c.visit.ensures.alone.is)
-    (grows_same _ _ (c.delete_all.ensures.stays.leaf ∙ ap (λ (u : SetData). u.leaf) c.visit.ensures.alone.is)
+    (grows_same _ _ (c.delete_all.ensures.stays.leaf_size ∙ ap (λ (u : SetData). u.leaf_size) c.visit.ensures.alone.is)
     (c.delete_all.ensures.stays.next ∙ ap (λ (u : SetData). u.next) c.visit.ensures.alone.is)
     (c.delete_all.ensures.stays.points_given ∙ ap (λ (u : SetData). u.points_given) c.visit.ensures.alone.is))
     (subst (λ (u : SetData). Follows u.names u.parts c.delete_all.new.self.parts) c.visit.ensures.alone.is c.delete_all.ensures.follows) c.visit.ensures.files
     (λ told. brings_then _ _ _ _ _ c.visit.new.self.parts
     _ (brings_same _ _ _ _ _ (c.visit.ensures.files told) (ap (λ (u : SetData). u.parts) c.visit.ensures.alone.is))
-    (brings_named _ _ _ _ _ _ _ _ told (λ t. refl) c.delete_all.ensures.names c.delete_all.ensures.follows c.leaf-leaf.ensures.well.named))
+    (brings_named _ _ _ _ _ _ _ _ told (λ t. refl) c.delete_all.ensures.names c.delete_all.ensures.follows c.leaf_size-leaf_size.ensures.well.named))
     (λ told faithful. c.delete_all.ensures.faithful _ (c.visit.ensures.faithful told faithful)))
     (λ told i seen. does_delete_box _ _ _ _ _ i _ _ c.as_slice.result.now _ _ seen
     (c.as_slice.ensures.value ∙ c.in_ok-hits.ensures.found told i seen i.docs refl ∙ ap (λ (s : CountedBox). hits (in_box s.bounds) i.docs) c.new-shape.ensures)
@@ -66,8 +66,8 @@ returns-in_default-clause-applies g c =
     (applies_unsaid _ _ _ _ _ _ c.in_ok-hits.hits (calm_cache _ _ _ _ _ _ _ _ _ _ _ _ c.visit.ensures.alone c.visit.ensures.files c.visit.ensures.faithful)
     refl c.visit.ensures.seen refl c.in_ok-hits.ensures.cause)
 
-pub leaf-leaf-requires : goal.leaf-leaf-requires
-leaf-leaf-requires g c = set_fits g.row.D c.self.invariant.few
+pub leaf_size-leaf_size-requires : goal.leaf_size-leaf_size-requires
+leaf_size-leaf_size-requires g c = set_fits g.row.D c.self.invariant.few
 
 pub delete_all-requires : goal.delete_all-requires
 delete_all-requires g c = set_fits g.row.D c.self.invariant.few

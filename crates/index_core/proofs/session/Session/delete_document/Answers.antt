@@ -28,7 +28,7 @@ returns-clause-canon g c files =
 pub returns-clause-guards : goal.returns-clause-guards
 returns-clause-guards g c files guards =
     guards_same g.row.D files _ _ _ c.self.view_is (ap (λ (u : SetData). u.names) c.delete.ensures.alone)
-    (grows_same _ _ (ap (λ (u : SetData). u.leaf) c.delete.ensures.alone) (ap (λ (u : SetData). u.next) c.delete.ensures.alone)
+    (grows_same _ _ (ap (λ (u : SetData). u.leaf_size) c.delete.ensures.alone) (ap (λ (u : SetData). u.next) c.delete.ensures.alone)
     (ap (λ (u : SetData). u.points_given) c.delete.ensures.alone))
     c.delete.ensures.follows guards
 

@@ -47,7 +47,7 @@ returns-in_err-flush-clause-applies g c =
       brings = λ told. brings_written _ _ _ _ _ _ _ _ told c.flush.ensures.moves.kept c.flush.ensures.moves.follows (c.flush.ensures.moves.canon told);
       faithful = c.flush.ensures.faithful;
     })
-    c.leaf-leaf.ensures.well.named (p.1 ∙ ap (λ (e : PageFault). Err e) p.2) c.flush.ensures.moves.seen (begins_itself _) c.in_err-flush.ensures.cause
+    c.leaf_size-leaf_size.ensures.well.named (p.1 ∙ ap (λ (e : PageFault). Err e) p.2) c.flush.ensures.moves.seen (begins_itself _) c.in_err-flush.ensures.cause
     c.in_err-flush.ensures.damaged.whole c.in_err-flush.ensures.damaged.evident)
 
 pub returns-in_err-put_ok-clause-applies : goal.returns-in_err-put_ok-clause-applies
@@ -66,8 +66,8 @@ returns-in_err-put_ok-clause-applies g c =
     })
     (p.1 ∙ ap (λ (e : PageFault). Err e) p.2) c.flush.ensures.moves.seen c.in_err-put_ok.ensures.memory c.in_ok-flush.ensures.cause)
 
-pub leaf-leaf-requires : goal.leaf-leaf-requires
-leaf-leaf-requires g c = set_fits g.row.D c.self.invariant.few
+pub leaf_size-leaf_size-requires : goal.leaf_size-leaf_size-requires
+leaf_size-leaf_size-requires g c = set_fits g.row.D c.self.invariant.few
 
 pub flush-requires-after_bounds : goal.flush-requires-after_bounds
 flush-requires-after_bounds g c κs = λ _. set_fits g.row.D c.self.invariant.few

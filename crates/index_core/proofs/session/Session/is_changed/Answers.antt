@@ -27,20 +27,20 @@ pub returns-clause-sound : goal.returns-clause-sound
 returns-clause-sound g c e = subst (IsSound g.row.D) c.self.view_is (record {
   dims = c.self.invariant.has;
   sets = c.differs.ensures.sets e;
-  well = c.leaf-leaf.ensures.well;
+  well = c.leaf_size-leaf_size.ensures.well;
 })
 
 pub returns-in_default-clause-named : goal.returns-in_default-clause-named
-returns-in_default-clause-named g c = subst (λ (u : SessionData). All (IsNamed u.set.names) u.set.parts) c.self.view_is c.leaf-leaf.ensures.well.named
+returns-in_default-clause-named g c = subst (λ (u : SessionData). All (IsNamed u.set.names) u.set.parts) c.self.view_is c.leaf_size-leaf_size.ensures.well.named
 
 pub returns-then-self-clause-named : goal.returns-then-self-clause-named
-returns-then-self-clause-named g c = subst (λ (u : SessionData). All (IsNamed u.set.names) u.set.parts) c.self.view_is c.leaf-leaf.ensures.well.named
+returns-then-self-clause-named g c = subst (λ (u : SessionData). All (IsNamed u.set.names) u.set.parts) c.self.view_is c.leaf_size-leaf_size.ensures.well.named
 
 pub returns-clause-named : goal.returns-clause-named
-returns-clause-named g c = subst (λ (u : SessionData). All (IsNamed u.set.names) u.set.parts) c.self.view_is c.leaf-leaf.ensures.well.named
+returns-clause-named g c = subst (λ (u : SessionData). All (IsNamed u.set.names) u.set.parts) c.self.view_is c.leaf_size-leaf_size.ensures.well.named
 
-pub leaf-leaf-requires : goal.leaf-leaf-requires
-leaf-leaf-requires g c = set_fits g.row.D c.self.invariant.few
+pub leaf_size-leaf_size-requires : goal.leaf_size-leaf_size-requires
+leaf_size-leaf_size-requires g c = set_fits g.row.D c.self.invariant.few
 
 pub differs-requires : goal.differs-requires
 differs-requires g c = set_fits g.row.D c.self.invariant.few

@@ -5,11 +5,11 @@ use Rattle.segment_set.proofs.Sizes.{set_fits}
 use Rattle.index_core.specs.Sessions.{SessionData}
 use Rattle.index_core.proofs.session.Session.is_full.Goals as goal
 
-pub leaf-leaf-requires : goal.leaf-leaf-requires
-leaf-leaf-requires g c = set_fits g.row.D c.self.invariant.few
+pub leaf_size-leaf_size-requires : goal.leaf_size-leaf_size-requires
+leaf_size-leaf_size-requires g c = set_fits g.row.D c.self.invariant.few
 
 pub points_given-requires : goal.points_given-requires
 points_given-requires g c = set_fits g.row.D c.self.invariant.few
 
 pub returns-clause-named : goal.returns-clause-named
-returns-clause-named g c = subst (λ (u : SessionData). All (IsNamed u.set.names) u.set.parts) c.self.view_is c.leaf-leaf.ensures.well.named
+returns-clause-named g c = subst (λ (u : SessionData). All (IsNamed u.set.names) u.set.parts) c.self.view_is c.leaf_size-leaf_size.ensures.well.named

@@ -48,7 +48,8 @@ returns-in_err-merge_all-clause-applies g c =
           brings_written _ _ _ _ _ _ _ _ told c.merge_all.ensures.moves.kept c.merge_all.ensures.moves.follows (c.merge_all.ensures.moves.canon told);
       faithful = c.merge_all.ensures.faithful;
     })
-    c.leaf-leaf.ensures.well.named (p.1 ∙ ap (λ (e : PageFault). Err e) p.2) c.merge_all.ensures.moves.seen (begins_itself _) c.in_err-merge_all.ensures.cause
+    c.leaf_size-leaf_size.ensures.well.named (p.1 ∙ ap (λ (e : PageFault). Err e) p.2) c.merge_all.ensures.moves.seen (begins_itself _)
+        c.in_err-merge_all.ensures.cause
     c.in_err-merge_all.ensures.damaged.whole c.in_err-merge_all.ensures.damaged.evident)
 
 pub returns-in_err-put_ok-clause-applies : goal.returns-in_err-put_ok-clause-applies
@@ -68,8 +69,8 @@ returns-in_err-put_ok-clause-applies g c =
     })
     (p.1 ∙ ap (λ (e : PageFault). Err e) p.2) c.merge_all.ensures.moves.seen c.in_err-put_ok.ensures.memory c.in_ok-merge_all.ensures.cause)
 
-pub leaf-leaf-requires : goal.leaf-leaf-requires
-leaf-leaf-requires g c = set_fits g.row.D c.self.invariant.few
+pub leaf_size-leaf_size-requires : goal.leaf_size-leaf_size-requires
+leaf_size-leaf_size-requires g c = set_fits g.row.D c.self.invariant.few
 
 pub merge_all-requires-after_bounds : goal.merge_all-requires-after_bounds
 merge_all-requires-after_bounds g c κs = λ _. set_fits g.row.D c.self.invariant.few

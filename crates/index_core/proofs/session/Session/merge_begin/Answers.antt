@@ -43,7 +43,7 @@ returns-clause-applies g c =
     (applies_seen _ _ _ _ _ _ _ _ _ _ _ c.self.view_is
     (applies_merging_calm _ _ _ _ _ _
     (calm_like _ _ _ _ _ _ _ _ _ _ _ _ (ap (λ (u : SetData). u.names) c.merge_begin.ensures.alone.is)
-    (grows_same _ _ (ap (λ (u : SetData). u.leaf) c.merge_begin.ensures.alone.is) (ap (λ (u : SetData). u.next) c.merge_begin.ensures.alone.is)
+    (grows_same _ _ (ap (λ (u : SetData). u.leaf_size) c.merge_begin.ensures.alone.is) (ap (λ (u : SetData). u.next) c.merge_begin.ensures.alone.is)
     (ap (λ (u : SetData). u.points_given) c.merge_begin.ensures.alone.is))
     (follows_same _ _ _ (ap (λ (u : SetData). u.parts) c.merge_begin.ensures.alone.is)) c.merge_begin.ensures.files
     (λ told. brings_same _ _ _ _ _ (c.merge_begin.ensures.files told) (ap (λ (u : SetData). u.parts) c.merge_begin.ensures.alone.is))

@@ -41,7 +41,7 @@ returns-clause-applies g c =
     (record {
       commit = refl;
       refused = refl;
-      grows = grows_same c.self.inside.set c.merge_end.new.self c.merge_end.ensures.stays.leaf c.merge_end.ensures.stays.next
+      grows = grows_same c.self.inside.set c.merge_end.new.self c.merge_end.ensures.stays.leaf_size c.merge_end.ensures.stays.next
           c.merge_end.ensures.stays.points_given;
       keeps = c.merge_end.ensures.rewrites.kept;
       follows = c.merge_end.ensures.rewrites.follows;
@@ -70,11 +70,11 @@ returns-clause-leaves g c =
     subst (λ r. OnDone r (HasEnded g.row.D (IsTrue g.F.Pages.told) files c.args.self.now.set c.merge_end.new.self)) (sym c.end_answer.ensures)
     (subst (λ (s : SessionData). OnDone (end_answer c.merge_end.result) (HasEnded g.row.D (IsTrue g.F.Pages.told) files s.set c.merge_end.new.self))
     c.self.view_is
-    (end_leaves g.row.D (IsTrue g.F.Pages.told) files c.self.inside.set c.merge_end.new.self c.merge_end.result c.leaf-leaf.ensures.well
+    (end_leaves g.row.D (IsTrue g.F.Pages.told) files c.self.inside.set c.merge_end.new.self c.merge_end.result c.leaf_size-leaf_size.ensures.well
     done.ends.ended done.ends.parts done.ends.replaced done.rewrites.kept.more done.buffer done.rewrites.canon))
 
-pub leaf-leaf-requires : goal.leaf-leaf-requires
-leaf-leaf-requires g c = set_fits g.row.D c.self.invariant.few
+pub leaf_size-leaf_size-requires : goal.leaf_size-leaf_size-requires
+leaf_size-leaf_size-requires g c = set_fits g.row.D c.self.invariant.few
 
 pub returns-in_err-put_ok-clause-damage : goal.returns-in_err-put_ok-clause-damage
 returns-in_err-put_ok-clause-damage g c =

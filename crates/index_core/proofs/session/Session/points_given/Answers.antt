@@ -4,11 +4,11 @@ use Rattle.index_core.specs.Sessions.{SessionData}
 use Rattle.segment_set.proofs.Sizes.{set_fits}
 use Rattle.index_core.proofs.session.Session.points_given.Goals as goal
 
-pub leaf-leaf-requires : goal.leaf-leaf-requires
-leaf-leaf-requires g c = set_fits g.row.D c.self.invariant.few
+pub leaf_size-leaf_size-requires : goal.leaf_size-leaf_size-requires
+leaf_size-leaf_size-requires g c = set_fits g.row.D c.self.invariant.few
 
 pub points_given-requires : goal.points_given-requires
 points_given-requires g c = set_fits g.row.D c.self.invariant.few
 
 pub returns-clause-most : goal.returns-clause-most
-returns-clause-most g c = subst (λ (u : SessionData). u.set.points_given ≤ 2 ^ 24) c.self.view_is c.leaf-leaf.ensures.well.most_given
+returns-clause-most g c = subst (λ (u : SessionData). u.set.points_given ≤ 2 ^ 24) c.self.view_is c.leaf_size-leaf_size.ensures.well.most_given

@@ -34,7 +34,7 @@ pub returns-clause-applies : goal.returns-clause-applies
 returns-clause-applies g c files faults = applies_seen _ _ _ _ _ _ _ _ _ _ _ c.self.view_is
     (applies _ _ _ _ _ _
     (calm_like _ _ _ _ _ _ _ _ _ _ _ _ (ap (λ (u : SetData). u.names) c.release.ensures.kept)
-    (grows_same _ _ (ap (λ (u : SetData). u.leaf) c.release.ensures.kept) (ap (λ (u : SetData). u.next) c.release.ensures.kept)
+    (grows_same _ _ (ap (λ (u : SetData). u.leaf_size) c.release.ensures.kept) (ap (λ (u : SetData). u.next) c.release.ensures.kept)
     (ap (λ (u : SetData). u.points_given) c.release.ensures.kept))
     (follows_same _ _ _ (ap (λ (u : SetData). u.parts) c.release.ensures.kept)) (λ told. refl)
     (λ told. brings_same _ _ _ _ _ refl (ap (λ (u : SetData). u.parts) c.release.ensures.kept)) (λ told. c.release.ensures.faithful files))

@@ -168,14 +168,14 @@ returns-in_err-put_ok-clause-applies g c =
 kept : (g : given.Over) (c : goal.After-renew g) → c.renew.new.self ≡ renamed c.commit.new.self.set c.in_ok-set.set
 kept g c = c.renew.ensures.kept ∙ ap (λ (u : SessionData). renamed u.set c.in_ok-set.set) c.self.view_is
 
-pub leaf-leaf-requires : goal.leaf-leaf-requires
-leaf-leaf-requires g c = set_fits g.row.D c.self.invariant.few
+pub leaf_size-leaf_size-requires : goal.leaf_size-leaf_size-requires
+leaf_size-leaf_size-requires g c = set_fits g.row.D c.self.invariant.few
 
 pub renew-requires : goal.renew-requires
 renew-requires g c = (
   set_fits g.row.D c.self.invariant.few,
   (let last = c.in_ok-commit.ensures.done.unchanged in
-      renew_named _ c.in_ok-set.set last.commit c.leaf-leaf.ensures.well.named
+      renew_named _ c.in_ok-set.set last.commit c.leaf_size-leaf_size.ensures.well.named
       (subst (λ (u : SessionData). IsAsCommitted u.set last.commit) (sym c.self.view_is) last.same) (c.in_ok-set.ensures.names last.commit last.is)),
 )
 

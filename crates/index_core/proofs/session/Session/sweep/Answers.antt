@@ -30,7 +30,7 @@ swept g c told = record {
   files = c.sweep.ensures.swept.needed told;
   named = c.sweep.ensures.swept.named;
   parts = ap (λ (u : SetData). u.parts) c.sweep.ensures.swept.alone.is;
-  leaf = ap (λ (u : SetData). u.leaf) c.sweep.ensures.swept.alone.is;
+  leaf_size = ap (λ (u : SetData). u.leaf_size) c.sweep.ensures.swept.alone.is;
   next = ap (λ (u : SetData). u.next) c.sweep.ensures.swept.alone.is;
   points_given = ap (λ (u : SetData). u.points_given) c.sweep.ensures.swept.alone.is;
 }

@@ -9,7 +9,7 @@ use Rattle.segment_set.proofs.Sizes.{set_fits}
 use Rattle.index_core.proofs.session.Session.write.Goals as goal
 
 pub returns-in-Ok-clause-seen : goal.returns-in-Ok-clause-seen
-returns-in-Ok-clause-seen g c told i seen = seen_done _ _ _ _ _ i c.self.view_is c.leaf-leaf.ensures.well (c.write_commit.ensures.others told) seen
+returns-in-Ok-clause-seen g c told i seen = seen_done _ _ _ _ _ i c.self.view_is c.leaf_size-leaf_size.ensures.well (c.write_commit.ensures.others told) seen
 
 pub returns-in-Ok-clause-guards : goal.returns-in-Ok-clause-guards
 returns-in-Ok-clause-guards g c told guards lives =
@@ -23,7 +23,7 @@ returns-in-Ok-clause-stored g c told i promise =
     stores_done _ _ _ _ c.args.commit i c.self.view_is c.requires.emptied promise (c.write_commit.ensures.others told) (c.in-Ok.ensures.commit told)
 
 pub returns-in-Err-clause-seen : goal.returns-in-Err-clause-seen
-returns-in-Err-clause-seen g c told i seen = seen_done _ _ _ _ _ i c.self.view_is c.leaf-leaf.ensures.well (c.write_commit.ensures.others told) seen
+returns-in-Err-clause-seen g c told i seen = seen_done _ _ _ _ _ i c.self.view_is c.leaf_size-leaf_size.ensures.well (c.write_commit.ensures.others told) seen
 
 pub returns-in-Err-clause-guards : goal.returns-in-Err-clause-guards
 returns-in-Err-clause-guards g c told guards lives =
@@ -47,8 +47,8 @@ returns-in-Ok-clause-others g c = c.write_commit.ensures.others
 pub returns-in-Err-clause-others : goal.returns-in-Err-clause-others
 returns-in-Err-clause-others g c = c.write_commit.ensures.others
 
-pub leaf-leaf-requires : goal.leaf-leaf-requires
-leaf-leaf-requires g c = set_fits g.row.D c.self.invariant.few
+pub leaf_size-leaf_size-requires : goal.leaf_size-leaf_size-requires
+leaf_size-leaf_size-requires g c = set_fits g.row.D c.self.invariant.few
 
 pub returns-in-Ok-clause-unread : goal.returns-in-Ok-clause-unread
 returns-in-Ok-clause-unread g c = c.write_commit.ensures.reads

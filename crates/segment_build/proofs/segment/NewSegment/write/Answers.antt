@@ -5,7 +5,7 @@ use Rattle.segment_build.proofs.segment.NewSegment.write.Goals as goal
 pub write_segment-requires : goal.write_segment-requires
 write_segment-requires g c =
     let i = c.self.inside in
-    let n = segment_of i.built i.leaf i.entries i.live in
+    let n = segment_of i.built i.leaf_size i.entries i.live in
     let dims = some_dims g.row.D n c.self.invariant in (
       search rules,
       (

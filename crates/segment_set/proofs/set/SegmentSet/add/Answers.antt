@@ -26,7 +26,7 @@ pub returns-then-is_full-clause-gives : goal.returns-then-is_full-clause-gives
 returns-then-is_full-clause-gives g c = record { number = tt; points_given = tt }
 
 pub returns-then-is_full-clause-alone : goal.returns-then-is_full-clause-alone
-returns-then-is_full-clause-alone g c = record { saved = refl; begun = refl; snapshots = refl; leaf = refl }
+returns-then-is_full-clause-alone g c = record { saved = refl; begun = refl; snapshots = refl; leaf_size = refl }
 
 pub returns-then-is_full-clause-in_room : goal.returns-then-is_full-clause-in_room
 returns-then-is_full-clause-in_room g c = record {
@@ -146,7 +146,7 @@ returns-clause-alone g c =
       saved = c.in_ok-make_room.ensures.moves.saved;
       begun = c.in_ok-make_room.ensures.moves.begun;
       snapshots = c.in_ok-make_room.ensures.moves.stays.snapshots;
-      leaf = c.in_ok-make_room.ensures.moves.stays.leaf;
+      leaf_size = c.in_ok-make_room.ensures.moves.stays.leaf_size;
     })
 
 pub returns-clause-in_room : goal.returns-clause-in_room

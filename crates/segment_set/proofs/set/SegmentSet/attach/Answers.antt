@@ -32,10 +32,10 @@ use Rattle.segment_set.proofs.set.SegmentSet.attach.Goals as goal
 pub invariant_of-result : goal.invariant_of-result
 invariant_of-result g c =
     subst (IsWell g.row.D)
-    (sym (attached_is c.args.c.now c.in_ok-names.names c.in_ok-segments.segments c.in_ok-cache.cache _ _ _ _ _ c.leaf.ensures.value
+    (sym (attached_is c.args.c.now c.in_ok-names.names c.in_ok-segments.segments c.in_ok-cache.cache _ _ _ _ _ c.leaf_size.ensures.value
     (c.new-2.ensures.next ∙ c.next-2.ensures.value) c.points_given.ensures.value c.new-2.ensures.items c.new-3.ensures.items))
     (well_attached g.row.D (IsTrue g.F.Pages.told) (g.F.Pages.files c.args.folder.now) c.args.c.now c.in_ok-names.names c.in_ok-segments.segments
-    c.in_ok-cache.cache c.requires c.leaf.ensures.commit c.in_ok-segments.ensures.opened
+    c.in_ok-cache.cache c.requires c.leaf_size.ensures.commit c.in_ok-segments.ensures.opened
     (λ number.
     let placed = c.in_ok-check_numbers.ensures.alone number in
     let one = subst (λ (ss : List LiveSet). places number ss ≤ 1) c.lives.ensures placed.0 in
@@ -47,7 +47,7 @@ returns-clause-seen g c = λ told says i stored.
     let files = g.F.Pages.files c.args.folder.now in
     let parts = c.in_ok-segments.segments in
     subst (λ (s : SetData). Sees g.row.D files s i)
-    (sym (attached_is c.args.c.now c.in_ok-names.names parts c.in_ok-cache.cache _ _ _ _ _ c.leaf.ensures.value
+    (sym (attached_is c.args.c.now c.in_ok-names.names parts c.in_ok-cache.cache _ _ _ _ _ c.leaf_size.ensures.value
     (c.new-2.ensures.next ∙ c.next-2.ensures.value) c.points_given.ensures.value c.new-2.ensures.items c.new-3.ensures.items))
     (sees_attached g.row.D files c.args.c.now c.in_ok-names.names parts c.in_ok-cache.cache i c.requires says stored
     (opened_heads (IsTrue g.F.Pages.told) files c.args.c.now parts told c.in_ok-segments.ensures.opened)
@@ -56,7 +56,7 @@ returns-clause-seen g c = λ told says i stored.
 pub returns-clause-commit : goal.returns-clause-commit
 returns-clause-commit g c =
     subst (λ (s : SetData). IsAtRest s c.args.c.now)
-    (sym (attached_is c.args.c.now c.in_ok-names.names c.in_ok-segments.segments c.in_ok-cache.cache _ _ _ _ _ c.leaf.ensures.value
+    (sym (attached_is c.args.c.now c.in_ok-names.names c.in_ok-segments.segments c.in_ok-cache.cache _ _ _ _ _ c.leaf_size.ensures.value
     (c.new-2.ensures.next ∙ c.next-2.ensures.value) c.points_given.ensures.value c.new-2.ensures.items c.new-3.ensures.items))
     (at_rest_attached (IsTrue g.F.Pages.told) (g.F.Pages.files c.args.folder.now) c.args.c.now c.in_ok-names.names c.in_ok-segments.segments c.in_ok-cache.cache
     c.in_ok-segments.ensures.opened c.in_ok-names.ensures.next)
@@ -69,7 +69,7 @@ pub returns-clause-faithful : goal.returns-clause-faithful
 returns-clause-faithful g c = λ told.
     let files = g.F.Pages.files c.args.folder.now in
     subst (IsFaithful g.row.D files)
-    (sym (attached_is c.args.c.now c.in_ok-names.names c.in_ok-segments.segments c.in_ok-cache.cache _ _ _ _ _ c.leaf.ensures.value
+    (sym (attached_is c.args.c.now c.in_ok-names.names c.in_ok-segments.segments c.in_ok-cache.cache _ _ _ _ _ c.leaf_size.ensures.value
     (c.new-2.ensures.next ∙ c.next-2.ensures.value) c.points_given.ensures.value c.new-2.ensures.items c.new-3.ensures.items))
     (faithful_attached g.row.D (IsTrue g.F.Pages.told) files c.args.c.now c.in_ok-names.names c.in_ok-segments.segments c.in_ok-cache.cache c.requires told
     c.in_ok-segments.ensures.opened (c.in_ok-cache.ensures.agrees files))

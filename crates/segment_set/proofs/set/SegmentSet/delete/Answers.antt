@@ -15,7 +15,7 @@ use Rattle.segment_set.proofs.set.SegmentSet.delete.Goals as goal
 -- the set as it was, by its fields
 abbrev old : (g : given.Over) (c : goal.After-take-in_buffer g) → SetData
 old g c = record {
-  leaf = c.self.inside.leaf;
+  leaf_size = c.self.inside.leaf_size;
   next = c.self.inside.buffer.next;
   points_given = c.self.inside.points_given;
   names = c.self.inside.names;

@@ -13,7 +13,7 @@ use Rattle.segment_set.proofs.set.SegmentSet.differs.Goals as goal
 -- the set by its fields
 abbrev here : (g : given.Over) (c : goal.After-are_listed g) → SetData
 here g c = record {
-  leaf = c.self.inside.leaf;
+  leaf_size = c.self.inside.leaf_size;
   next = c.self.inside.buffer.next;
   points_given = c.self.inside.points_given;
   names = c.self.inside.names;

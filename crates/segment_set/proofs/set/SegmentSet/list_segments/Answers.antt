@@ -56,7 +56,7 @@ new-kept-requires g c =
     subst (λ n.
     IsCommit (record {
       dims = g.row.D;
-      leaf = c.self.inside.leaf;
+      leaf_size = c.self.inside.leaf_size;
       next = n;
       points_given = c.self.inside.points_given;
       next_segment = c.next_segment-next_segment.result;
@@ -74,7 +74,7 @@ new-requires g c =
     subst (λ n.
     IsCommit (record {
       dims = g.row.D;
-      leaf = c.self.inside.leaf;
+      leaf_size = c.self.inside.leaf_size;
       next = n;
       points_given = c.self.inside.points_given;
       next_segment = c.next_segment-next_segment.result;
@@ -104,7 +104,7 @@ returns-clause-saved g c =
     ∙ ap (λ (ls : List Listed).
     record {
       dims = g.row.D;
-      leaf = c.self.inside.leaf;
+      leaf_size = c.self.inside.leaf_size;
       next = c.next-next.result;
       points_given = c.self.inside.points_given;
       next_segment = c.next_segment-next_segment.result;
@@ -119,7 +119,7 @@ returns-clause-commit g c =
     ∙ ap (λ n.
     record {
       dims = g.row.D;
-      leaf = c.self.inside.leaf;
+      leaf_size = c.self.inside.leaf_size;
       next = n;
       points_given = c.self.inside.points_given;
       next_segment = c.next_segment-next_segment.result;

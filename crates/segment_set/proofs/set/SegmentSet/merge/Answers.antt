@@ -26,7 +26,7 @@ use Rattle.segment_set.proofs.set.SegmentSet.merge.Goals as goal
 -- the set as it was, by its fields
 abbrev was : (g : given.Over) (c : goal.After-merge g) → SetData
 was g c = record {
-  leaf = c.self.inside.leaf;
+  leaf_size = c.self.inside.leaf_size;
   next = c.self.inside.buffer.next;
   points_given = c.self.inside.points_given;
   names = c.self.inside.names;
@@ -47,13 +47,13 @@ apart g c = subst (λ (s : SetData). IsApart c.args.ids.now (inputs_of s.begun) 
 
 merged : (g : given.Over) (c : goal.After-merge g)
     → OnOk c.merge.result
-    (IsMerged g.row.D (IsTrue g.F.Pages.told) c.self.inside.leaf c.self.inside.names c.merge.new.names (g.F.Pages.files c.args.folder.now)
+    (IsMerged g.row.D (IsTrue g.F.Pages.told) c.self.inside.leaf_size c.self.inside.names c.merge.new.names (g.F.Pages.files c.args.folder.now)
     (g.F.Pages.files c.merge.new.folder) c.args.ids.now c.self.inside.segments c.merge.new.segments)
 merged g c =
     subst (λ n. OnOk c.merge.result
     (IsMerged g.row.D (IsTrue g.F.Pages.told) n c.self.inside.names c.merge.new.names (g.F.Pages.files c.args.folder.now) (g.F.Pages.files c.merge.new.folder)
     c.args.ids.now c.self.inside.segments c.merge.new.segments))
-    (c.plan-plan.ensures.leaf ∙ sym (ap (λ (s : SetData). s.leaf) c.self.view_is)) c.merge.ensures.merged
+    (c.plan-plan.ensures.leaf_size ∙ sym (ap (λ (s : SetData). s.leaf_size) c.self.view_is)) c.merge.ensures.merged
 
 after : (g : given.Over) (c : goal.After-merge g)
     → IsAfter g.row.D (IsTrue g.F.Pages.told) (g.F.Pages.files c.args.folder.now) (g.F.Pages.files c.merge.new.folder) (was g c) (is g c)
@@ -126,7 +126,7 @@ returns-clause-cache g c = ap (λ (s : SetData). s.cache) c.self.view_is
 pub returns-clause-merged : goal.returns-clause-merged
 returns-clause-merged g c =
     subst (λ (s : SetData). OnOk c.merge.result
-    (IsMerged g.row.D (IsTrue g.F.Pages.told) s.leaf s.names c.merge.new.names (g.F.Pages.files c.args.folder.now) (g.F.Pages.files c.merge.new.folder)
+    (IsMerged g.row.D (IsTrue g.F.Pages.told) s.leaf_size s.names c.merge.new.names (g.F.Pages.files c.args.folder.now) (g.F.Pages.files c.merge.new.folder)
     c.args.ids.now s.parts c.merge.new.segments))
     c.self.view_is (merged g c)
 

@@ -146,7 +146,7 @@ returns-clause-one g c = on_ok_weaker c.merge.result
     let s = c.args.self.now in
     let t = c.merge.new.self in
     subst (λ (b : Option BegunMerge). IsOne (parts_but (inputs_of b) t.parts)) (sym c.merge.ensures.moves.begun)
-    (merged_one g.row.D (IsTrue g.F.Pages.told) s.leaf s.names t.names (g.F.Pages.files c.args.folder.now) (g.F.Pages.files c.merge.new.folder)
+    (merged_one g.row.D (IsTrue g.F.Pages.told) s.leaf_size s.names t.names (g.F.Pages.files c.args.folder.now) (g.F.Pages.files c.merge.new.folder)
     (inputs_of s.begun) c.as_slice-2.result.now s.parts t.parts (c.as_slice-2.ensures.value ∙ c.in_ok-ids.ensures.all) (named g.row.D s c.unpinned.ensures.well)
     m)) c.merge.ensures.merged
 
@@ -156,7 +156,7 @@ returns-clause-all_live g c = λ told i sees. on_ok_weaker c.merge.result
     let s = c.args.self.now in
     let t = c.merge.new.self in
     subst (λ (b : Option BegunMerge). AllLive contents (parts_but (inputs_of b) t.parts)) (sym c.merge.ensures.moves.begun)
-    (merged_lives g.row.D (IsTrue g.F.Pages.told) s.leaf s.names t.names (g.F.Pages.files c.args.folder.now) (g.F.Pages.files c.merge.new.folder)
+    (merged_lives g.row.D (IsTrue g.F.Pages.told) s.leaf_size s.names t.names (g.F.Pages.files c.args.folder.now) (g.F.Pages.files c.merge.new.folder)
     (inputs_of s.begun) c.as_slice-2.result.now s.parts t.parts contents told (c.as_slice-2.ensures.value ∙ c.in_ok-ids.ensures.all)
     (named g.row.D s c.unpinned.ensures.well) m stands.now))
     c.merge.ensures.merged
@@ -168,7 +168,7 @@ returns-clause-merged g c = on_ok_weaker c.merge.result
     let t = c.merge.new.self in
     inr (record {
       merged = subst
-          (λ (ns : List ℕ). IsMerged g.row.D (IsTrue g.F.Pages.told) s.leaf s.names t.names (g.F.Pages.files c.args.folder.now)
+          (λ (ns : List ℕ). IsMerged g.row.D (IsTrue g.F.Pages.told) s.leaf_size s.names t.names (g.F.Pages.files c.args.folder.now)
           (g.F.Pages.files c.merge.new.folder) ns s.parts t.parts) (c.as_slice-2.ensures.value ∙ c.in_ok-ids.ensures.all) m;
       alone = c.merge.ensures.alone;
     })) c.merge.ensures.merged

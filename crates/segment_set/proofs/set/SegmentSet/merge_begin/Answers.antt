@@ -28,7 +28,7 @@ use Rattle.segment_set.proofs.set.SegmentSet.merge_begin.Goals as goal
 -- a set, by its fields
 abbrev set_of : {D : ℕ} → Inside D → SetData
 set_of s = record {
-  leaf = s.leaf;
+  leaf_size = s.leaf_size;
   next = s.buffer.next;
   points_given = s.points_given;
   names = s.names;
@@ -88,11 +88,11 @@ abbrev merge_of : (g : given.Over) (c : goal.Joined-self g) → BegunMerge
 merge_of g c = record { inputs = c.in_ok-inputs.inputs.items; built = c.in_ok-built.built }
 
 gathered_here : (g : given.Over) (c : goal.Joined-self g) (n : NewSegmentData) → c.in_ok-built.built ≡ Some n
-    → IsGathered g.row.D c.self.inside.leaf (parts_among c.in_ok-inputs.inputs.items c.self.inside.segments) n
+    → IsGathered g.row.D c.self.inside.leaf_size (parts_among c.in_ok-inputs.inputs.items c.self.inside.segments) n
 gathered_here g c n is =
-    subst (λ leaf. IsGathered g.row.D leaf (parts_among c.in_ok-inputs.inputs.items c.self.inside.segments) n)
-    (c.plan-plan.ensures.leaf ∙ sym (ap (λ (s : SetData). s.leaf) c.self.view_is))
-    (subst (λ (ns : List ℕ). IsGathered g.row.D c.plan-plan.result.leaf (parts_among ns c.self.inside.segments) n) c.as_slice-2.ensures.value
+    subst (λ leaf_size. IsGathered g.row.D leaf_size (parts_among c.in_ok-inputs.inputs.items c.self.inside.segments) n)
+    (c.plan-plan.ensures.leaf_size ∙ sym (ap (λ (s : SetData). s.leaf_size) c.self.view_is))
+    (subst (λ (ns : List ℕ). IsGathered g.row.D c.plan-plan.result.leaf_size (parts_among ns c.self.inside.segments) n) c.as_slice-2.ensures.value
     (c.in_ok-built.ensures.gathered n is))
 
 pub invariant_of-self : goal.invariant_of-self
@@ -205,8 +205,8 @@ pub returns-clause-built : goal.returns-clause-built
 returns-clause-built g c = λ b is.
     let files = g.F.Pages.files c.args.folder.now in
     let same : merge_of g c ≡ b = some_is (merge_of g c) b is in
-    subst (Collects g.row.D c.args.self.now.leaf (IsTrue g.F.Pages.told) files c.args.self.now.parts) same
-    (subst (λ (s : SetData). Collects g.row.D s.leaf (IsTrue g.F.Pages.told) files s.parts (merge_of g c)) c.self.view_is
+    subst (Collects g.row.D c.args.self.now.leaf_size (IsTrue g.F.Pages.told) files c.args.self.now.parts) same
+    (subst (λ (s : SetData). Collects g.row.D s.leaf_size (IsTrue g.F.Pages.told) files s.parts (merge_of g c)) c.self.view_is
     (record {
       gathered = gathered_here g c;
       loses = subst (λ (ns : List ℕ). LosesNone g.row.D (IsTrue g.F.Pages.told) files ns c.self.inside.segments c.in_ok-built.built)

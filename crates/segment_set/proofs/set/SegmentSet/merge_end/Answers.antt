@@ -31,7 +31,7 @@ use Rattle.segment_set.proofs.set.SegmentSet.merge_end.Goals as goal
 -- a set, by its fields
 abbrev set_of : {D : ℕ} → Inside D → SetData
 set_of s = record {
-  leaf = s.leaf;
+  leaf_size = s.leaf_size;
   next = s.buffer.next;
   points_given = s.points_given;
   names = s.names;

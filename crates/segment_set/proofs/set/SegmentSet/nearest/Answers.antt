@@ -26,7 +26,7 @@ use Rattle.point_codec.proofs.Sizes.{entry_fits}
 -- the set as it was, by its fields
 abbrev was : (g : given.Over) (c : goal.After-nearest g) → SetData
 was g c = record {
-  leaf = c.self.inside.leaf;
+  leaf_size = c.self.inside.leaf_size;
   next = c.self.inside.buffer.next;
   points_given = c.self.inside.points_given;
   names = c.self.inside.names;

@@ -13,24 +13,24 @@ use Rattle.segment_set.proofs.set.SegmentSet.new.Given as given
 use Rattle.segment_set.proofs.set.SegmentSet.new.Goals as goal
 
 fields : (g : given.Over) (c : goal.In_ok-new g)
-    → record (empty_set c.args.leaf c.new.result c.in_ok-new.field-0)
+    → record (empty_set c.args.leaf_size c.new.result c.in_ok-new.field-0)
     { next = c.new-3.result.next; parts = c.new-2.result; buffer = c.new-3.result.items; snapshots = c.new-4.result.items }
-    ≡ empty_set c.args.leaf c.new.result c.in_ok-new.field-0
+    ≡ empty_set c.args.leaf_size c.new.result c.in_ok-new.field-0
 fields g c = empty_is _ _ _ _ _ _ _ c.new-3.ensures.next c.new-2.ensures c.new-3.ensures.items c.new-4.ensures.items
 
 pub invariant_of-result : goal.invariant_of-result
 invariant_of-result g c =
     subst (IsWell g.row.D) (sym (fields g c))
-    (well_empty g.row.D c.args.leaf c.new.result c.in_ok-new.field-0 c.requires.dims.0 c.requires.dims.1 c.requires.least_leaf c.requires.greatest_leaf
+    (well_empty g.row.D c.args.leaf_size c.new.result c.in_ok-new.field-0 c.requires.dims.0 c.requires.dims.1 c.requires.least_leaf c.requires.greatest_leaf
     c.in_ok-new.ensures.empty
     (ap (λ (n : NameList). is_named n.names Commit) c.new.ensures ∙ is_named-none Commit))
 
 pub returns-clause-seen : goal.returns-clause-seen
 returns-clause-seen g c files =
-    subst (λ (s : SetData). Sees g.row.D files s (new_index g.row.D c.args.leaf)) (sym (fields g c))
-    (sees_empty g.row.D c.args.leaf c.new.result c.in_ok-new.field-0 files (c.in_ok-new.ensures.agrees files))
+    subst (λ (s : SetData). Sees g.row.D files s (new_index g.row.D c.args.leaf_size)) (sym (fields g c))
+    (sees_empty g.row.D c.args.leaf_size c.new.result c.in_ok-new.field-0 files (c.in_ok-new.ensures.agrees files))
 
 pub returns-clause-faithful : goal.returns-clause-faithful
 returns-clause-faithful g c files =
     subst (IsFaithful g.row.D files) (sym (fields g c))
-    (faithful_empty g.row.D c.args.leaf c.new.result c.in_ok-new.field-0 files (c.in_ok-new.ensures.agrees files))
+    (faithful_empty g.row.D c.args.leaf_size c.new.result c.in_ok-new.field-0 files (c.in_ok-new.ensures.agrees files))

@@ -25,7 +25,7 @@ put-requires g c = (
 pub invariant_of-self-2 : goal.invariant_of-self-2
 invariant_of-self-2 g c =
     let s : SetData = record {
-      leaf = c.self.inside.leaf;
+      leaf_size = c.self.inside.leaf_size;
       next = c.self.inside.buffer.next;
       points_given = c.self.inside.points_given;
       names = c.self.inside.names;

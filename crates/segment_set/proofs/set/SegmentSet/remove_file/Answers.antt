@@ -38,7 +38,7 @@ returns-in_err-remove-clause-seen g c = λ told i seen.
     files (g.F.Pages.files c.remove.new.self) _ i (c.in_err-remove.ensures.others told)
     (c.forget.ensures.agrees files (subst (λ (u : SetData). Agrees files u.cache) (sym c.self.view_is) seen.stands.agrees))
     (record {
-      leaf = ap (λ (u : SetData). u.leaf) c.self.view_is;
+      leaf_size = ap (λ (u : SetData). u.leaf_size) c.self.view_is;
       next = ap (λ (u : SetData). u.next) c.self.view_is;
       points_given = ap (λ (u : SetData). u.points_given) c.self.view_is;
       snapshots = ap (λ (u : SetData). u.snapshots) c.self.view_is;
@@ -55,7 +55,7 @@ returns-clause-seen g c = λ told i seen.
     files (g.F.Pages.files c.remove.new.self) _ i (c.in_ok-remove.ensures.others told)
     (c.forget.ensures.agrees files (subst (λ (u : SetData). Agrees files u.cache) (sym c.self.view_is) seen.stands.agrees))
     (record {
-      leaf = ap (λ (u : SetData). u.leaf) c.self.view_is;
+      leaf_size = ap (λ (u : SetData). u.leaf_size) c.self.view_is;
       next = ap (λ (u : SetData). u.next) c.self.view_is;
       points_given = ap (λ (u : SetData). u.points_given) c.self.view_is;
       snapshots = ap (λ (u : SetData). u.snapshots) c.self.view_is;

@@ -14,7 +14,7 @@ use Rattle.segment_set.proofs.set.SegmentSet.renew.Goals.{After-drop-set-inside}
 -- the other set, by its fields
 abbrev other : (g : given.Over) (c : After-drop-set-inside g) → SetData
 other g c = record {
-  leaf = c.set.inside.leaf;
+  leaf_size = c.set.inside.leaf_size;
   next = c.set.inside.buffer.next;
   points_given = c.set.inside.points_given;
   names = c.set.inside.names;
@@ -45,7 +45,7 @@ invariant_of-self g c = well_other g.row.D (other g c) c.self.inside.names c.set
 pub returns-clause-seen : goal.returns-clause-seen
 returns-clause-seen g c files i seen = subst (λ (s : SetData). Sees g.row.D files s i) (sym (whole g c))
     (sees_like g.row.D files c.args.set (record c.args.set { names = c.args.self.now.names }) i
-    (record { leaf = refl; next = refl; points_given = refl; snapshots = refl }) refl refl refl seen.stands.agrees seen)
+    (record { leaf_size = refl; next = refl; points_given = refl; snapshots = refl }) refl refl refl seen.stands.agrees seen)
 
 pub returns-clause-faithful : goal.returns-clause-faithful
 returns-clause-faithful g c files keeps =

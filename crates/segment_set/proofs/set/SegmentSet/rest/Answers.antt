@@ -11,7 +11,7 @@ use Rattle.segment_set.proofs.set.SegmentSet.rest.Goals as goal
 -- the set as it was, by its fields
 abbrev old : (g : given.Over) (c : goal.Joined-self g) → SetData
 old g c = record {
-  leaf = c.self.inside.leaf;
+  leaf_size = c.self.inside.leaf_size;
   next = c.self.inside.buffer.next;
   points_given = c.self.inside.points_given;
   names = c.self.inside.names;

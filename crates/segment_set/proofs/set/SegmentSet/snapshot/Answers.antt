@@ -12,7 +12,7 @@ use Rattle.segment_set.proofs.set.SegmentSet.snapshot.Goals as goal
 -- the set as it was, by its fields
 abbrev old : (g : given.Over) (c : goal.After-push_reserved g) → SetData
 old g c = record {
-  leaf = c.self.inside.leaf;
+  leaf_size = c.self.inside.leaf_size;
   next = c.self.inside.buffer.next;
   points_given = c.self.inside.points_given;
   names = c.self.inside.names;

@@ -23,7 +23,7 @@ use Rattle.segment_set.proofs.Unhidden.{unhidden_still}
 -- the set as it was, by its fields
 abbrev was : (g : given.Over) (c : goal.After-visit g) → SetData
 was g c = record {
-  leaf = c.self.inside.leaf;
+  leaf_size = c.self.inside.leaf_size;
   next = c.self.inside.buffer.next;
   points_given = c.self.inside.points_given;
   names = c.self.inside.names;

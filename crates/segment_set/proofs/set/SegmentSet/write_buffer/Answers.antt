@@ -27,7 +27,7 @@ use Rattle.segment_set.proofs.set.SegmentSet.write_buffer.Goals as goal
 -- the set as it was, by its fields
 abbrev was : (g : given.Over) (c : goal.After-write_buffer g) → SetData
 was g c = record {
-  leaf = c.self.inside.leaf;
+  leaf_size = c.self.inside.leaf_size;
   next = c.self.inside.buffer.next;
   points_given = c.self.inside.points_given;
   names = c.self.inside.names;
@@ -52,7 +52,7 @@ few g c = subst (λ (s : SetData). length s.parts < 200) (sym c.self.view_is) c.
 
 spilled : (g : given.Over) (c : goal.After-write_buffer g)
     → OnOk c.write_buffer.result
-    (IsSpilled g.row.D (IsTrue g.F.Pages.told) c.self.inside.leaf c.self.inside.names c.write_buffer.new.names (g.F.Pages.files c.write_buffer.new.folder)
+    (IsSpilled g.row.D (IsTrue g.F.Pages.told) c.self.inside.leaf_size c.self.inside.names c.write_buffer.new.names (g.F.Pages.files c.write_buffer.new.folder)
     c.self.inside.buffer.items
     c.self.inside.segments c.write_buffer.new.segments)
 spilled g c =
@@ -60,7 +60,7 @@ spilled g c =
     (IsSpilled g.row.D (IsTrue g.F.Pages.told) n c.self.inside.names c.write_buffer.new.names (g.F.Pages.files c.write_buffer.new.folder)
     c.self.inside.buffer.items
     c.self.inside.segments c.write_buffer.new.segments))
-    (c.plan-plan.ensures.leaf ∙ sym (ap (λ (s : SetData). s.leaf) c.self.view_is)) c.write_buffer.ensures.spilled
+    (c.plan-plan.ensures.leaf_size ∙ sym (ap (λ (s : SetData). s.leaf_size) c.self.view_is)) c.write_buffer.ensures.spilled
 
 after : (g : given.Over) (c : goal.After-write_buffer g)
     → IsAfter g.row.D (IsTrue g.F.Pages.told) (g.F.Pages.files c.args.folder.now) (g.F.Pages.files c.write_buffer.new.folder) (was g c) (is g c)
@@ -69,7 +69,7 @@ after g c =
     c.write_buffer.new.names c.write_buffer.new.segments c.write_buffer.new.buffer.items (few g c)
     c.write_buffer.ensures.kept c.write_buffer.result
     (both_ok
-    (IsSpilled g.row.D (IsTrue g.F.Pages.told) c.self.inside.leaf c.self.inside.names c.write_buffer.new.names (g.F.Pages.files c.write_buffer.new.folder)
+    (IsSpilled g.row.D (IsTrue g.F.Pages.told) c.self.inside.leaf_size c.self.inside.names c.write_buffer.new.names (g.F.Pages.files c.write_buffer.new.folder)
     c.self.inside.buffer.items c.self.inside.segments c.write_buffer.new.segments)
     (c.write_buffer.new.buffer.items ≡ [])
     c.write_buffer.result (spilled g c) c.write_buffer.ensures.emptied)
@@ -84,7 +84,7 @@ write_buffer-requires-after_bounds g c = λ lifetimes outlive.
     let dims = c.self.invariant.few_dims in
     let some : 1 ≤ length entries = grind (arith, nat_tests, c.is_empty.ensures, c.if-is_empty.false) in
     let below = waiting_below (record {
-      leaf = c.self.inside.leaf;
+      leaf_size = c.self.inside.leaf_size;
       next = c.self.inside.buffer.next;
       points_given = c.self.inside.points_given;
       names = c.self.inside.names;
@@ -187,7 +187,7 @@ returns-clause-spills g c = on_ok_weaker c.write_buffer.result
     (spills_moved g.row.D (IsTrue g.F.Pages.told) (g.F.Pages.files c.args.folder.now) (g.F.Pages.files c.write_buffer.new.folder) c.args.self.now
     (was g c) c.self.view_is c.write_buffer.new.names c.write_buffer.new.segments c.write_buffer.new.buffer.items h.0 h.1)))
     (both_ok
-    (IsSpilled g.row.D (IsTrue g.F.Pages.told) c.self.inside.leaf c.self.inside.names c.write_buffer.new.names (g.F.Pages.files c.write_buffer.new.folder)
+    (IsSpilled g.row.D (IsTrue g.F.Pages.told) c.self.inside.leaf_size c.self.inside.names c.write_buffer.new.names (g.F.Pages.files c.write_buffer.new.folder)
     c.self.inside.buffer.items c.self.inside.segments c.write_buffer.new.segments)
     (c.write_buffer.new.buffer.items ≡ [])
     c.write_buffer.result (spilled g c) c.write_buffer.ensures.emptied)
