@@ -132,7 +132,7 @@ module _ (D : ℕ) (told : Type 0) (r : Resident D) where
                   (sym (has.inputs.2 ∙ ap (λ (ps : List ℕ). chosen_ids ps (ids_of a.session.set.parts)) first))
                   (first_chosen merged_count (ids_of a.session.set.parts) id (omega arith) there),
             );
-            named = λ id there. subst (λ (s : SetData). is_named s.names.names (Segment id) ≡ true) (sym has.alone.is)
+            named = λ id there. subst (λ (s : SetData). is_named s.names.names (Segment id) ≡ true) (sym has.rest.is)
                 (first_named D a.files r a.session o id there);
           };
       brings = λ t o. begins.canon t o.index (o.seen o.index o.stored) o.trusts.guards;

@@ -127,7 +127,7 @@ module _ (D : ℕ) (told : Type 0) (ids : List ℕ) (i : Index) (a b : StepMomen
         undone = λ t g. undone_after a.files b.files c.files r (ends.keeps.kept t g.trusts.guards) (commits.durable.undone t (trusts_on t g.trusts).guards);
         lasting = λ t g. commit_after a.files b.files c.files (ends.keeps.kept t g.trusts.guards) (commits.durable.lasting t (trusts_on t g.trusts));
         whole = λ t g. commits.faults.whole t (record i { begun = false }) (seen_on t g).1;
-        cause = cause_after a.faults b.faults c.faults r ends.faults.cause.fine commits.faults.cause;
+        cause = cause_after a.faults b.faults c.faults r ends.faults.cause.on_ok commits.faults.cause;
         evident = on_evident_less (told × Trusts D b.files b.session) (told × Trusts D a.files a.session) c.files r (λ h. (h.0, trusts_on h.0 h.1))
             commits.faults.evident;
       }

@@ -142,7 +142,7 @@ merges_after told out trusted trusts lines a b c x s files written sink cause mo
   };
   whole = λ t h state stored. merges.whole t (more t h) state (subst (λ (f : Files). IsStored f state) (sym (files t)) stored);
   evident = status_less (told × trusts) (told × trusted) c.files s (λ h. (h.0, more h.0 h.1)) merges.evident;
-  folder = λ e. subst (λ n. Rose n c.faults) cause.fine (merges.folder e);
+  folder = λ e. subst (λ n. Rose n c.faults) cause.on_ok (merges.folder e);
   sink = λ e. subst (λ n. Rose n c.sink) sink (merges.sink e);
 }
 

@@ -164,7 +164,7 @@ module _ (D : ℕ) (told out : Type 0) (r : Resident D) (lines : List (List ℕ)
           stored = λ t o. record { unwritten = inl (Some o.index, o.stored); answered = λ tells. (Some o.index, o.stored) };
           whole = λ t o state h d. d;
           evident = tt;
-          folder = λ same. subst (λ n. Rose n c.faults) begins.cause.fine ((ends ids (new_index D 2)).cause.failed is);
+          folder = λ same. subst (λ n. Rose n c.faults) begins.cause.on_ok ((ends ids (new_index D 2)).cause.failed is);
           sink = λ w. absurd cc;
         }
         by page.Memory is = record {

@@ -6,12 +6,12 @@
 mod asking;
 mod begun;
 mod both;
-mod merging;
+mod merge_batch;
 mod run;
 mod telling;
 
 pub use both::beside;
-pub use merging::run_merging_batch;
+pub use merge_batch::run_merging_batch;
 pub use run::run_batch;
 
 /// The error of a call for which no memory could be had.

@@ -126,7 +126,7 @@ fn find_near<const D: usize>(
 
 /// What was found in pages that are whole and can't fail, so that memory alone may be wanting.
 fn of_whole<T>(found: Result<T, PageFault>) -> Result<T, Memory>
-    requires fine { IsErrOf found page.Failed → ⊥ }
+    requires no_fault { IsErrOf found page.Failed → ⊥ }
     requires whole { NotDamaged found }
     ensures { IfOk result (λ x. found ≡ Ok x) }
 {

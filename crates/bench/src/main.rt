@@ -65,7 +65,7 @@ fn csv(rt: &HostRuntime, alloc: Global, words: &[String]) -> Option<String> {
         return None;
     };
     let input = input_of(rt, alloc, 1 << 30)?;
-    let points = loaded(alloc, input.as_slice(), first.as_str(), second.as_str());
+    let points = csv_point_count(alloc, input.as_slice(), first.as_str(), second.as_str());
     format!(in alloc; "points {points}").ok()
 }
 
@@ -76,7 +76,12 @@ fn edges(alloc: Global, words: &[String]) -> Option<String> {
         return None;
     };
     let positions = count_of(positions).min(65_535);
-    let (inside, met) = rings::asked(alloc, kind.as_str() == "tree", positions, count_of(queries))?;
+    let (inside, met) = rings::inside_and_met(
+        alloc,
+        kind.as_str() == "tree",
+        positions,
+        count_of(queries),
+    )?;
     format!(in alloc; "inside {inside} met {met}").ok()
 }
 
@@ -163,7 +168,7 @@ fn input_of(rt: &HostRuntime, alloc: Global, limit: u64) -> Option<Vec<u8>> {
 }
 
 /// How many points the two columns of a CSV file give, or 0 where there is a fault.
-fn loaded(alloc: Global, input: &[u8], first: &str, second: &str) -> usize {
+fn csv_point_count(alloc: Global, input: &[u8], first: &str, second: &str) -> usize {
     let (Ok(first), Ok(second)) = (
         first.as_bytes().to_vec(alloc),
         second.as_bytes().to_vec(alloc),

@@ -65,7 +65,7 @@ fn scaled(x: i64, distance: i64) -> i32 {
 }
 
 /// How many drawn points are in the ring, and how many cells of a hundredth of its width its edges meet.
-pub(crate) fn asked(
+pub(crate) fn inside_and_met(
     alloc: Global,
     by_tree: bool,
     positions: u32,

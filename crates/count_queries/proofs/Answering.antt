@@ -123,7 +123,7 @@ module _ {T : Type 0} (D : ℕ) (told : Type 0) (parts : List LiveSegment) (tell
     reads = h.reads;
     cause = record {
       later = h.cause.later;
-      fine = tt;
+      on_ok = tt;
       failed = λ e. let same : fault ≡ page.Failed = cc in h.cause.failed
           (ap (λ (f : PageFault). Err f) same);
     };
@@ -144,7 +144,7 @@ module _ {T : Type 0} (D : ℕ) (told : Type 0) (parts : List LiveSegment) (tell
     files = h.files;
     agrees = h.agrees;
     reads = h.reads;
-    cause = record { later = h.cause.later; fine = tt; failed = λ e. absurd cc };
+    cause = record { later = h.cause.later; on_ok = tt; failed = λ e. absurd cc };
     whole = λ so agrees s e. tt;
     evident = tt;
   })
@@ -158,7 +158,7 @@ module _ {T : Type 0} (D : ℕ) (told : Type 0) (parts : List LiveSegment) (tell
     files = h.files;
     agrees = h.agrees;
     reads = h.reads;
-    cause = record { later = h.cause.later; fine = h.cause.fine; failed = λ e. absurd cc };
+    cause = record { later = h.cause.later; on_ok = h.cause.on_ok; failed = λ e. absurd cc };
     whole = λ so agrees s e. tt;
     evident = tt;
   }

@@ -81,7 +81,7 @@ pub fn check_points<const D: usize>(
     requires some { 1 ≤ D }
     requires few { D ≤ 8 }
     requires named { length columns.now ≡ D }
-    ensures fine { OnOk result ((points : List (List ℤ)) × (points_of columns.now (records_of b.now) ≡ Ok points)) }
+    ensures on_ok { OnOk result ((points : List (List ℤ)) × (points_of columns.now (records_of b.now) ≡ Ok points)) }
     ensures fault { IfErr result
         (λ fault. fault ≢ CsvFault.Memory → points_of columns.now (records_of b.now) ≡ Err fault) }
 {
@@ -106,7 +106,7 @@ fn check_rows<const D: usize>(
     requires few { D ≤ 8 }
     requires reading { IsReading reader.old }
     requires short { length (bytes_left reader.old) < 2 ^ 63 }
-    ensures fine { OnOk result
+    ensures on_ok { OnOk result
         ((points : List (List ℤ)) × (each_ok (point_of width places.now) 1 (records_left reader.old) ≡ Ok points)) }
     ensures fault { IfErr result (λ fault. fault ≢ CsvFault.Memory
         → each_ok (point_of width places.now) 1 (records_left reader.old) ≡ Err fault) }

@@ -40,7 +40,7 @@ Telling = Scope → Told → Type 0
 -- ---- without a call on the set
 
 no_cause : {T : Type 0} (faults : ℕ) (x : T) → HasPageCause faults faults (Ok x)
-no_cause faults x = record { later = omega arith; fine = refl; failed = λ e. absurd cc }
+no_cause faults x = record { later = omega arith; on_ok = refl; failed = λ e. absurd cc }
 
 -- a set that stays is faithful to the files that stay
 faithful_still : (D : ℕ) (old new : ExplainMoment) → new.set ≡ old.set → new.files ≡ old.files → IsFaithful D old.files old.set → IsFaithful D new.files new.set
@@ -105,7 +105,7 @@ explains_as D told tells others old new r to from explains = record {
 -- what a call that looks at the set leaves
 pub record Looks {T : Type 0} (D : ℕ) (told : Type 0) (old new : ExplainMoment) (tells : Telling) (result : Result T PageFault) : Type 0 where
   pub seen : told → (i : Index) → Sees D old.files old.set i → Sees D new.files new.set i
-  pub alone : StaysButCache old.set new.set
+  pub rest : StaysButCache old.set new.set
   pub files : told → new.files ≡ old.files
   pub reads : told → (s : Scope) → IsExplaining D old.files old.set s → (t : Told) → tells s t → new.reads ≤ old.reads + t.touched
   pub cause : HasPageCause old.faults new.faults result
@@ -119,7 +119,7 @@ looks_stays D told old new tells r looks t s e = record {
   index = e.index;
   state = e.state;
   seen = looks.seen t e.index e.seen;
-  heads = ap (λ (u : SetData). heads_of u.parts) looks.alone.is ∙ e.heads;
+  heads = ap (λ (u : SetData). heads_of u.parts) looks.rest.is ∙ e.heads;
 }
 
 -- the look at the line failed, and so does its explanation
@@ -133,7 +133,7 @@ explains_fault {T = T} D told tells old new fault r is looks = subst (Explains D
   reads = looks.reads;
   cause = record {
     later = looks.cause.later;
-    fine = tt;
+    on_ok = tt;
     failed = λ e. let same : fault ≡ page.Failed = cc in looks.cause.failed (ap (λ (f : PageFault). Err f) same);
   };
   whole = λ t s e. other fault (looks.whole t e.index e.seen);
@@ -168,7 +168,7 @@ explains_done D told tells old new x looks tells_so = record {
   stays = looks_stays D told old new tells (Ok x) looks;
   files = looks.files;
   reads = looks.reads;
-  cause = record { later = looks.cause.later; fine = looks.cause.fine; failed = λ e. absurd cc };
+  cause = record { later = looks.cause.later; on_ok = looks.cause.on_ok; failed = λ e. absurd cc };
   whole = λ t s e. tt;
   faithful = looks.faithful;
   evident = tt;

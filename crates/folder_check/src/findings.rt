@@ -31,7 +31,7 @@ pub(crate) fn judge(
     findings: &[Finding],
 ) -> Result<(), PageFault>
     requires { length findings.now ≡ length listed.now }
-    ensures fine { OnOk result (AreFine listed.now points_given findings.now) }
+    ensures on_ok { OnOk result (AreFine listed.now points_given findings.now) }
     ensures wrong { OnDamage result (IsWrong listed.now points_given findings.now) }
     ensures no_fault { IsErrOf result page.Failed → ⊥ }
 {

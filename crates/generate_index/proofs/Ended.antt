@@ -142,7 +142,9 @@ made_canon told seed n a b c x y makes commits t new =
 pub cause_done : {T U : Type 0} (f0 f1 f2 : ℕ) (x : T) (y : U) (is_refused : Bool) → HasPageCause f0 f1 (Ok x) → HasPageCause f1 f2 (Ok y)
     → HasPageCause f0 f2 (Ok is_refused)
 cause_done f0 f1 f2 x y is_refused first second =
-    let late = first.later in let more = second.later in record { later = omega (arith, late, more); fine = second.fine ∙ first.fine; failed = λ e. absurd cc }
+    let late = first.later in
+    let more = second.later in
+    record { later = omega (arith, late, more); on_ok = second.on_ok ∙ first.on_ok; failed = λ e. absurd cc }
 
 -- ---- an index is there
 

@@ -68,7 +68,7 @@ makes_then told Before Between After a b c x r first second = record {
   guards = λ t guards. second.guards t (first.guards t guards);
   kept = λ t guards. kept_after a.files b.files c.files (first.kept t guards) (second.kept t (first.guards t guards));
   canon = λ t. brings_then 2 a.files b.files c.files a.session.set.parts b.session.set.parts c.session.set.parts (first.canon t) (second.canon t);
-  cause = cause_after a.faults b.faults c.faults r first.cause.fine second.cause;
+  cause = cause_after a.faults b.faults c.faults r first.cause.on_ok second.cause;
   whole = λ t before. second.whole t (first.made t before);
   faithful = λ t faithful. second.faithful t (first.faithful t faithful);
   traced = λ t trusts. second.traced t (makes_trusts told Before Between a b (Ok x) first t trusts);
@@ -171,7 +171,7 @@ makes_ok told Before After a b x y makes = record {
   guards = makes.guards;
   kept = makes.kept;
   canon = makes.canon;
-  cause = record { later = makes.cause.later; fine = makes.cause.fine; failed = λ e. absurd cc };
+  cause = record { later = makes.cause.later; on_ok = makes.cause.on_ok; failed = λ e. absurd cc };
   whole = λ t before. tt;
   faithful = makes.faithful;
   traced = makes.traced;

@@ -91,7 +91,7 @@ adds_then D told xs ys a b c x r first second = record {
   kept = λ t guards. kept_after a.files b.files c.files (first.kept t guards) (second.kept t (first.stays.guards t guards));
   canon = λ t. brings_then D a.files b.files c.files a.session.set.parts b.session.set.parts c.session.set.parts (first.canon t) (second.canon t);
   faults = record {
-    cause = cause_after a.faults b.faults c.faults r first.faults.cause.fine second.faults.cause;
+    cause = cause_after a.faults b.faults c.faults r first.faults.cause.on_ok second.faults.cause;
     whole = λ t i seen. second.faults.whole t (with_points i xs) (first.seen t i seen);
     evident = on_evident_less (told × Trusts D b.files b.session) (told × Trusts D a.files a.session) c.files r (λ (t, trusts). (t, trusts_then t trusts))
         second.faults.evident;
@@ -143,10 +143,10 @@ pub record IsPut (D : ℕ) (told : Type 0) (point : List ℤ) (old new : Session
   pub evident : OnAddDamage r (IsEvidentIn D old.session.set.parts (told × IsFaithful D old.files old.session.set) new.files)
 
 put_cause : (before now : ℕ) (r : Result ℕ AddFault) → HasCauseOf add.Failed before now r → HasPageCause before now (add_result r)
-put_cause before now (Ok n) cause = record { later = cause.later; fine = cause.fine; failed = λ e. absurd cc }
+put_cause before now (Ok n) cause = record { later = cause.later; on_ok = cause.on_ok; failed = λ e. absurd cc }
 put_cause before now (Err add.Full) cause = memory_cause before now cause.later
-put_cause before now (Err add.Failed) cause = record { later = cause.later; fine = tt; failed = λ e. cause.failed refl }
-put_cause before now (Err (add.Damaged d)) cause = record { later = cause.later; fine = tt; failed = λ e. absurd cc }
+put_cause before now (Err add.Failed) cause = record { later = cause.later; on_ok = tt; failed = λ e. cause.failed refl }
+put_cause before now (Err (add.Damaged d)) cause = record { later = cause.later; on_ok = tt; failed = λ e. absurd cc }
 put_cause before now (Err add.Memory) cause = memory_cause before now cause.later
 
 put_shows : (P : Damage → Type 0) (r : Result ℕ AddFault) → OnAddDamage r P → OnDamage (add_result r) P

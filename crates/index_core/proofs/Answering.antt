@@ -41,7 +41,7 @@ begins_same before after same = ([], same ∙ sym (append-nil before))
 -- ---- causes
 
 pub no_cause : {T : Type 0} (faults : ℕ) (x : T) → HasPageCause faults faults (Ok x)
-no_cause faults x = record { later = omega arith; fine = refl; failed = λ e. absurd cc }
+no_cause faults x = record { later = omega arith; on_ok = refl; failed = λ e. absurd cc }
 
 -- ---- what is done, or refused
 

@@ -172,7 +172,7 @@ as_same s t c next points_given parts buffer same = record {
 }
 
 -- a set without snapshots that was swept, of a session since whose commit nothing changed
-module _ (s : SessionData) (t : SetData) (new : SessionData) (eased : t ≡ set_rested s.set) (alone : StaysButFiles t new.set) (commit : new.commit ≡ s.commit)
+module _ (s : SessionData) (t : SetData) (new : SessionData) (eased : t ≡ set_rested s.set) (rest : StaysButFiles t new.set) (commit : new.commit ≡ s.commit)
     (unchanged : IsUnchanged s) where
   pub unchanged_closed : new.refused ≡ false → IsUnchanged new
   unchanged_closed done = record {
@@ -180,10 +180,10 @@ module _ (s : SessionData) (t : SetData) (new : SessionData) (eased : t ≡ set_
     is = commit ∙ unchanged.is;
     done = done;
     same = as_same s.set new.set unchanged.commit
-        (ap (λ (u : SetData). u.next) alone.is ∙ ap (λ (u : SetData). u.next) eased)
-        (ap (λ (u : SetData). u.points_given) alone.is ∙ ap (λ (u : SetData). u.points_given) eased)
-        (ap (λ (u : SetData). u.parts) alone.is ∙ ap (λ (u : SetData). u.parts) eased)
-        (ap (λ (u : SetData). u.buffer) alone.is ∙ ap (λ (u : SetData). u.buffer) eased) unchanged.same;
+        (ap (λ (u : SetData). u.next) rest.is ∙ ap (λ (u : SetData). u.next) eased)
+        (ap (λ (u : SetData). u.points_given) rest.is ∙ ap (λ (u : SetData). u.points_given) eased)
+        (ap (λ (u : SetData). u.parts) rest.is ∙ ap (λ (u : SetData). u.parts) eased)
+        (ap (λ (u : SetData). u.buffer) rest.is ∙ ap (λ (u : SetData). u.buffer) eased) unchanged.same;
   }
 
   -- a segment of now is one that the commit lists

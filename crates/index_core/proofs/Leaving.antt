@@ -31,11 +31,11 @@ use Rattle.index_core.specs.Effects.{HasBegun, HasEnded, OnDone}
 pub begin_leaves : {T : Type 0} (positions : List ℕ) (s t : SetData) (r : Result T BeginFault)
     → OnOk r ((b : BegunMerge) × (t.begun ≡ Some b) × (b.inputs ≡ chosen_ids positions (ids_of s.parts))) → StaysButMerge s t
     → OnDone (begin_answer r) (HasBegun positions s t)
-begin_leaves positions s t (Ok x) inputs alone = record { inputs = inputs; alone = alone }
-begin_leaves positions s t (Err begin.Begun) inputs alone = tt
-begin_leaves positions s t (Err begin.Failed) inputs alone = tt
-begin_leaves positions s t (Err (begin.Damaged d)) inputs alone = tt
-begin_leaves positions s t (Err begin.Memory) inputs alone = tt
+begin_leaves positions s t (Ok x) inputs rest = record { inputs = inputs; rest = rest }
+begin_leaves positions s t (Err begin.Begun) inputs rest = tt
+begin_leaves positions s t (Err begin.Failed) inputs rest = tt
+begin_leaves positions s t (Err (begin.Damaged d)) inputs rest = tt
+begin_leaves positions s t (Err begin.Memory) inputs rest = tt
 
 -- what went is gone: the one that came has a name that was free, and those that went are named
 not_again : (names : NameList) (ids : List ℕ) (id : ℕ) → ((n : ℕ) → Contains ids n → is_named names.names (Segment n) ≡ true)

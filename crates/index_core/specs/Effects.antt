@@ -73,7 +73,7 @@ pub record IsMergedAll (D : ℕ) (told : Type 0) (files new_files : Files) (s t 
 -- a merge is begun of the segments at these positions, and all else is as before
 pub record HasBegun (positions : List ℕ) (s t : SetData) : Type 0 where
   pub inputs : (b : BegunMerge) × (t.begun ≡ Some b) × (b.inputs ≡ chosen_ids positions (ids_of s.parts))
-  pub alone : StaysButMerge s t
+  pub rest : StaysButMerge s t
 
 -- What the begun merge had built took the place of its inputs: no segment of now has the id of one. What was named is
 -- named still.

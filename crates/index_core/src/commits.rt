@@ -181,7 +181,7 @@ impl<const D: usize> Session<D> {
     fn sweep<F: Folder>(&mut self, folder: &mut F) -> Result<(), PageFault>
         requires there { IsSome self.old.commit }
         requires written { self.old.refused ≡ false }
-        ensures alone { StaysButFiles self.old.set self.new.set }
+        ensures rest { StaysButFiles self.old.set self.new.set }
         ensures removes { SweepsAway (IsTrue F.told) (F.files folder.old)
             (F.files folder.new) self.old self.new result }
         ensures faithful { IsTrue F.told → IsFaithful D (F.files folder.old) self.old.set

@@ -3,8 +3,8 @@
 //! (`specs/Evidence`).
 #![tactic(auto)]
 
+mod listed_index;
 mod opening;
-mod whole;
 
+pub use listed_index::open_index;
 pub use opening::{check_numbers, open_all};
-pub use whole::open_index;

@@ -148,7 +148,7 @@ fn other_of<const D: usize>(command: &Command<D>) -> OtherAsked {
 }
 
 /// What a line asks where ranges have so many dimensions: one, two or four.
-fn asked(alloc: Global, dims: u8, line: &[u8]) -> Result<OtherAsked, Fail> {
+fn other_of_line(alloc: Global, dims: u8, line: &[u8]) -> Result<OtherAsked, Fail> {
     Ok(match dims {
         1 => other_of(&read_range_line::<2>(alloc, line)?),
         2 => other_of(&read_range_line::<4>(alloc, line)?),
@@ -169,7 +169,7 @@ const OTHERS: [(u8, &[u8], OtherAsked); 7] = [
 #[test]
 fn other_commands(rt: HostRuntime) -> Result<(), Fail> {
     for (dims, line, wanted) in OTHERS {
-        same_at(&rt, asked(rt.alloc(), dims, line)?, wanted, &line);
+        same_at(&rt, other_of_line(rt.alloc(), dims, line)?, wanted, &line);
     }
     Ok(())
 }

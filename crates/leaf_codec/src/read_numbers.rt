@@ -137,7 +137,7 @@ impl<'a> Numbers<'a> {
     }
 
     /// The numbers with which the leaf begins, `count` of them, and where the bytes behind them begin.
-    pub fn take(leaf: &'a [u8], count: u16) -> Option<(Numbers<'a>, usize)>
+    pub fn read(leaf: &'a [u8], count: u16) -> Option<(Numbers<'a>, usize)>
         requires { count ≤ 500 }
         ensures found { IfSome result (λ x. BeginsWithNumbers leaf.now count x.0 x.1) }
         ensures only { (r : RawNumbers) (tail : List ℕ) → AreRawNumbers count r

@@ -34,7 +34,7 @@ pub struct Parts<'a> {
 
 impl<'a> Parts<'a> {
     /// The parts of a leaf of `count` entries from `at` on, to its end.
-    pub fn take(leaf: &'a [u8], at: usize, dims: usize, count: usize) -> Option<Parts<'a>>
+    pub fn read(leaf: &'a [u8], at: usize, dims: usize, count: usize) -> Option<Parts<'a>>
         requires dims { (1 ≤ dims) × (dims ≤ 8) }
         requires few { count ≤ 500 }
         requires behind { 4 ≤ at }

@@ -55,8 +55,8 @@ impl<'a, const D: usize> LeafView<'a, D> {
         if count == 0 || count > greatest_leaf(D as u8) {
             return None;
         }
-        let (numbers, at) = Numbers::take(b, count)?;
-        let parts = Parts::take(b, at, D, count as usize)?;
+        let (numbers, at) = Numbers::read(b, count)?;
+        let parts = Parts::read(b, at, D, count as usize)?;
         let slots = Slots::of(&parts);
         if !numbers.are_canonical() {
             return None;
@@ -79,10 +79,10 @@ impl<'a, const D: usize> LeafView<'a, D> {
         requires { SpellsSomeIn D b.now count (region_of cell.now) }
         ensures { SpellsLeafIn D b.now count (region_of cell.now) result }
     {
-        let Some((numbers, at)) = Numbers::take(b, count) else {
+        let Some((numbers, at)) = Numbers::read(b, count) else {
             unreachable!()
         };
-        let Some(parts) = Parts::take(b, at, D, count as usize) else {
+        let Some(parts) = Parts::read(b, at, D, count as usize) else {
             unreachable!()
         };
         let slots = Slots::of(&parts);

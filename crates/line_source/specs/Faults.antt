@@ -7,6 +7,6 @@ use Rattle.line_source.specs.declared.faults.ReadFault.TheVariants as read
 -- only a failure of the source raises its faults, and a failure always does
 pub record HasReadCause {T : Type 0} (before now : ℕ) (result : Result T ReadFault) : Type 0 where
   pub later : before ≤ now
-  pub fine : OnOk result (now ≡ before)
+  pub on_ok : OnOk result (now ≡ before)
   pub memory : IsErrOf result read.Memory → now ≡ before
   pub failed : IsErrOf result read.Failed → Rose before now

@@ -147,7 +147,7 @@ loads_after told trusted trusts From Starts answer old middle new x r same text 
   levels = λ t state h. subst (λ (f : Files). OnOk r (KeepsLevels f new.files)) (same t) (loads.levels t state (starts t state h));
   undone = λ t h. subst (λ (f : Files). KeepsUndone f new.files r) (same t) (loads.undone t (more t h));
   lasting = λ t h. subst (λ (f : Files). KeepsCommit f new.files) (same t) (loads.lasting t (more t h));
-  cause = cause_after old.faults middle.faults new.faults r cause.fine loads.cause;
+  cause = cause_after old.faults middle.faults new.faults r cause.on_ok loads.cause;
   evident = on_evident_less (told × trusts) (told × trusted) new.files r (λ h. (h.0, more h.0 h.1)) loads.evident;
 }
 
@@ -255,7 +255,7 @@ commit_stopped {T = T} D told points a b c x before after fault r is fits adds c
     (subst (λ (i : Index). IsStored c.files (Some i)) (rest_done l.index points (loading_rests D a.files a.session stored l)) there)))
     (commits.durable.stored t (with_points l.index points) (adds.seen t l.index l.seen) (adds.stays.guards t l.guards)))
     (λ t stored l. commits.faults.whole t (with_points l.index points) (adds.seen t l.index l.seen))
-    (cause_after a.faults b.faults c.faults (Err fault) adds.faults.cause.fine commits.faults.cause)
+    (cause_after a.faults b.faults c.faults (Err fault) adds.faults.cause.on_ok commits.faults.cause)
     (on_evident_less {X = T} (told × Trusts D b.files b.session) (told × Trusts D a.files a.session) c.files (Err fault)
     (λ h. (h.0, adds_trusts D told points a b (Ok x) adds h.0 h.1)) commits.faults.evident)
     (λ t h. undone_after {T = T} a.files b.files c.files (Err fault) (adds.kept t h.guards) (commits.durable.undone t (adds.stays.guards t h.guards)))
@@ -291,10 +291,10 @@ all_loaded D told points a b c x y next before after fits first grew adds commit
   undone = λ t h. tt;
   lasting = λ t h. commit_after a.files b.files c.files (adds.kept t h.guards) (commits.durable.lasting t (adds_trusts D told points a b (Ok x) adds t h));
   cause =
-      let one = adds.faults.cause.fine in
-      let two = commits.faults.cause.fine in
+      let one = adds.faults.cause.on_ok in
+      let two = commits.faults.cause.on_ok in
       let late = adds.faults.cause.later in
       let more = commits.faults.cause.later in
-      record { later = omega arith; fine = two ∙ one; failed = λ e. absurd cc };
+      record { later = omega arith; on_ok = two ∙ one; failed = λ e. absurd cc };
   evident = tt;
 }

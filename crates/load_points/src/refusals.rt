@@ -60,7 +60,8 @@ pub(crate) fn refuse_file(
 fn look_through(alloc: Global, columns: &[Bytes], input: &[u8]) -> Result<(), CsvFault>
     requires some { 1 ≤ length columns.now }
     requires few { length columns.now ≤ 8 }
-    ensures fine { OnOk result ((points : List (List ℤ)) × (points_of columns.now (records_of input.now) ≡ Ok points)) }
+    ensures on_ok { OnOk result
+        ((points : List (List ℤ)) × (points_of columns.now (records_of input.now) ≡ Ok points)) }
     ensures fault { IfErr result
         (λ fault. fault ≢ CsvFault.Memory → points_of columns.now (records_of input.now) ≡ Err fault) }
 {

@@ -22,7 +22,7 @@ use Rattle.documents.specs.NearestEntries.{near_of, nears_of}
 use Rattle.nearest_query.specs.Segments.{live_items, least_dist2}
 use Rattle.nearest_query.specs.Fronts.{leaf_sum}
 use Rattle.nearest_query.specs.Search.{World, HasLeaves, nears_at, live_at}
-use Rattle.nearest_query.proofs.Turns.{span_split, span_one}
+use Rattle.nearest_query.proofs.WaitingNodes.{span_split, span_one}
 
 gap_sym : (x y : ℤ) → unsigned_abs (x -ℤ y) ≡ unsigned_abs (y -ℤ x)
 gap_sym x y = omega (arith, ints)

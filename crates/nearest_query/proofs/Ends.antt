@@ -62,17 +62,17 @@ same_members xs ys h x k = let c = counts_some x xs k in let t = h (one_if x) in
 
 -- ---- the nodes that wait are far
 
-zero_turns : {D : ℕ} (w : World) (d : ℕ) (f : Near → ℕ) → ((y : Near) → d ≤ y.dist2 → f y ≡ 0) → (nodes : List (NodeAt D)) (turns : List Waiting)
-    → All (IsNode D w nodes) turns → All (λ t. d ≤ t.dist2.0) turns
-    → sum_by (sum_below (λ i n. sum_by f (nears_at w i n))) turns ≡ 0
-zero_turns w d f none nodes [] all far = refl
-zero_turns {D} w d f none nodes (t ∷ ts) all far =
+zero_waiting : {D : ℕ} (w : World) (d : ℕ) (f : Near → ℕ) → ((y : Near) → d ≤ y.dist2 → f y ≡ 0) → (nodes : List (NodeAt D)) (waiting : List Waiting)
+    → All (IsNode D w nodes) waiting → All (λ t. d ≤ t.dist2.0) waiting
+    → sum_by (sum_below (λ i n. sum_by f (nears_at w i n))) waiting ≡ 0
+zero_waiting w d f none nodes [] all far = refl
+zero_waiting {D} w d f none nodes (t ∷ ts) all far =
     let n = All-head (IsNode D w nodes) t ts all in
     let h = All-head (λ u. d ≤ u.dist2.0) t ts far in
     let e = n.dist in
     let z = zero_node f d none D w t.segment t.first n.spot n.path n.tree n.dims n.dims_too n.cells n.leaves (omega (arith, h, e)) in
     let s : sum_below (λ i k. sum_by f (nears_at w i k)) t ≡ 0 = ap (λ k. leaf_sum (λ i j. sum_by f (nears_at w i j)) t.segment t.first k) n.count ∙ z in
-    let r = zero_turns w d f none nodes ts (All-tail (IsNode D w nodes) t ts all) (All-tail (λ u. d ≤ u.dist2.0) t ts far) in
+    let r = zero_waiting w d f none nodes ts (All-tail (IsNode D w nodes) t ts all) (All-tail (λ u. d ≤ u.dist2.0) t ts far) in
     let c = sum_by-cons (sum_below (λ i k. sum_by f (nears_at w i k))) t ts in
     omega (arith, s, r, c)
 
@@ -92,24 +92,24 @@ last_greatest (n ∷ (m ∷ ns)) b up e a h =
     (λ k. rest a k)
     (cons_cases n (m ∷ ns) a h)
 
-module _ {D : ℕ} (w : World) (all : List Near) (turns : List Waiting) (nodes : List (NodeAt D)) (found : Candidates)
-    (s : IsSought D w all turns nodes found) where
+module _ {D : ℕ} (w : World) (all : List Near) (waiting : List Waiting) (nodes : List (NodeAt D)) (found : Candidates)
+    (s : IsSought D w all waiting nodes found) where
   pub seen_in : (x : Near) → Contains s.seen x → Contains all x
   seen_in x h = let c = counts_some x s.seen h in let t = s.totals (one_if x) in some_counted x all (omega (arith, c, t))
 
   -- what is nearer than all that wait was seen
-  pub near_seen : (d : ℕ) → All (λ t. d ≤ t.dist2.0) turns → (x : Near) → Contains all x → x.dist2 < d → Contains s.seen x
+  pub near_seen : (d : ℕ) → All (λ t. d ≤ t.dist2.0) waiting → (x : Near) → Contains all x → x.dist2 < d → Contains s.seen x
   near_seen d far x h lt =
       let c = counts_some x all h in
       let t = s.totals (one_if x) in
-      let z = zero_turns w d (one_if x) (λ y le. ap (λ b. cond b 1 0) (other y le)) nodes turns s.nodes_are far in
+      let z = zero_waiting w d (one_if x) (λ y le. ap (λ b. cond b 1 0) (other y le)) nodes waiting s.nodes_are far in
       some_counted x s.seen (omega (arith, c, t, z))
     where
       other : (y : Near) → d ≤ y.dist2 → is_same x y ≡ false
       other y le =
           by_test _ (is_same x y) (λ e. let p = same_is x y e in let q : x.dist2 ≡ y.dist2 = ap (λ z. z.dist2) p in absurd (omega (arith, q, le, lt))) (λ e. e)
 
-  pub stop_nearest : (d : ℕ) → All (λ t. d ≤ t.dist2.0) turns → found.many.room ≤ length (found_of found) → All (λ a. a.dist2 < d) (found_of found)
+  pub stop_nearest : (d : ℕ) → All (λ t. d ≤ t.dist2.0) waiting → found.many.room ≤ length (found_of found) → All (λ a. a.dist2 < d) (found_of found)
       → IsNearest found.many.room all (found_of found)
   stop_nearest d far full before = nearest_wider found.many.room s.seen all (found_of found) s.best.nearest seen_in
       (λ x h. by_test _ (nat_lt x.dist2 d)
@@ -119,14 +119,14 @@ module _ {D : ℕ} (w : World) (all : List Near) (turns : List Waiting) (nodes :
         λ a m. let l = All-contains (λ b. b.dist2 < d) (found_of found) a before m in let g : d ≤ x.dist2 = grind (arith, nat_tests) in omega (arith, l, g),
       )))
 
-  pub end_nearest : turns ≡ [] → IsNearest found.many.room all (found_of found)
+  pub end_nearest : waiting ≡ [] → IsNearest found.many.room all (found_of found)
   end_nearest e = nearest_wider found.many.room s.seen all (found_of found) s.best.nearest seen_in
       (λ x h. inl (let c = counts_some x all h in
       let t = s.totals (one_if x) in
-      let z : sum_by (sum_below (λ i n. sum_by (one_if x) (nears_at w i n))) turns ≡ 0 =
+      let z : sum_by (sum_below (λ i n. sum_by (one_if x) (nears_at w i n))) waiting ≡ 0 =
       ap (λ ts. sum_by (sum_below (λ i n. sum_by (one_if x) (nears_at w i n))) ts) e in some_counted x s.seen (omega (arith, c, t, z))))
 
-  last_within : (d : ℕ) (nearest : List Near) → All (λ t. d ≤ t.dist2.0) turns → IsNearest found.many.room all nearest
+  last_within : (d : ℕ) (nearest : List Near) → All (λ t. d ≤ t.dist2.0) waiting → IsNearest found.many.room all nearest
       → (found.many.room ≤ length (found_of found) → (a : Near) × Contains (found_of found) a × (d ≤ a.dist2))
       → nat_lt (length nearest) found.many.room ≡ false → is_within (last_of nearest) d ≡ true
   last_within d nearest far is not_ended enough = within (last_of nearest) refl
@@ -152,7 +152,7 @@ module _ {D : ℕ} (w : World) (all : List Near) (turns : List Waiting) (nodes :
       within (Some b) e = by_test _ (nat_le d b) (λ h. h) (λ h. absurd (too_near b e (grind (arith, nat_tests))))
 
   -- where the search goes on at a node, the node is within the bound of the nearest of all
-  pub goes_on : (d : ℕ) (nearest : List Near) → All (λ t. d ≤ t.dist2.0) turns → IsNearest found.many.room all nearest
+  pub goes_on : (d : ℕ) (nearest : List Near) → All (λ t. d ≤ t.dist2.0) waiting → IsNearest found.many.room all nearest
       → (found.many.room ≤ length (found_of found) → (a : Near) × Contains (found_of found) a × (d ≤ a.dist2))
       → is_within (bound_of found.many.room nearest) d ≡ true
   goes_on d nearest far is not_ended = by_test _ (nat_lt (length nearest) found.many.room)
@@ -160,17 +160,17 @@ module _ {D : ℕ} (w : World) (all : List Near) (turns : List Waiting) (nodes :
       (λ enough. ap (λ b. is_within (cond b None (last_of nearest)) d) enough ∙ last_within d nearest far is not_ended enough)
 
 -- the next node is one of the world
-pub next_node : {D : ℕ} (w : World) (all : List Near) (next : Waiting) (turns : List Waiting) (nodes nodes' : List (NodeAt D)) (found : Candidates)
-    → IsSought D w all (next ∷ turns) nodes found → nodes' ≡ nodes → IsNode D w nodes' next
-next_node {D} w all next turns nodes nodes' found s e = subst (λ ns. IsNode D w ns next) (sym e) (All-head (IsNode D w nodes) next turns s.nodes_are)
+pub next_node : {D : ℕ} (w : World) (all : List Near) (next : Waiting) (waiting : List Waiting) (nodes nodes' : List (NodeAt D)) (found : Candidates)
+    → IsSought D w all (next ∷ waiting) nodes found → nodes' ≡ nodes → IsNode D w nodes' next
+next_node {D} w all next waiting nodes nodes' found s e = subst (λ ns. IsNode D w ns next) (sym e) (All-head (IsNode D w nodes) next waiting s.nodes_are)
 
 -- and within the bound, where the search hasn't ended
-pub next_within : {D : ℕ} (w : World) (all : List Near) (next : Waiting) (turns : List Waiting) (nodes : List (NodeAt D)) (found : Candidates)
-    → IsSought D w all (next ∷ turns) nodes found
-    → (room : ℕ) (nearest : List Near) → found.many.room ≡ room → IsNearest room all nearest → All (λ t. next.dist2.0 ≤ t.dist2.0) turns
+pub next_within : {D : ℕ} (w : World) (all : List Near) (next : Waiting) (waiting : List Waiting) (nodes : List (NodeAt D)) (found : Candidates)
+    → IsSought D w all (next ∷ waiting) nodes found
+    → (room : ℕ) (nearest : List Near) → found.many.room ≡ room → IsNearest room all nearest → All (λ t. next.dist2.0 ≤ t.dist2.0) waiting
     → (1 ≤ found.many.room → found.many.room ≤ length (found_of found) → (a : Near) × Contains (found_of found) a × (next.dist2.0 ≤ a.dist2))
     → is_within (bound_of room nearest) next.dist2.0 ≡ true
-next_within w all next turns nodes found s room nearest e is least not_ended =
+next_within w all next waiting nodes found s room nearest e is least not_ended =
     subst (λ k. is_within (bound_of k nearest) next.dist2.0 ≡ true) e
-    (goes_on w all (next ∷ turns) nodes found s next.dist2.0 nearest (All-cons (λ t. next.dist2.0 ≤ t.dist2.0) next turns (omega arith) least)
+    (goes_on w all (next ∷ waiting) nodes found s next.dist2.0 nearest (All-cons (λ t. next.dist2.0 ≤ t.dist2.0) next waiting (omega arith) least)
     (subst (λ k. IsNearest k all nearest) (sym e) is) (not_ended s.best.some))

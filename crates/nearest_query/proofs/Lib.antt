@@ -7,7 +7,7 @@ pub mod Among
 pub mod AmongWays
 pub mod Either
 pub mod Added
-pub mod Turns
+pub mod WaitingNodes
 pub mod Placed
 pub mod Distances
 pub mod Unique

@@ -20,7 +20,7 @@ use Rattle.nearest_query.specs.declared.frontier.Waiting.{Waiting}
 use Rattle.nearest_query.specs.Segments.{IsSegmentDamage, no_head}
 use Rattle.nearest_query.specs.Fronts.{Front, IsWaiting}
 use Rattle.nearest_query.specs.Search.{IsNodeBelow}
-use Rattle.nearest_query.proofs.Turns.{turn_of, stands_new, stands_still}
+use Rattle.nearest_query.proofs.WaitingNodes.{waiting_of, stands_new, stands_still}
 
 pub on_damage : {T : Type 0} (P Q : Damage → Type 0) (r : Result T PageFault) → ((d : Damage) → P d → Q d) → OnDamage r P → OnDamage r Q
 on_damage P Q (Ok x) f h = h
@@ -60,11 +60,11 @@ pub parts_put : {D : ℕ} (heads : List Head) (trees : ℕ → IndexTree) (at : 
     (path : Region) (t : IndexTree) → IsWaiting at seg node old new
     → seg < length heads → IsAt node first s path t
     → ((number : ℕ) (at : Spot) (len : ℕ) (own : Region) → IsLeafOf first s t number at len own → IsLeafOf 0 front (trees seg) number at len own)
-    → All (IsNodeBelow heads trees old.nodes) old.turns → All (IsNodeBelow heads trees new.nodes) new.turns
+    → All (IsNodeBelow heads trees old.nodes) old.waiting → All (IsNodeBelow heads trees new.nodes) new.waiting
 parts_put heads trees at seg node old new first s path t put lt is part all =
     let e = (put.is first s path t is).1 in
-    All-permutation (IsNodeBelow heads trees new.nodes) (turn_of put.dist seg node (length old.nodes) ∷ old.turns) new.turns put.moved
-    (All-cons (IsNodeBelow heads trees new.nodes) (turn_of put.dist seg node (length old.nodes)) old.turns
+    All-permutation (IsNodeBelow heads trees new.nodes) (waiting_of put.dist seg node (length old.nodes) ∷ old.waiting) new.waiting put.moved
+    (All-cons (IsNodeBelow heads trees new.nodes) (waiting_of put.dist seg node (length old.nodes)) old.waiting
     (record {
       inside = lt;
       node = node;
@@ -86,12 +86,12 @@ parts_put heads trees at seg node old new first s path t put lt is part all =
       tree = k.tree;
       is = k.is;
       part = k.part;
-    }) old.turns all))
+    }) old.waiting all))
 
 pub parts_fork : {D : ℕ} (heads : List Head) (trees : ℕ → IndexTree) (at : List ℤ) (next : Waiting) (old mid new : Front D) (left right : NodeAt D)
     → (n : IsNodeBelow heads trees old.nodes next)
     → AreChildren left right next.first n.spot n.path n.tree → IsWaiting at next.segment left old mid → IsWaiting at next.segment right mid new
-    → All (IsNodeBelow heads trees old.nodes) old.turns → All (IsNodeBelow heads trees new.nodes) new.turns
+    → All (IsNodeBelow heads trees old.nodes) old.waiting → All (IsNodeBelow heads trees new.nodes) new.waiting
 parts_fork heads trees at next old mid new left right n kids put_left put_right all =
     let part = subst
     (λ t. (number : ℕ) (at : Spot) (len : ℕ) (own : Region) → IsLeafOf next.first n.spot t number at len own

@@ -25,7 +25,7 @@ use Rattle.nearest_query.specs.Segments.{live_items, live_in, least_dist2, is_wi
 use Rattle.nearest_query.specs.Fronts.{Front, IsWaiting, leaf_sum, sum_below}
 use Rattle.nearest_query.specs.Search.{World, IsNode, HasLeaves, HasRoots, head_at, live_at, nears_at, one_within, no_live}
 use Rattle.nearest_query.specs.Segments.{no_head}
-use Rattle.nearest_query.proofs.Turns.{span_split, span_one, waiting_sum}
+use Rattle.nearest_query.proofs.WaitingNodes.{span_split, span_one, waiting_sum}
 use Rattle.nearest_query.proofs.Steps.{nodes_put}
 use Rattle.segment_file.proofs.Subtrees.{some_leaf}
 
@@ -37,7 +37,7 @@ shaped_count n (Split d x l r) h = let a = shaped_count (n - n / 2) l h.1 in let
 
 pub root_nodes : {D : ℕ} (w : World) (at : List ℤ) (i : ℕ) (node : NodeAt D) (old new : Front D) → HasRoots D w → w.at ≡ at → i < length w.heads
     → ((root : Region) (t : IndexTree) → HasTree D (head_at w i).index root t → IsAt node 0 front root t)
-    → IsWaiting at i node old new → All (IsNode D w old.nodes) old.turns → All (IsNode D w new.nodes) new.turns
+    → IsWaiting at i node old new → All (IsNode D w old.nodes) old.waiting → All (IsNode D w new.nodes) new.waiting
 root_nodes w at i node old new roots at_is lt walk put all =
     let r = roots i lt in
     nodes_put w at i node old new 0 front r.root r.tree put at_is lt (walk r.root r.tree r.has) r.has.tree.root_cell.hi_dims r.has.tree.root_cell.lo_dims
@@ -59,7 +59,7 @@ one_segment w g i =
 root_adds : {D : ℕ} (w : World) (at : List ℤ) (i : ℕ) (node : NodeAt D) (old new : Front D) → HasRoots D w → i < length w.heads
     → ((root : Region) (t : IndexTree) → HasTree D (head_at w i).index root t → IsAt node 0 front root t)
     → IsWaiting at i node old new → (g : ℕ → ℕ → ℕ)
-    → sum_by (sum_below g) new.turns ≡ leaf_sum g i 0 (head_at w i).index.leaves + sum_by (sum_below g) old.turns
+    → sum_by (sum_below g) new.waiting ≡ leaf_sum g i 0 (head_at w i).index.leaves + sum_by (sum_below g) old.waiting
 root_adds w at i node old new roots lt walk put g =
     let r = roots i lt in
     let facts = put.is 0 front r.root r.tree (walk r.root r.tree r.has) in
@@ -72,8 +72,8 @@ root_adds w at i node old new roots lt walk put g =
 pub root_totals : {D : ℕ} (w : World) (at : List ℤ) (i : ℕ) (node : NodeAt D) (old new : Front D) → HasRoots D w → i < length w.heads
     → ((root : Region) (t : IndexTree) → HasTree D (head_at w i).index root t → IsAt node 0 front root t)
     → IsWaiting at i node old new → (g : ℕ → ℕ → ℕ)
-    → sum_by (sum_below g) old.turns ≡ sum_by (λ j. leaf_sum g j 0 (head_at w j).index.leaves) (range_with_len 0 i)
-    → sum_by (sum_below g) new.turns ≡ sum_by (λ j. leaf_sum g j 0 (head_at w j).index.leaves) (range_with_len 0 (i + 1))
+    → sum_by (sum_below g) old.waiting ≡ sum_by (λ j. leaf_sum g j 0 (head_at w j).index.leaves) (range_with_len 0 i)
+    → sum_by (sum_below g) new.waiting ≡ sum_by (λ j. leaf_sum g j 0 (head_at w j).index.leaves) (range_with_len 0 (i + 1))
 root_totals w at i node old new roots lt walk put g was =
     let a = root_adds w at i node old new roots lt walk put g in
     let b = one_segment w g i in
@@ -82,8 +82,8 @@ root_totals w at i node old new roots lt walk put g was =
 pub root_most : {D : ℕ} (w : World) (at : List ℤ) (i : ℕ) (node : NodeAt D) (old new : Front D) → HasRoots D w → i < length w.heads
     → ((root : Region) (t : IndexTree) → HasTree D (head_at w i).index root t → IsAt node 0 front root t)
     → IsWaiting at i node old new → (g : ℕ → ℕ → ℕ)
-    → sum_by (sum_below g) old.turns ≤ sum_by (λ j. leaf_sum g j 0 (head_at w j).index.leaves) (range_with_len 0 i)
-    → sum_by (sum_below g) new.turns ≤ sum_by (λ j. leaf_sum g j 0 (head_at w j).index.leaves) (range_with_len 0 (i + 1))
+    → sum_by (sum_below g) old.waiting ≤ sum_by (λ j. leaf_sum g j 0 (head_at w j).index.leaves) (range_with_len 0 i)
+    → sum_by (sum_below g) new.waiting ≤ sum_by (λ j. leaf_sum g j 0 (head_at w j).index.leaves) (range_with_len 0 (i + 1))
 root_most w at i node old new roots lt walk put g was =
     let a = root_adds w at i node old new roots lt walk put g in
     let b = one_segment w g i in
@@ -98,18 +98,18 @@ span_none h first (suc n) none =
     let c = span_none h (first + 1) n none in
     omega (arith, a, b, c)
 
-pub passed_totals : (w : World) (i : ℕ) (turns : List Waiting) (g : ℕ → ℕ → ℕ) → ((n : ℕ) → g i n ≡ 0)
-    → sum_by (sum_below g) turns ≡ sum_by (λ j. leaf_sum g j 0 (head_at w j).index.leaves) (range_with_len 0 i)
-    → sum_by (sum_below g) turns ≡ sum_by (λ j. leaf_sum g j 0 (head_at w j).index.leaves) (range_with_len 0 (i + 1))
-passed_totals w i turns g none was =
+pub passed_totals : (w : World) (i : ℕ) (waiting : List Waiting) (g : ℕ → ℕ → ℕ) → ((n : ℕ) → g i n ≡ 0)
+    → sum_by (sum_below g) waiting ≡ sum_by (λ j. leaf_sum g j 0 (head_at w j).index.leaves) (range_with_len 0 i)
+    → sum_by (sum_below g) waiting ≡ sum_by (λ j. leaf_sum g j 0 (head_at w j).index.leaves) (range_with_len 0 (i + 1))
+passed_totals w i waiting g none was =
     let a = span_none (g i) 0 (head_at w i).index.leaves none in
     let b = one_segment w g i in
     omega (arith, a, b, was)
 
-pub passed_most : (w : World) (i : ℕ) (turns : List Waiting) (g : ℕ → ℕ → ℕ)
-    → sum_by (sum_below g) turns ≤ sum_by (λ j. leaf_sum g j 0 (head_at w j).index.leaves) (range_with_len 0 i)
-    → sum_by (sum_below g) turns ≤ sum_by (λ j. leaf_sum g j 0 (head_at w j).index.leaves) (range_with_len 0 (i + 1))
-passed_most w i turns g was = let b = one_segment w g i in omega (arith, b, was)
+pub passed_most : (w : World) (i : ℕ) (waiting : List Waiting) (g : ℕ → ℕ → ℕ)
+    → sum_by (sum_below g) waiting ≤ sum_by (λ j. leaf_sum g j 0 (head_at w j).index.leaves) (range_with_len 0 i)
+    → sum_by (sum_below g) waiting ≤ sum_by (λ j. leaf_sum g j 0 (head_at w j).index.leaves) (range_with_len 0 (i + 1))
+passed_most w i waiting g was = let b = one_segment w g i in omega (arith, b, was)
 
 -- where no number is live there is no live entry
 never_live : (live : LiveSet) (n : ℕ) → live.live ≡ [] → is_live live n ≡ false

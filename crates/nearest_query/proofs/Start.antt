@@ -103,13 +103,13 @@ module _ (D : ℕ) (at : List ℤ) (heads : List Head) (lives : List LiveSet) (f
   pub roots : HasRoots D world
   roots i lt = (root_at i lt).root
 
-  pub start : (buffer : List Item) (turns : List Waiting) (nodes : List (NodeAt D)) (found : Candidates) → length lives ≡ length heads
+  pub start : (buffer : List Item) (waiting : List Waiting) (nodes : List (NodeAt D)) (found : Candidates) → length lives ≡ length heads
       → AreAdded [] (nears_of at buffer) found
-      → All (IsNode D world nodes) turns
+      → All (IsNode D world nodes) waiting
       → ((g : ℕ → ℕ → ℕ) → ((i n : ℕ) → (live_at world i).live ≡ [] → g i n ≡ 0)
-      → sum_by (sum_below g) turns ≡ sum_by (λ i. leaf_sum g i 0 (head_at world i).index.leaves) (range_with_len 0 (length heads)))
-      → IsSought D world (nears_of at (live_in contents heads lives ++ buffer)) turns nodes found
-  start buffer turns nodes found same added all totals = record {
+      → sum_by (sum_below g) waiting ≡ sum_by (λ i. leaf_sum g i 0 (head_at world i).index.leaves) (range_with_len 0 (length heads)))
+      → IsSought D world (nears_of at (live_in contents heads lives ++ buffer)) waiting nodes found
+  start buffer waiting nodes found same added all totals = record {
     seen = added.after;
     best = added.best;
     nodes_are = all;
@@ -125,10 +125,10 @@ module _ (D : ℕ) (at : List ℤ) (heads : List Head) (lives : List LiveSet) (f
         omega (arith, a, z, t, i, j);
   }
 
-  pub start_near : (bound : Option ℕ) (turns : List Waiting) (n : ℕ) → AreNearLeaves D at bound heads n
-      → ((g : ℕ → ℕ → ℕ) → sum_by (sum_below g) turns ≤ sum_by (λ i. leaf_sum g i 0 (head_at world i).index.leaves) (range_with_len 0 (length heads)))
-      → sum_by (sum_below (one_within world bound)) turns ≤ n
-  start_near bound turns n all most =
+  pub start_near : (bound : Option ℕ) (waiting : List Waiting) (n : ℕ) → AreNearLeaves D at bound heads n
+      → ((g : ℕ → ℕ → ℕ) → sum_by (sum_below g) waiting ≤ sum_by (λ i. leaf_sum g i 0 (head_at world i).index.leaves) (range_with_len 0 (length heads)))
+      → sum_by (sum_below (one_within world bound)) waiting ≤ n
+  start_near bound waiting n all most =
       let a = most (one_within world bound) in
       let b = near_in D at bound heads 0 (λ i. leaf_sum (one_within world bound) i 0 (head_at world i).index.leaves) n all
       (λ i lt.

@@ -29,18 +29,18 @@ use Rattle.nearest_query.specs.Best.{AreBest, AreAdded}
 use Rattle.nearest_query.specs.Segments.{live_items, least_dist2, is_within}
 use Rattle.nearest_query.specs.Fronts.{Front, IsWaiting, leaf_sum, sum_below}
 use Rattle.nearest_query.specs.Search.{World, IsNode, IsSought, HasLeaves, head_at, live_at, nears_at, one_within}
-use Rattle.nearest_query.proofs.Turns.{span_split, span_one, turn_of, waiting_sum, stands_new, stands_still}
+use Rattle.nearest_query.proofs.WaitingNodes.{span_split, span_one, waiting_of, waiting_sum, stands_new, stands_still}
 use Rattle.segment_file.proofs.Subtrees.{only_leaf, on_ok}
 
 -- a node that is put is one of its segment's tree, and those that waited stay so
 pub nodes_put : {D : ℕ} (w : World) (at : List ℤ) (seg : ℕ) (node : NodeAt D) (old new : Front D) (first : ℕ) (s : Spot) (path : Region) (t : IndexTree)
     → IsWaiting at seg node old new → w.at ≡ at
     → seg < length w.heads → IsAt node first s path t → length path.hi ≡ D → length path.lo ≡ D → HasCells D path t → HasLeaves D w seg first s t
-    → All (IsNode D w old.nodes) old.turns → All (IsNode D w new.nodes) new.turns
+    → All (IsNode D w old.nodes) old.waiting → All (IsNode D w new.nodes) new.waiting
 nodes_put {D} w at seg node old new first s path t put at_is inside is hi lo cells leaves all =
     let facts = put.is first s path t is in
-    All-permutation (IsNode D w new.nodes) (turn_of put.dist seg node (length old.nodes) ∷ old.turns) new.turns put.moved
-    (All-cons (IsNode D w new.nodes) (turn_of put.dist seg node (length old.nodes)) old.turns
+    All-permutation (IsNode D w new.nodes) (waiting_of put.dist seg node (length old.nodes) ∷ old.waiting) new.waiting put.moved
+    (All-cons (IsNode D w new.nodes) (waiting_of put.dist seg node (length old.nodes)) old.waiting
     (record {
       inside = inside;
       node = node;
@@ -73,7 +73,7 @@ nodes_put {D} w at seg node old new first s path t put at_is inside is hi lo cel
       cells = k.cells;
       leaves = k.leaves;
       dist = k.dist;
-    }) old.turns all))
+    }) old.waiting all))
 
 -- both children cover what the node does
 pub children_span : {D : ℕ} (w : World) (nodes : List (NodeAt D)) (next : Waiting) (n : IsNode D w nodes next) (left right : NodeAt D)
@@ -125,9 +125,9 @@ parts D w i first s path t dim x l r e hi lo cells leaves =
 -- after a fork both children of the node wait
 pub fork_step : {D : ℕ} (w : World) (all : List Near) (at : List ℤ) (next : Waiting) (old mid new : Front D) (left right : NodeAt D) (found : Candidates)
     → w.at ≡ at
-    → (s : IsSought D w all (next ∷ old.turns) old.nodes found)
+    → (s : IsSought D w all (next ∷ old.waiting) old.nodes found)
     → ((n : IsNode D w old.nodes next) → AreChildren left right next.first n.spot n.path n.tree × (left.leaves + right.leaves ≡ n.node.leaves))
-    → IsWaiting at next.segment left old mid → IsWaiting at next.segment right mid new → IsSought D w all new.turns new.nodes found
+    → IsWaiting at next.segment left old mid → IsWaiting at next.segment right mid new → IsSought D w all new.waiting new.nodes found
 fork_step {D} w all at next old mid new left right found at_is s kids_of put_left put_right = record {
   seen = s.seen;
   best = s.best;
@@ -135,11 +135,11 @@ fork_step {D} w all at next old mid new left right found at_is s kids_of put_lef
       (right_of n.path kids.dimension kids.value) kids.r put_right at_is n.inside kids.right_is
       pieces.right_hi pieces.right_lo pieces.right_cells pieces.right_leaves
       (nodes_put w at next.segment left old mid next.first n.spot (left_of n.path kids.dimension kids.value) kids.l put_left at_is n.inside kids.left_is
-      pieces.left_hi pieces.left_lo pieces.left_cells pieces.left_leaves (All-tail (IsNode D w old.nodes) next old.turns s.nodes_are));
+      pieces.left_hi pieces.left_lo pieces.left_cells pieces.left_leaves (All-tail (IsNode D w old.nodes) next old.waiting s.nodes_are));
   totals = λ f.
       let g : ℕ → ℕ → ℕ = λ i k. sum_by f (nears_at w i k) in
       let t = s.totals f in
-      let c = sum_by-cons (sum_below g) next old.turns in
+      let c = sum_by-cons (sum_below g) next old.waiting in
       let a = waiting_sum at next.segment left old mid put_left g in
       let b = waiting_sum at next.segment right mid new put_right g in
       let d = children_span w old.nodes next n left right kids refl g (kids_of n).1 (λ first sp path tr is. (put_left.is first sp path tr is).2) in
@@ -147,7 +147,7 @@ fork_step {D} w all at next old mid new left right found at_is s kids_of put_lef
 }
   where
     n : IsNode D w old.nodes next
-    n = All-head (IsNode D w old.nodes) next old.turns s.nodes_are
+    n = All-head (IsNode D w old.nodes) next old.waiting s.nodes_are
 
     kids : AreChildren left right next.first n.spot n.path n.tree
     kids = (kids_of n).0
@@ -163,34 +163,34 @@ Opens {D} at files head live node r old new =
     → AreBest seen old → OnOk r (AreAdded seen (nears_of at (live_items live items)) new)
 
 -- the entries of a leaf were seen now
-pub leaf_step : {D : ℕ} {T E : Type 0} (w : World) (all : List Near) (next : Waiting) (turns : List Waiting) (nodes : List (NodeAt D)) (node : NodeAt D)
+pub leaf_step : {D : ℕ} {T E : Type 0} (w : World) (all : List Near) (next : Waiting) (waiting : List Waiting) (nodes : List (NodeAt D)) (node : NodeAt D)
     (old new : Candidates) (r : Result T E)
-    → IsSought D w all (next ∷ turns) nodes old → node.leaves ≡ 1 → ((n : IsNode D w nodes next) → node ≡ n.node)
+    → IsSought D w all (next ∷ waiting) nodes old → node.leaves ≡ 1 → ((n : IsNode D w nodes next) → node ≡ n.node)
     → Opens w.at w.files (head_at w next.segment) (live_at w next.segment) node r old new
-    → OnOk r (IsSought D w all turns nodes new)
-leaf_step {D} w all next turns nodes node old new r s single node_is opens =
-    (only_leaf (λ t. IsAt node next.first n.spot n.path t → HasLeaves D w next.segment next.first n.spot t → OnOk r (IsSought D w all turns nodes new))
+    → OnOk r (IsSought D w all waiting nodes new)
+leaf_step {D} w all next waiting nodes node old new r s single node_is opens =
+    (only_leaf (λ t. IsAt node next.first n.spot n.path t → HasLeaves D w next.segment next.first n.spot t → OnOk r (IsSought D w all waiting nodes new))
     n.tree is_one
-    (λ len own is leaves. on_ok (AreAdded s.seen (nears_at w next.segment next.first) new) (IsSought D w all turns nodes new) r after
+    (λ len own is leaves. on_ok (AreAdded s.seen (nears_at w next.segment next.first) new) (IsSought D w all waiting nodes new) r after
     (opens next.first n.spot n.path len own (w.table next.segment next.first) s.seen is leaves.0 s.best)))
     (subst (λ m. IsAt m next.first n.spot n.path n.tree) (sym (node_is n)) n.is) n.leaves
   where
     n : IsNode D w nodes next
-    n = All-head (IsNode D w nodes) next turns s.nodes_are
+    n = All-head (IsNode D w nodes) next waiting s.nodes_are
 
     is_one : leaf_count n.tree ≡ 1
     is_one = sym n.node_count ∙ ap (λ m. m.leaves) (sym (node_is n)) ∙ single
 
-    after : AreAdded s.seen (nears_at w next.segment next.first) new → IsSought D w all turns nodes new
+    after : AreAdded s.seen (nears_at w next.segment next.first) new → IsSought D w all waiting nodes new
     after added = record {
       seen = added.after;
       best = added.best;
-      nodes_are = All-tail (IsNode D w nodes) next turns s.nodes_are;
+      nodes_are = All-tail (IsNode D w nodes) next waiting s.nodes_are;
       totals = λ f.
           let g : ℕ → ℕ → ℕ = λ i k. sum_by f (nears_at w i k) in
           let t = s.totals f in
           let a = added.totals f in
-          let c = sum_by-cons (sum_below g) next turns in
+          let c = sum_by-cons (sum_below g) next waiting in
           let e : sum_below g next ≡ g next.segment next.first =
           ap (λ k. leaf_sum g next.segment next.first k) (n.count ∙ is_one) ∙ span_one g next.segment next.first in
           omega (arith, t, a, c, e);
@@ -209,13 +209,13 @@ leaf_counts {D} w bound nodes next n single in' =
     → is_within bound (w.least next.segment next.first) ≡ true) n.tree (sym n.node_count ∙ single)
     (λ len own leaves dist. ap (is_within bound) (leaves.1 ∙ sym dist) ∙ in') n.leaves n.dist)
 
-pub sought_moved : {D : ℕ} (w : World) (all : List Near) (turns turns' : List Waiting) (nodes : List (NodeAt D)) (found : Candidates)
-    → IsPermutation turns turns' → IsSought D w all turns nodes found → IsSought D w all turns' nodes found
-sought_moved {D} w all turns turns' nodes found moved s = record {
+pub sought_moved : {D : ℕ} (w : World) (all : List Near) (waiting waiting' : List Waiting) (nodes : List (NodeAt D)) (found : Candidates)
+    → IsPermutation waiting waiting' → IsSought D w all waiting nodes found → IsSought D w all waiting' nodes found
+sought_moved {D} w all waiting waiting' nodes found moved s = record {
   seen = s.seen;
   best = s.best;
-  nodes_are = All-permutation (IsNode D w nodes) turns turns' moved s.nodes_are;
-  totals = λ f. let t = s.totals f in let p = sum_by-IsPermutation (sum_below (λ i n. sum_by f (nears_at w i n))) turns turns' moved in omega (arith, t, p);
+  nodes_are = All-permutation (IsNode D w nodes) waiting waiting' moved s.nodes_are;
+  totals = λ f. let t = s.totals f in let p = sum_by-IsPermutation (sum_below (λ i n. sum_by f (nears_at w i n))) waiting waiting' moved in omega (arith, t, p);
 }
 
 -- what opening a leaf promises of damages

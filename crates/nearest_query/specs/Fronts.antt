@@ -12,17 +12,17 @@ use Rattle.inner_pack.specs.declared.node.NodeAt.{NodeAt}
 use Rattle.nearest_query.specs.declared.frontier.Waiting.{Waiting}
 use Rattle.nearest_query.specs.Segments.{least_dist2}
 
--- the order of turns, in which the nearer one is the greater, as the first of a heap
+-- the order of nodes that wait, in which the nearer one is the greater, as the first of a heap
 abbrev pub wait_cmp : Waiting → Waiting → Ordering
 wait_cmp a b = nat_cmp b.dist2.0 a.dist2.0
 
--- none of the turns is nearer
-abbrev pub IsNearestTurn : Waiting → List Waiting → Type 0
-IsNearestTurn t turns = All (λ u. t.dist2.0 ≤ u.dist2.0) turns
+-- none of those that wait is nearer
+abbrev pub IsNearestWaiting : Waiting → List Waiting → Type 0
+IsNearestWaiting t waiting = All (λ u. t.dist2.0 ≤ u.dist2.0) waiting
 
--- the turns of the nodes that wait, in no order, and all nodes that ever waited, told by their places
+-- the nodes that wait, in no order, and all nodes that ever waited, told by their places
 pub record Front (D : ℕ) : Type 0 where
-  pub turns : List Waiting
+  pub waiting : List Waiting
   pub nodes : List (NodeAt D)
 
 -- the sum of g over so many leaves of segment i
@@ -48,6 +48,6 @@ pub record IsWaiting {D : ℕ} (at : List ℤ) (segment : ℕ) (node : NodeAt D)
         leaves = node.leaves;
         place = length
             old.nodes;
-      } ∷ old.turns) new.turns
+      } ∷ old.waiting) new.waiting
   pub is : (first : ℕ) (s : Spot) (path : Region) (t : IndexTree) → IsAt node first s path t
       → (dist ≡ least_dist2 at (cell_of path t)) × (node.first ≡ first) × (node.leaves ≡ leaf_count t)

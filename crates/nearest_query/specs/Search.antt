@@ -99,13 +99,13 @@ pub record IsNode (D : ℕ) (w : World) (nodes : List (NodeAt D)) (t : Waiting) 
   pub dist : t.dist2.0 ≡ least_dist2 w.at (cell_of path tree)
 
 -- the entries seen and those below the nodes that wait are all; of those seen the candidates are the nearest
-pub record IsSought (D : ℕ) (w : World) (all : List Near) (turns : List Waiting) (nodes : List (NodeAt D))
+pub record IsSought (D : ℕ) (w : World) (all : List Near) (waiting : List Waiting) (nodes : List (NodeAt D))
     (found : Candidates) : Type 0 where
   pub seen : List Near
   pub best : AreBest seen found
-  pub nodes_are : All (IsNode D w nodes) turns
+  pub nodes_are : All (IsNode D w nodes) waiting
   pub totals : (f : Near → ℕ)
-      → sum_by f seen + sum_by (sum_below (λ i n. sum_by f (nears_at w i n))) turns ≡ sum_by f all
+      → sum_by f seen + sum_by (sum_below (λ i n. sum_by f (nears_at w i n))) waiting ≡ sum_by f all
 
 -- a leaf counts where it is within the bound
 abbrev pub one_within : World → Option ℕ → ℕ → ℕ → ℕ

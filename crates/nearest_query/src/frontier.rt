@@ -45,7 +45,7 @@ impl<'a, const D: usize> Model for Frontier<'a, D> {
 
     ghost Value = { Front D };
 
-    ghost view = { λ f. record { turns = f.queue; nodes = f.nodes.items } };
+    ghost view = { λ f. record { waiting = f.queue; nodes = f.nodes.items } };
 }
 
 impl<'a, const D: usize> Frontier<'a, D> {
@@ -54,7 +54,7 @@ impl<'a, const D: usize> Frontier<'a, D> {
     /// A frontier in which no node waits.
     pub fn new(alloc: Global) -> Frontier<'a, D>
         requires { D ≤ 8 }
-        ensures { result ≡ record { turns = []; nodes = [] } }
+        ensures { result ≡ record { waiting = []; nodes = [] } }
     {
         Frontier {
             queue: Queue::new(alloc),
@@ -73,8 +73,8 @@ impl<'a, const D: usize> Frontier<'a, D> {
         ensures counted { (first : ℕ) (s : Spot) (path : Region) (t : IndexTree) → IsAt node.now first s path t
             → node.now.leaves ≡ leaf_count t }
         ensures most { (g : ℕ → ℕ → ℕ)
-            → sum_by (sum_below g) self.new.turns ≤ leaf_sum g segment node.now.first node.now.leaves + sum_by
-            (sum_below g) self.old.turns }
+            → sum_by (sum_below g) self.new.waiting ≤ leaf_sum g segment node.now.first node.now.leaves + sum_by
+            (sum_below g) self.old.waiting }
     {
         let waiting = Waiting {
             dist2: Reverse(node.cell().least_dist2(at)),
@@ -90,9 +90,9 @@ impl<'a, const D: usize> Frontier<'a, D> {
 
     /// Takes out a node that none is nearer than.
     pub fn pop(&mut self) -> Option<Waiting>
-        ensures some { IfSome result (λ t. IsPermutation self.old.turns (t ∷ self.new.turns)) }
-        ensures least { IfSome result (λ t. All (λ u. t.dist2.0 ≤ u.dist2.0) self.new.turns) }
-        ensures none { IfNone result (self.old.turns ≡ []) }
+        ensures some { IfSome result (λ t. IsPermutation self.old.waiting (t ∷ self.new.waiting)) }
+        ensures least { IfSome result (λ t. All (λ u. t.dist2.0 ≤ u.dist2.0) self.new.waiting) }
+        ensures none { IfNone result (self.old.waiting ≡ []) }
         ensures nodes { self.new.nodes ≡ self.old.nodes }
     {
         self.queue.pop()

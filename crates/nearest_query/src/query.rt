@@ -105,22 +105,22 @@ fn push_roots<'a, const D: usize>(
     lives: &[LiveBits],
     at: &Point<D>,
 ) -> Result<(), AllocError>
-    requires none { frontier.old.turns ≡ [] }
+    requires none { frontier.old.waiting ≡ [] }
     requires lives { length lives.now ≡ length heads.now }
-    ensures inside { OnOk result (All (IsInside (length heads.now) frontier.new.nodes) frontier.new.turns) }
+    ensures inside { OnOk result (All (IsInside (length heads.now) frontier.new.nodes) frontier.new.waiting) }
     ensures parts { (trees : ℕ → IndexTree) → HaveTrees D heads.now trees
-        → OnOk result (All (IsNodeBelow heads.now trees frontier.new.nodes) frontier.new.turns) }
+        → OnOk result (All (IsNodeBelow heads.now trees frontier.new.nodes) frontier.new.waiting) }
     ensures nodes { (w : World) → HasRoots D w → w.heads ≡ heads.now → w.at ≡ at.now.c
-        → OnOk result (All (IsNode D w frontier.new.nodes) frontier.new.turns) }
+        → OnOk result (All (IsNode D w frontier.new.nodes) frontier.new.waiting) }
     // together they have all that a segment with a live number has, and no more than all segments have
     ensures totals { (w : World) → HasRoots D w → w.heads ≡ heads.now → w.lives ≡ lives.now → (g : ℕ → ℕ → ℕ)
         → ((i n : ℕ) → (live_at w i).live ≡ [] → g i n ≡ 0)
         → OnOk result
-        (sum_by (sum_below g) frontier.new.turns ≡ sum_by (λ i. leaf_sum g i 0 (head_at w i).index.leaves)
+        (sum_by (sum_below g) frontier.new.waiting ≡ sum_by (λ i. leaf_sum g i 0 (head_at w i).index.leaves)
         (range_with_len 0 (length heads.now))) }
     ensures most { (w : World) → HasRoots D w → w.heads ≡ heads.now → (g : ℕ → ℕ → ℕ)
         → OnOk result
-        (sum_by (sum_below g) frontier.new.turns ≤ sum_by (λ i. leaf_sum g i 0 (head_at w i).index.leaves)
+        (sum_by (sum_below g) frontier.new.waiting ≤ sum_by (λ i. leaf_sum g i 0 (head_at w i).index.leaves)
         (range_with_len 0 (length heads.now))) }
 {
     for i in 0..heads.len() {

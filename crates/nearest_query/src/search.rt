@@ -42,10 +42,10 @@ fn fork<'a, const D: usize>(
         × IsWaiting at.now.c segment right.now mid frontier.new) }
     ensures counted { (first : ℕ) (s : Spot) (path : Region) (t : IndexTree) → IsAt left.now first s path t
         → left.now.leaves ≡ leaf_count t }
-    ensures most { (g : ℕ → ℕ → ℕ) → sum_by (sum_below g) frontier.new.turns
+    ensures most { (g : ℕ → ℕ → ℕ) → sum_by (sum_below g) frontier.new.waiting
         ≤ leaf_sum g segment left.now.first left.now.leaves + leaf_sum g segment right.now.first right.now.leaves +
         sum_by
-        (sum_below g) frontier.old.turns }
+        (sum_below g) frontier.old.waiting }
 {
     frontier.push(segment, left, at)?;
     frontier.push(segment, right, at)?;
@@ -72,26 +72,26 @@ fn open<'a, const D: usize, F: Pages>(
     ensures reading { ReadsMarking F.told (HasId heads.now) (F.files folder.old) (F.files folder.new)
         cache.old cache.new (F.faults folder.old) (F.faults folder.new) result }
     ensures room { found.new.many.room ≡ found.old.many.room }
-    ensures work { OnOk result (sum_by work frontier.new.turns < work next + sum_by work frontier.old.turns) }
-    ensures inside { All (IsInside (length heads.now) frontier.old.nodes) frontier.old.turns
-        → OnOk result (All (IsInside (length heads.now) frontier.new.nodes) frontier.new.turns) }
+    ensures work { OnOk result (sum_by work frontier.new.waiting < work next + sum_by work frontier.old.waiting) }
+    ensures inside { All (IsInside (length heads.now) frontier.old.nodes) frontier.old.waiting
+        → OnOk result (All (IsInside (length heads.now) frontier.new.nodes) frontier.new.waiting) }
     ensures sought { IsTrue F.told → Agrees (F.files folder.old) cache.old → (w : World) (all : List Near)
         → IsOver w at.now.c heads.now lives.now (F.files folder.old)
-        → IsSought D w all (next ∷ frontier.old.turns) frontier.old.nodes found.old
-        → OnOk result (IsSought D w all frontier.new.turns frontier.new.nodes found.new) }
+        → IsSought D w all (next ∷ frontier.old.waiting) frontier.old.nodes found.old
+        → OnOk result (IsSought D w all frontier.new.waiting frontier.new.nodes found.new) }
     ensures reads { (w : World) (bound : Option ℕ) → IsNode D w frontier.old.nodes next → w.at ≡ at.now.c
         → is_within bound next.dist2.0 ≡ true
-        → F.reads folder.new + sum_by (sum_below (one_within w bound)) frontier.new.turns
+        → F.reads folder.new + sum_by (sum_below (one_within w bound)) frontier.new.waiting
         ≤ F.reads folder.old + sum_below (one_within w bound) next + sum_by
-        (sum_below (one_within w bound)) frontier.old.turns }
+        (sum_below (one_within w bound)) frontier.old.waiting }
     ensures kept { (trees : ℕ → IndexTree) → IsNodeBelow heads.now trees frontier.old.nodes next
         → AreLeavesKept cache.old heads.now trees
         → ReadsNothing (F.reads folder.old) (F.reads folder.new) cache.old cache.new result }
     ensures damage { IsTrue F.told → Agrees (F.files folder.old) cache.old
         → OnDamage result (IsLeafDamageOf (F.files folder.old)) }
     ensures parts { (trees : ℕ → IndexTree)
-        → All (IsNodeBelow heads.now trees frontier.old.nodes) (next ∷ frontier.old.turns)
-        → OnOk result (All (IsNodeBelow heads.now trees frontier.new.nodes) frontier.new.turns) }
+        → All (IsNodeBelow heads.now trees frontier.old.nodes) (next ∷ frontier.old.waiting)
+        → OnOk result (All (IsNodeBelow heads.now trees frontier.new.nodes) frontier.new.waiting) }
     ensures shown { (trees : ℕ → IndexTree) → IsNodeBelow heads.now trees frontier.old.nodes next
         → OnDamage result (IsSegmentDamage D heads.now trees) }
     ensures whole { IsTrue F.told → Agrees (F.files folder.old) cache.old → (w : World)
@@ -128,29 +128,29 @@ pub fn search<'a, const D: usize, F: Pages>(
 ) -> Result<(), PageFault>
     requires lives { length lives.now ≡ length heads.now }
     requires passes { IsTrue watched → MayPass D cache.old heads.now lives.now }
-    requires inside { All (IsInside (length heads.now) frontier.old.nodes) frontier.old.turns }
+    requires inside { All (IsInside (length heads.now) frontier.old.nodes) frontier.old.waiting }
     ensures marks { MarksDead D watched heads.now lives.now cache.old cache.new }
     ensures reading { ReadsMarking F.told (HasId heads.now) (F.files folder.old) (F.files folder.new)
         cache.old cache.new (F.faults folder.old) (F.faults folder.new) result }
     ensures answer { IsTrue F.told → Agrees (F.files folder.old) cache.old → (w : World) (all : List Near)
         → IsOver w at.now.c heads.now lives.now (F.files folder.old)
-        → IsSought D w all frontier.old.turns frontier.old.nodes found.old
+        → IsSought D w all frontier.old.waiting frontier.old.nodes found.old
         → OnOk result (IsNearest found.old.many.room all (found_of found.new)) }
     ensures reads { IsTrue F.told → Agrees (F.files folder.old) cache.old → (w : World) (all nearest : List Near)
         → IsOver w at.now.c heads.now lives.now (F.files folder.old)
-        → IsSought D w all frontier.old.turns frontier.old.nodes found.old → IsNearest found.old.many.room all nearest
+        → IsSought D w all frontier.old.waiting frontier.old.nodes found.old → IsNearest found.old.many.room all nearest
         → F.reads folder.new ≤ F.reads folder.old + sum_by
-        (sum_below (one_within w (bound_of found.old.many.room nearest))) frontier.old.turns }
-    ensures kept { (trees : ℕ → IndexTree) → All (IsNodeBelow heads.now trees frontier.old.nodes) frontier.old.turns
+        (sum_below (one_within w (bound_of found.old.many.room nearest))) frontier.old.waiting }
+    ensures kept { (trees : ℕ → IndexTree) → All (IsNodeBelow heads.now trees frontier.old.nodes) frontier.old.waiting
         → AreLeavesKept cache.old heads.now trees
         → ReadsNothing (F.reads folder.old) (F.reads folder.new) cache.old cache.new result }
     ensures damage { IsTrue F.told → Agrees (F.files folder.old) cache.old
         → OnDamage result (IsLeafDamageOf (F.files folder.old)) }
-    ensures shown { (trees : ℕ → IndexTree) → All (IsNodeBelow heads.now trees frontier.old.nodes) frontier.old.turns
+    ensures shown { (trees : ℕ → IndexTree) → All (IsNodeBelow heads.now trees frontier.old.nodes) frontier.old.waiting
         → OnDamage result (IsSegmentDamage D heads.now trees) }
     ensures whole { IsTrue F.told → Agrees (F.files folder.old) cache.old → (w : World) (all : List Near)
         → IsOver w at.now.c heads.now lives.now (F.files folder.old)
-        → IsSought D w all frontier.old.turns frontier.old.nodes found.old → NotDamaged result }
+        → IsSought D w all frontier.old.waiting frontier.old.nodes found.old → NotDamaged result }
 {
     while let Some(next) = frontier.pop() {
         if found.ends_before(next.dist2.0) {

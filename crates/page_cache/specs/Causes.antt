@@ -10,7 +10,7 @@ use Rattle.page_cache.specs.declared.faults.PageFault.TheVariants as page
 -- faults are never forgotten; a call that is done raised none; a call that answers Failed raised some
 pub record HasPageCause {T : Type 0} (before now : ℕ) (result : Result T PageFault) : Type 0 where
   pub later : before ≤ now
-  pub fine : OnOk result (now ≡ before)
+  pub on_ok : OnOk result (now ≡ before)
   pub failed : IsErrOf result page.Failed → Rose before now
 
 -- a call that answers anything but Failed raised none

@@ -64,9 +64,9 @@ fn take_step<R: Threads + Sync + Abort>(
             folder.plan(fails.to_vec(alloc)?, None);
             call(rt, alloc, folder, words, lines, end)
         }
-        Step::Put(name, body) => put(alloc, folder, *name, body),
-        Step::Take(name, script) => take(rt, alloc, folder, *name, script),
-        Step::Turn(name) => turn(alloc, folder, *name),
+        Step::Put(name, body) => put_one_page(alloc, folder, *name, body),
+        Step::Take(name, script) => put_as_left(rt, alloc, folder, *name, script),
+        Step::Turn(name) => flip_first_bit(alloc, folder, *name),
         Step::Lose(name) => lose(folder, name),
         Step::Begins(name, bytes) => begins(rt, folder, name, bytes),
         Step::There(some, none) => check_there(rt, folder, some, none),
@@ -103,7 +103,12 @@ fn call<R: Threads + Sync + Abort>(
     Ok(())
 }
 
-fn put(alloc: Global, folder: &mut MemFolder, name: FileName, body: &[u8]) -> Result<(), Fail> {
+fn put_one_page(
+    alloc: Global,
+    folder: &mut MemFolder,
+    name: FileName,
+    body: &[u8],
+) -> Result<(), Fail> {
     if body.len() > 4064 {
         return Err("more than a page".into());
     }
@@ -111,7 +116,7 @@ fn put(alloc: Global, folder: &mut MemFolder, name: FileName, body: &[u8]) -> Re
     Ok(folder.put(name, file)?)
 }
 
-fn take<R: Threads + Sync>(
+fn put_as_left<R: Threads + Sync>(
     rt: &R,
     alloc: Global,
     folder: &mut MemFolder,
@@ -128,7 +133,7 @@ fn take<R: Threads + Sync>(
     Ok(folder.put(name, file)?)
 }
 
-fn turn(alloc: Global, folder: &mut MemFolder, name: FileName) -> Result<(), Fail> {
+fn flip_first_bit(alloc: Global, folder: &mut MemFolder, name: FileName) -> Result<(), Fail> {
     let mut file = folder.get(&name).ok_or("no file")?.to_vec(alloc)?;
     if let Some(first) = file.first_mut() {
         *first ^= 128;

@@ -70,10 +70,10 @@ cause_from f0 f1 f2 k0 k1 k2 result f k h = record {
 
 -- a folder that wasn't asked counted no fault
 pub page_none : {T : Type 0} (f : ℕ) (x : T) → HasPageCause f f (Ok x)
-page_none f x = record { later = omega arith; fine = refl; failed = λ e. absurd cc }
+page_none f x = record { later = omega arith; on_ok = refl; failed = λ e. absurd cc }
 
 pub page_memory : {T : Type 0} (f : ℕ) → HasPageCause {T = T} f f (Err page.Memory)
-page_memory f = record { later = omega arith; fine = tt; failed = λ e. absurd cc }
+page_memory f = record { later = omega arith; on_ok = tt; failed = λ e. absurd cc }
 
 pub by_fault : {S T : Type 0} (f0 f1 k : ℕ) (fault : PageFault) → HasPageCause {T = S} f0 f1 (Err fault) → HasStopCause {T = T} f0 f1 k k (Err (stop_of fault))
 by_fault f0 f1 k page.Failed h = record { folder_later = h.later; sink_later = omega arith; folder = λ e. h.failed refl; sink = λ e. absurd cc }

@@ -170,14 +170,14 @@ module _ {told : Type 0} (lang : Language) (from : ScriptPlace) (files : Files) 
 
 pub page_then : {S T : Type 0} (f0 f1 : ℕ) (x : S) (result : Result T PageFault) → HasPageCause f0 f1 (Ok x) → OnErr result (IsErrOf result page.Memory)
     → HasPageCause f0 f1 result
-page_then f0 f1 x (Ok y) h only = record { later = h.later; fine = h.fine; failed = λ e. absurd cc }
-page_then f0 f1 x (Err page.Memory) h only = record { later = h.later; fine = tt; failed = λ e. absurd cc }
+page_then f0 f1 x (Ok y) h only = record { later = h.later; on_ok = h.on_ok; failed = λ e. absurd cc }
+page_then f0 f1 x (Err page.Memory) h only = record { later = h.later; on_ok = tt; failed = λ e. absurd cc }
 page_then {T = T} f0 f1 x (Err page.Failed) h only = let e : IsErrOf {T = T} (Err page.Failed) page.Memory = only in absurd cc
 page_then {T = T} f0 f1 x (Err (page.Damaged damage)) h only = let e : IsErrOf {T = T} (Err (page.Damaged damage)) page.Memory = only in absurd cc
 
 pub page_same : {S T : Type 0} (f0 f1 : ℕ) (fault : PageFault) → HasPageCause {T = S} f0 f1 (Err fault) → HasPageCause {T = T} f0 f1 (Err fault)
 page_same f0 f1 fault h =
-    record { later = h.later; fine = tt; failed = λ e. let same : fault ≡ page.Failed = cc in h.failed (ap (λ (f : PageFault). Err f) same) }
+    record { later = h.later; on_ok = tt; failed = λ e. let same : fault ≡ page.Failed = cc in h.failed (ap (λ (f : PageFault). Err f) same) }
 
 pub page_still : {T : Type 0} (f : ℕ) (result : Result T PageFault) → OnErr result (IsErrOf result page.Memory) → HasPageCause f f result
 page_still f (Ok y) only = page_none f y

@@ -92,8 +92,8 @@ stays_then a b c first second = record {
 
 -- of a call that changes the cache alone
 pub stays_cached : (s t : SetData) → StaysButCache s t → StaysAlone s t
-stays_cached s t alone =
-    subst (StaysAlone s) (sym alone.is) (record { leaf_size = refl; next = refl; points_given = refl; snapshots = refl; begun = refl; live = λ n h. h })
+stays_cached s t rest =
+    subst (StaysAlone s) (sym rest.is) (record { leaf_size = refl; next = refl; points_given = refl; snapshots = refl; begun = refl; live = λ n h. h })
 
 -- ---- the segments
 
@@ -117,7 +117,7 @@ pub follows_same : (names : NameList) (old new : List LiveSegment) → new ≡ o
 follows_same names old new same = subst (Follows names old) (sym same) (follows_none names old)
 
 pub follows_cached : (s t : SetData) → StaysButCache s t → Follows s.names s.parts t.parts
-follows_cached s t alone = follows_same s.names s.parts t.parts (ap (λ (u : SetData). u.parts) alone.is)
+follows_cached s t rest = follows_same s.names s.parts t.parts (ap (λ (u : SetData). u.parts) rest.is)
 
 pub follows_then : (m n : NameList) (a b c : List LiveSegment) → ((name : FileName) → is_named m.names name ≡ true → is_named n.names name ≡ true)
     → Follows m a b

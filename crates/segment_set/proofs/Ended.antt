@@ -21,7 +21,7 @@ use Rattle.segment_set.proofs.Replaced.{one_if, place_in, some_place, length_par
 use Rattle.segment_set.proofs.Weller.{place_built, length_replaced}
 use Rattle.segment_set.proofs.Moved.{Moves, moved, well_moved, stays_moved, follows_moved, canon_moved, seen_moved}
 use Rattle.segment_set.proofs.Steps.{live_number}
-use Rattle.segment_set.proofs.Spilled.{some_is}
+use Rattle.segment_set.proofs.WrittenBuffer.{some_is}
 
 -- either no number is live in what was built, or it is what is living
 pub living_cases : (n : NewSegmentData) → ((n.live.live ≡ []) × (living (Some n) ≡ None)) ⊎ ((1 ≤ length n.live.live) × (living (Some n) ≡ Some n))

@@ -20,9 +20,9 @@ added_damage T U P page.Memory h = tt
 -- and what it says of the folder
 pub added_cause : {T U : Type 0} (before now : ℕ) (e : PageFault) → HasPageCause {T = T} before now (Err e)
     → HasCauseOf {T = U} add.Failed before now (Err (add_fault e))
-added_cause before now page.Failed h = record { later = h.later; fine = tt; failed = λ is. h.failed refl }
-added_cause before now (page.Damaged d) h = record { later = h.later; fine = tt; failed = λ is. absurd cc }
-added_cause before now page.Memory h = record { later = h.later; fine = tt; failed = λ is. absurd cc }
+added_cause before now page.Failed h = record { later = h.later; on_ok = tt; failed = λ is. h.failed refl }
+added_cause before now (page.Damaged d) h = record { later = h.later; on_ok = tt; failed = λ is. absurd cc }
+added_cause before now page.Memory h = record { later = h.later; on_ok = tt; failed = λ is. absurd cc }
 
 -- and never that the set is full
 pub never_full : {T : Type 0} (e : PageFault) → IsErrOf {T = T} (Err (add_fault e)) add.Full → ⊥
@@ -37,15 +37,15 @@ begun_damage T U P page.Memory h = tt
 
 pub begun_cause : {T U : Type 0} (before now : ℕ) (e : PageFault) → HasPageCause {T = T} before now (Err e)
     → HasCauseOf {T = U} begin.Failed before now (Err (begin_fault e))
-begun_cause before now page.Failed h = record { later = h.later; fine = tt; failed = λ is. h.failed refl }
-begun_cause before now (page.Damaged d) h = record { later = h.later; fine = tt; failed = λ is. absurd cc }
-begun_cause before now page.Memory h = record { later = h.later; fine = tt; failed = λ is. absurd cc }
+begun_cause before now page.Failed h = record { later = h.later; on_ok = tt; failed = λ is. h.failed refl }
+begun_cause before now (page.Damaged d) h = record { later = h.later; on_ok = tt; failed = λ is. absurd cc }
+begun_cause before now page.Memory h = record { later = h.later; on_ok = tt; failed = λ is. absurd cc }
 
 pub begun_memory : {T : Type 0} (before now : ℕ) → now ≡ before → HasCauseOf {T = T} begin.Failed before now (Err begin.Memory)
-begun_memory before now same = record { later = omega (arith, same); fine = tt; failed = λ is. absurd cc }
+begun_memory before now same = record { later = omega (arith, same); on_ok = tt; failed = λ is. absurd cc }
 
 pub ended_cause : {T U : Type 0} (before now : ℕ) (e : PageFault) → HasPageCause {T = T} before now (Err e)
     → HasCauseOf {T = U} end.Failed before now (Err (end_fault e))
-ended_cause before now page.Failed h = record { later = h.later; fine = tt; failed = λ is. h.failed refl }
-ended_cause before now (page.Damaged d) h = record { later = h.later; fine = tt; failed = λ is. absurd cc }
-ended_cause before now page.Memory h = record { later = h.later; fine = tt; failed = λ is. absurd cc }
+ended_cause before now page.Failed h = record { later = h.later; on_ok = tt; failed = λ is. h.failed refl }
+ended_cause before now (page.Damaged d) h = record { later = h.later; on_ok = tt; failed = λ is. absurd cc }
+ended_cause before now page.Memory h = record { later = h.later; on_ok = tt; failed = λ is. absurd cc }

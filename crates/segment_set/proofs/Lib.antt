@@ -20,7 +20,7 @@ pub mod Weller
 pub mod Moved
 pub mod Fresh
 pub mod Steps
-pub mod Spilled
+pub mod WrittenBuffer
 pub mod Ended
 pub mod Causes
 pub mod Places

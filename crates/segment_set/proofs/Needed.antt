@@ -99,7 +99,7 @@ not_needed s c name un need = ⊎_elim (λ listed. un.listed listed) (λ shown. 
 -- ---- sets that differ in names and cache alone need the same
 
 pub needed_still : (s t : SetData) (c : CommitData) (m : FileName) → StaysButFiles s t → IsNeeded s c m → IsNeeded t c m
-needed_still s t c m alone need = subst (λ (u : SetData). IsNeeded u c m) (sym alone.is) need
+needed_still s t c m rest need = subst (λ (u : SetData). IsNeeded u c m) (sym rest.is) need
 
 pub needed_before : (s t : SetData) (c : CommitData) (m : FileName) → StaysButFiles s t → IsNeeded t c m → IsNeeded s c m
-needed_before s t c m alone need = subst (λ (u : SetData). IsNeeded u c m) alone.is need
+needed_before s t c m rest need = subst (λ (u : SetData). IsNeeded u c m) rest.is need

@@ -32,9 +32,9 @@ same_damage P f (Ok x) h shows = absurd h
 same_damage P f (Err e) h shows = subst (FaultShows P) (sym h) shows
 
 other_value : {T U : Type 0} (before now : ℕ) (f : PageFault) → HasPageCause {T = U} before now (Err f) → HasPageCause {T = T} before now (Err f)
-other_value before now page.Failed cause = record { later = cause.later; fine = tt; failed = λ is. cause.failed refl }
-other_value before now (page.Damaged d) cause = record { later = cause.later; fine = tt; failed = λ is. absurd cc }
-other_value before now page.Memory cause = record { later = cause.later; fine = tt; failed = λ is. absurd cc }
+other_value before now page.Failed cause = record { later = cause.later; on_ok = tt; failed = λ is. cause.failed refl }
+other_value before now (page.Damaged d) cause = record { later = cause.later; on_ok = tt; failed = λ is. absurd cc }
+other_value before now page.Memory cause = record { later = cause.later; on_ok = tt; failed = λ is. absurd cc }
 
 pub same_cause : {T U : Type 0} (before now : ℕ) (f : PageFault) (r : Result T PageFault) → IsErrAnd r (λ y. y ≡ f) → HasPageCause {T = U} before now (Err f)
     → HasPageCause before now r
@@ -78,14 +78,14 @@ pub add_memory_cause : {T : Type 0} (before now : ℕ) (r : Result T AddFault) �
 add_memory_cause before now (Ok x) h same = absurd h
 add_memory_cause {T} before now (Err e) h same =
     subst (λ (y : AddFault). HasCauseOf {T = T} add.Failed before now (Err y)) (sym h)
-    (record { later = omega (arith, same); fine = tt; failed = λ is. absurd cc })
+    (record { later = omega (arith, same); on_ok = tt; failed = λ is. absurd cc })
 
 pub add_memory_not_full : {T : Type 0} (r : Result T AddFault) → IsErrAnd r (λ y. y ≡ add.Memory) → IsErrOf r add.Full → ⊥
 add_memory_not_full (Ok x) h is = absurd h
 add_memory_not_full (Err e) h is = cc
 
 pub full_cause : {T : Type 0} (n : ℕ) → HasCauseOf {T = T} add.Failed n n (Err add.Full)
-full_cause n = record { later = omega arith; fine = tt; failed = λ is. absurd cc }
+full_cause n = record { later = omega arith; on_ok = tt; failed = λ is. absurd cc }
 
 pub added_caused : {T : Type 0} (before now : ℕ) (x : T) → now ≡ before → HasCauseOf add.Failed before now (Ok x)
-added_caused before now x same = record { later = omega (arith, same); fine = same; failed = λ is. absurd cc }
+added_caused before now x same = record { later = omega (arith, same); on_ok = same; failed = λ is. absurd cc }

@@ -93,19 +93,19 @@ if_ok_both (Err e) P Q R more p q = tt
 
 pub well_saved : (D : ℕ) (told : Type 0) (before after : Files) (s t : SetData) → IsWell D s → KeepsNamed told s.names t.names before after → StaysButSaved s t
     → IsWell D t
-well_saved D told before after s t well keeps alone = subst (IsWell D) (sym is) (well_names D told before after s t.names t.saved well keeps)
+well_saved D told before after s t well keeps rest = subst (IsWell D) (sym is) (well_names D told before after s t.names t.saved well keeps)
   where
     is : t ≡ record s { names = t.names; saved = t.saved }
     is = λ i. record {
-      leaf_size = alone.leaf_size i;
-      next = alone.next i;
-      points_given = alone.points_given i;
+      leaf_size = rest.leaf_size i;
+      next = rest.next i;
+      points_given = rest.points_given i;
       names = t.names;
-      parts = alone.parts i;
-      buffer = alone.buffer i;
-      snapshots = alone.snapshots i;
-      begun = alone.begun i;
-      cache = alone.cache i;
+      parts = rest.parts i;
+      buffer = rest.buffer i;
+      snapshots = rest.snapshots i;
+      begun = rest.begun i;
+      cache = rest.cache i;
       saved = t.saved;
     }
 
@@ -124,23 +124,23 @@ but_saved s v same names saved = record {
 -- what is seen stays where only names join, files are written under them, and a commit is kept
 pub sees_saved : (D : ℕ) (told : Type 0) (before after : Files) (s t : SetData) (i : Index) → told → IsWell D s → KeepsNamed told s.names t.names before after
     → StaysButSaved s t → Sees D before s i → Sees D after t i
-sees_saved D told before after s t i to well keeps alone seen =
+sees_saved D told before after s t i to well keeps rest seen =
     let there = sees_alike D before after s i well told to t.names keeps seen in
-    sees_like D after s t i (record { leaf_size = alone.leaf_size; next = alone.next; points_given = alone.points_given; snapshots = alone.snapshots })
-    alone.parts alone.buffer
-    alone.begun
-    (subst (Agrees after) (sym alone.cache) there.stands.agrees) there
+    sees_like D after s t i (record { leaf_size = rest.leaf_size; next = rest.next; points_given = rest.points_given; snapshots = rest.snapshots })
+    rest.parts rest.buffer
+    rest.begun
+    (subst (Agrees after) (sym rest.cache) there.stands.agrees) there
 
 pub stays_saved : (s t : SetData) → StaysButSaved s t → StaysAlone s t
-stays_saved s t alone = record {
-  leaf_size = alone.leaf_size;
-  next = alone.next;
-  points_given = alone.points_given;
-  snapshots = alone.snapshots;
-  begun = ap is_some alone.begun;
+stays_saved s t rest = record {
+  leaf_size = rest.leaf_size;
+  next = rest.next;
+  points_given = rest.points_given;
+  snapshots = rest.snapshots;
+  begun = ap is_some rest.begun;
   live = λ number live.
-      subst (λ (xs : List Item). cond (list_any (λ (p : LiveSegment). is_live p.live number) s.parts) true (has_entry number xs) ≡ true) alone.buffer
-      (subst (λ (ps : List LiveSegment). cond (list_any (λ (p : LiveSegment). is_live p.live number) ps) true (has_entry number t.buffer) ≡ true) alone.parts
+      subst (λ (xs : List Item). cond (list_any (λ (p : LiveSegment). is_live p.live number) s.parts) true (has_entry number xs) ≡ true) rest.buffer
+      (subst (λ (ps : List LiveSegment). cond (list_any (λ (p : LiveSegment). is_live p.live number) ps) true (has_entry number t.buffer) ≡ true) rest.parts
       live);
 }
 
@@ -148,8 +148,8 @@ stays_saved s t alone = record {
 pub canon_saved : (D : ℕ) (told : Type 0) (first : NameList) (before after : Files) (s t : SetData) → told → IsWell D s
     → KeepsNamed told s.names t.names before after → ((m : FileName) → is_named first.names m ≡ true → is_named s.names.names m ≡ true)
     → StaysButSaved s t → AreCanonical D before first s.parts → AreCanonical D after first t.parts
-canon_saved D told first before after s t to well keeps more alone canon =
-    subst (AreCanonical D after first) (sym alone.parts)
+canon_saved D told first before after s t to well keeps more rest canon =
+    subst (AreCanonical D after first) (sym rest.parts)
     (canon_then D told first s.names t.names before after s.parts s.parts to keeps more well.named canon (follows_none s.names s.parts)
     (canon_named D after s.names s.parts well.named))
 

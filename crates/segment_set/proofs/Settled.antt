@@ -8,7 +8,7 @@ use Rattle.segment_view.specs.LiveSegments.{LiveSegment, ids_of}
 use Rattle.file_names.specs.Names.{NameList}
 use Rattle.segment_set.specs.Sets.{SetData, pins_of, sizes_of}
 use Rattle.segment_set.specs.Kept.{IsAsBefore, StaysButParts}
-use Rattle.segment_set.specs.Merges.{IsMerged, IsSpilled}
+use Rattle.segment_set.specs.Merges.{IsMerged, IsBufferWritten}
 use Rattle.segment_set.specs.Settles.{SetMoment, moment, MergesChoice, MergesChoices, Settles, WritesBuffer, Flushes, IsLeft}
 use Rattle.segment_set.proofs.Moved.{moved}
 
@@ -51,20 +51,20 @@ pub merges_chosen : (D : ℕ) (told : Type 0) (old new : SetMoment) (ids these :
     × (ids ≡ map (λ i. get_or (ids_of old.set.parts) i 0) positions)
     → IsMerged D told old.set.leaf_size old.set.names new.set.names old.files new.files these old.set.parts new.set.parts
     → StaysButParts old.set new.set → MergesChoice D told old new
-merges_chosen D told old new ids these same chosen merged alone = record {
+merges_chosen D told old new ids these same chosen merged rest = record {
   positions = chosen.0;
   choice = chosen.1;
   merges = record {
     merged = subst (λ (ns : List ℕ). IsMerged D told old.set.leaf_size old.set.names new.set.names old.files new.files ns old.set.parts new.set.parts)
         (same ∙ chosen.2) merged;
-    alone = alone;
+    rest = rest;
   };
 }
 
 -- ---- flushes
 
 pub flushes_settled : (D : ℕ) (told : Type 0) (old new : SetMoment) → Settles D told old new → Flushes D told old new
-flushes_settled D told old new done = record { mid = new; settles = done; spills = inl refl }
+flushes_settled D told old new done = record { mid = new; settles = done; writes = inl refl }
 
 pub flushes_none : (D : ℕ) (told : Type 0) (s : SetMoment) → Flushes D told s s
 flushes_none D told s = flushes_settled D told s s (settles_none D told s)
@@ -73,10 +73,10 @@ pub left_settled : (D : ℕ) (told : Type 0) (old : SetMoment) (t : SetData) →
 left_settled D told old t left = (left.0, flushes_settled D told old left.0 left.1, left.2)
 
 -- what waited went to a segment, where the set is told by its fields
-pub spills_moved : (D : ℕ) (told : Type 0) (files new_files : Files) (s was : SetData) → was ≡ s
+pub writes_moved : (D : ℕ) (told : Type 0) (files new_files : Files) (s was : SetData) → was ≡ s
     → (names : NameList) (parts : List LiveSegment) (buffer : List Item)
-    → IsSpilled D told was.leaf_size was.names names new_files was.buffer was.parts parts → buffer ≡ []
+    → IsBufferWritten D told was.leaf_size was.names names new_files was.buffer was.parts parts → buffer ≡ []
     → WritesBuffer D told (moment files s) (moment new_files (moved was names parts buffer was.begun was.cache))
-spills_moved D told files new_files s was view names parts buffer spilled none =
+writes_moved D told files new_files s was view names parts buffer written none =
     subst (λ (u : SetData). WritesBuffer D told (moment files u) (moment new_files (moved was names parts buffer was.begun was.cache))) view
-    (record { spilled = spilled; alone = λ i. moved was names parts (none i) was.begun was.cache })
+    (record { written = written; rest = λ i. moved was names parts (none i) was.begun was.cache })

@@ -35,7 +35,7 @@ use Rattle.segment_set.proofs.Unhidden.{unhidden_still}
 
 pub swept_none : (told : Type 0) (k : CommitData) (s : SetData) (files : Files) → IsSwept told k s s files files
 swept_none told k s files = record {
-  alone = record { is = refl; next_segment = refl };
+  rest = record { is = refl; next_segment = refl };
   fewer = λ m h. h;
   named = λ m need h. h;
   needed = λ t m need. refl;
@@ -46,13 +46,13 @@ swept_none told k s files = record {
 
 pub swept_then : (told : Type 0) (k : CommitData) (a b c : SetData) (f g h : Files) → IsSwept told k a b f g → IsSwept told k b c g h → IsSwept told k a c f h
 swept_then told k a b c f g h first second = record {
-  alone = record {
-    is = second.alone.is ∙ ap (λ (s : SetData). record s { names = c.names; cache = c.cache }) first.alone.is;
-    next_segment = second.alone.next_segment ∙ first.alone.next_segment;
+  rest = record {
+    is = second.rest.is ∙ ap (λ (s : SetData). record s { names = c.names; cache = c.cache }) first.rest.is;
+    next_segment = second.rest.next_segment ∙ first.rest.next_segment;
   };
   fewer = λ m there. first.fewer m (second.fewer m there);
-  named = λ m need there. second.named m (needed_still a b k m first.alone need) (first.named m need there);
-  needed = λ t m need. second.needed t m (needed_still a b k m first.alone need) ∙ first.needed t m need;
+  named = λ m need there. second.named m (needed_still a b k m first.rest need) (first.named m need there);
+  needed = λ t m need. second.needed t m (needed_still a b k m first.rest need) ∙ first.needed t m need;
   others = λ t m none. second.others t m (unnamed m none) ∙ first.others t m none;
   commit = λ t. second.commit t ∙ first.commit t;
   gone = λ t m there none. by t m there none (is_named b.names.names m) refl;
@@ -74,7 +74,7 @@ pub swept_torn : (told : Type 0) (k : CommitData) (s t : SetData) (before after 
     → is_named s.names.names Commit ≡ false → IsUnneeded s k name
     → t ≡ record s { cache = t.cache } → (told → SameBut name before after) → IsSwept told k s t before after
 swept_torn told k s t before after name named own un is same = record {
-  alone = record {
+  rest = record {
     is = is ∙ ap (λ (n : NameList). record s { names = n; cache = t.cache }) (sym names);
     next_segment = ap (λ (n : NameList). n.next_segment) names;
   };
@@ -98,7 +98,7 @@ pub swept_removed : (told : Type 0) (k : CommitData) (s t : SetData) (before aft
     → t ≡ record s { names = names_but name s.names; cache = t.cache } → (told → SameBut name before after) → (told → after name ≡ None)
     → IsSwept told k s t before after
 swept_removed told k s t before after name named own un is same none_there = record {
-  alone = record {
+  rest = record {
     is = is ∙ ap (λ (n : NameList). record s { names = n; cache = t.cache }) (sym names);
     next_segment = ap (λ (n : NameList). n.next_segment) names;
   };
@@ -242,7 +242,7 @@ gone_all told s t f g c swept to needed m there not_so = by (is_named t.names.na
     by false e = swept.gone to m there e
 
 pub front_still : (s t : SetData) (c : CommitData) (xs : List FileName) → StaysButFiles s t → All (IsNeeded s c) xs → All (IsNeeded t c) xs
-front_still s t c xs alone = All-weaker (IsNeeded s c) (IsNeeded t c) (λ m need. needed_still s t c m alone need) xs
+front_still s t c xs rest = All-weaker (IsNeeded s c) (IsNeeded t c) (λ m need. needed_still s t c m rest need) xs
 
 pub front_before : (s t : SetData) (c : CommitData) (xs : List FileName) → StaysButFiles s t → All (IsNeeded t c) xs → All (IsNeeded s c) xs
-front_before s t c xs alone = All-weaker (IsNeeded t c) (IsNeeded s c) (λ m need. needed_before s t c m alone need) xs
+front_before s t c xs rest = All-weaker (IsNeeded t c) (IsNeeded s c) (λ m need. needed_before s t c m rest need) xs

@@ -52,5 +52,5 @@ OnEndDamage (Ok _) P = Unit {0}
 -- raised some
 pub record HasCauseOf {T E : Type 0} (failed_is : E) (before now : ℕ) (result : Result T E) : Type 0 where
   pub later : before ≤ now
-  pub fine : OnOk result (now ≡ before)
+  pub on_ok : OnOk result (now ≡ before)
   pub failed : IsErrOf result failed_is → Rose before now

@@ -125,7 +125,7 @@ living None = None
 living (Some n) = with_live n.live.live n
 
 -- the buffer went to a segment, all of whose entries are live
-pub record IsSpilled (D : ℕ) (told : Type 0) (leaf_size : ℕ) (before after : NameList) (new_files : Files)
+pub record IsBufferWritten (D : ℕ) (told : Type 0) (leaf_size : ℕ) (before after : NameList) (new_files : Files)
     (buffer : List Item) (old new : List LiveSegment) : Type 0 where
   pub n : NewSegmentData
   pub made : IsMade D leaf_size n

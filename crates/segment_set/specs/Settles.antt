@@ -5,7 +5,7 @@ use Rattle.merge_policy.specs.Choice.{IsChoice}
 use Rattle.segment_view.specs.LiveSegments.{ids_of}
 use Rattle.segment_set.specs.Sets.{SetData, pins_of, sizes_of}
 use Rattle.segment_set.specs.Kept.{IsAsBefore, StaysButParts}
-use Rattle.segment_set.specs.Merges.{IsMerged, IsSpilled}
+use Rattle.segment_set.specs.Merges.{IsMerged, IsBufferWritten}
 
 -- a set with the files of its folder
 pub record SetMoment : Type 0 where
@@ -19,7 +19,7 @@ moment files set = record { files = files; set = set }
 pub record MergesParts (D : ℕ) (told : Type 0) (ids : List ℕ) (old new : SetMoment) : Type 0 where
   pub merged : IsMerged D told old.set.leaf_size old.set.names new.set.names old.files new.files ids
       old.set.parts new.set.parts
-  pub alone : StaysButParts old.set new.set
+  pub rest : StaysButParts old.set new.set
 
 -- those that the policy chooses
 pub record MergesChoice (D : ℕ) (told : Type 0) (old new : SetMoment) : Type 0 where
@@ -39,15 +39,16 @@ pub record Settles (D : ℕ) (told : Type 0) (old new : SetMoment) : Type 0 wher
 
 -- what waited in the buffer went to a segment
 pub record WritesBuffer (D : ℕ) (told : Type 0) (old new : SetMoment) : Type 0 where
-  pub spilled : IsSpilled D told old.set.leaf_size old.set.names new.set.names new.files old.set.buffer old.set.parts
+  pub written : IsBufferWritten D told old.set.leaf_size old.set.names new.set.names new.files old.set.buffer
+      old.set.parts
       new.set.parts
-  pub alone : new.set ≡ record old.set { names = new.set.names; parts = new.set.parts; buffer = [] }
+  pub rest : new.set ≡ record old.set { names = new.set.names; parts = new.set.parts; buffer = [] }
 
 -- and then the buffer went to a segment, or it stayed
 pub record Flushes (D : ℕ) (told : Type 0) (old new : SetMoment) : Type 0 where
   pub mid : SetMoment
   pub settles : Settles D told old mid
-  pub spills : (new ≡ mid) ⊎ WritesBuffer D told mid new
+  pub writes : (new ≡ mid) ⊎ WritesBuffer D told mid new
 
 -- the set is as it was at such a moment, but that files may have been named since
 abbrev pub IsLeft : (SetMoment → Type 0) → SetData → Type 0

@@ -30,7 +30,7 @@ pub record IsUnneeded (s : SetData) (c : CommitData) (name : FileName) : Type 0 
 
 -- Files of the list that aren't needed were taken away, and their names out of the list.
 pub record IsSwept (told : Type 0) (c : CommitData) (old new : SetData) (before after : Files) : Type 0 where
-  pub alone : StaysButFiles old new
+  pub rest : StaysButFiles old new
   pub fewer : (m : FileName) → is_named new.names.names m ≡ true → is_named old.names.names m ≡ true
   pub named : (m : FileName) → IsNeeded old c m → is_named old.names.names m ≡ true → is_named new.names.names m ≡ true
   pub needed : told → (m : FileName) → IsNeeded old c m → after m ≡ before m

@@ -63,7 +63,7 @@ impl<const D: usize> SegmentSet<D> {
         ensures left { LeavesWhole (Flushes D (IsTrue F.told) (moment (F.files folder.old) self.old)) self.old self.new
             result }
         ensures rewrites { Rewrites D (IsTrue F.told) (F.files folder.old) (F.files folder.new) self.old self.new }
-        ensures alone { AddsAlone self.old self.new }
+        ensures rest { AddsAlone self.old self.new }
         // where the buffer has room nothing is read or written
         ensures in_room { AddsInRoom (IsTrue F.told) (F.files folder.old) (F.files folder.new) self.old self.new
             (F.reads folder.old) (F.reads folder.new) (length points.now) result }

@@ -34,7 +34,7 @@ impl<const D: usize> SegmentSet<D> {
         ensures seen { (files : Files) (i : Index) → Sees D files self.old i
             → Sees D files self.new (record i { docs = docs_without doc i.docs }) }
         ensures live { (files : Files) (i : Index) → Sees D files self.old i → result ≡ is_live doc i.docs }
-        ensures alone { self.new ≡ set_but doc self.old }
+        ensures rest { self.new ≡ set_but doc self.old }
         ensures faithful { (files : Files) → IsFaithful D files self.old → IsFaithful D files self.new }
         ensures dead { is_live_in self.new ≡ (λ n. is_live_in self.old n && not (nat_eq n doc)) }
         ensures follows { Follows self.old.names self.old.parts self.new.parts }
@@ -63,7 +63,7 @@ impl<const D: usize> SegmentSet<D> {
             → OnErr result (Sees D (F.files folder.new) self.new i) }
         // what stays
         ensures files { IsTrue F.told → F.files folder.new ≡ F.files folder.old }
-        ensures alone { OnErr result (StaysButCache self.old self.new) }
+        ensures rest { OnErr result (StaysButCache self.old self.new) }
         ensures deletes { DeletesAlone self.old self.new }
         ensures faithful { IsTrue F.told → IsFaithful D (F.files folder.old) self.old
             → IsFaithful D (F.files folder.new) self.new }

@@ -129,7 +129,7 @@ impl<const D: usize> SegmentSet<D> {
             → IsFaithful D (F.files folder.new) self.new }
         ensures cache { self.new.cache ≡ self.old.cache }
         ensures emptied { OnOk result (self.new.buffer ≡ []) }
-        ensures spills { OnOk result ((moment (F.files folder.new) self.new ≡ moment (F.files folder.old) self.old)
+        ensures writes { OnOk result ((moment (F.files folder.new) self.new ≡ moment (F.files folder.old) self.old)
             ⊎ WritesBuffer D (IsTrue F.told) (moment (F.files folder.old) self.old)
             (moment (F.files folder.new) self.new)) }
         ensures refused { OnErr result (IsAsBefore self.old self.new) }

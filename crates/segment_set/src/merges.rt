@@ -103,7 +103,7 @@ impl<const D: usize> SegmentSet<D> {
         // what stays
         ensures files { IsTrue F.told → F.files folder.new ≡ F.files folder.old }
         ensures cache { self.new.cache ≡ self.old.cache }
-        ensures alone { StaysButMerge self.old self.new }
+        ensures rest { StaysButMerge self.old self.new }
         ensures stays { OnErr result (StaysButCache self.old self.new) }
         ensures faithful { IsTrue F.told → IsFaithful D (F.files folder.old) self.old
             → IsFaithful D (F.files folder.new) self.new }
@@ -141,7 +141,7 @@ impl<const D: usize> SegmentSet<D> {
             → OnErr result (Sees D (F.files folder.new) self.new i) }
         ensures not_begun { IsErrOf result end.NotBegun ↔ (is_some self.old.begun ≡ false) }
         ensures ends { EndsMerge D (IsTrue F.told) (F.files folder.new) self.old self.new result }
-        ensures alone { OnErr result (IsAsBefore self.old self.new) }
+        ensures rest { OnErr result (IsAsBefore self.old self.new) }
         ensures buffer { self.new.buffer ≡ self.old.buffer }
         // what stays
         ensures stays { StaysAlone self.old (record self.new { begun = self.old.begun }) }
@@ -216,7 +216,7 @@ impl<const D: usize> SegmentSet<D> {
             (F.files folder.new) ids.now self.old.parts self.new.parts) }
         ensures fewer { OnOk result
             (length self.new.parts + length (parts_among ids.now self.old.parts) ≤ length self.old.parts + 1) }
-        ensures alone { StaysButParts self.old self.new }
+        ensures rest { StaysButParts self.old self.new }
         ensures refused { OnErr result (IsAsBefore self.old self.new) }
         ensures cause { HasPageCause (F.faults folder.old) (F.faults folder.new) result }
         ensures damaged { ShowsMergeDamage D (IsTrue F.told) (F.files folder.old) (F.files folder.new) self.old

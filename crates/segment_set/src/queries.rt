@@ -51,7 +51,7 @@ impl<const D: usize> SegmentSet<D> {
         // what stays
         ensures seen { IsTrue F.told → (i : Index) → Sees D (F.files folder.old) self.old i
             → Sees D (F.files folder.new) self.new i }
-        ensures alone { StaysButCache self.old self.new }
+        ensures rest { StaysButCache self.old self.new }
         ensures faithful { IsTrue F.told → IsFaithful D (F.files folder.old) self.old
             → IsFaithful D (F.files folder.new) self.new }
         ensures files { IsTrue F.told → F.files folder.new ≡ F.files folder.old }
@@ -104,7 +104,7 @@ impl<const D: usize> SegmentSet<D> {
         // what stays
         ensures seen { IsTrue F.told → (i : Index) → Sees D (F.files folder.old) self.old i
             → Sees D (F.files folder.new) self.new i }
-        ensures alone { StaysButCache self.old self.new }
+        ensures rest { StaysButCache self.old self.new }
         ensures faithful { IsTrue F.told → IsFaithful D (F.files folder.old) self.old
             → IsFaithful D (F.files folder.new) self.new }
         ensures files { IsTrue F.told → F.files folder.new ≡ F.files folder.old }

@@ -19,7 +19,7 @@ ghost use Rattle.segment_build.specs.NewSegments.{NewSegmentData, HasEntries};
 ghost use Rattle.file_names.specs.Names.{NameList, is_named};
 ghost use Rattle.segment_set.specs.Sets.{AreAlone, IsNamed};
 ghost use Rattle.segment_set.specs.Kept.{KeepsNamed};
-ghost use Rattle.segment_set.specs.Merges.{IsGathered, IsMerged, Swaps, IsSpilled, LosesNone, MakesLive};
+ghost use Rattle.segment_set.specs.Merges.{IsGathered, IsMerged, Swaps, IsBufferWritten, LosesNone, MakesLive};
 ghost use Rattle.segment_set.specs.Merges.{Replaces, living};
 ghost use Rattle.segment_set.specs.Damages.{IsDoubt, IsMergeDamage, IsMergeDamageOf};
 ghost use Rattle.index_opening.specs.Evidence.{IsEvidentIn};
@@ -251,8 +251,8 @@ pub(crate) fn write_buffer<const D: usize, R: Threads + Sync, F: Folder, G: Gate
     requires numbers { All (λ x. x.doc < 2 ^ 24) buffer.old.items }
     requires once { NoneTwice buffer.old.items }
     requires sixteen { AreFew buffer.old.items }
-    ensures spilled { OnOk result
-        (IsSpilled D (IsTrue F.told) plan.now.leaf_size names.old names.new (F.files folder.new)
+    ensures written { OnOk result
+        (IsBufferWritten D (IsTrue F.told) plan.now.leaf_size names.old names.new (F.files folder.new)
         buffer.old.items segments.old segments.new) }
     ensures emptied { OnOk result (buffer.new.items ≡ []) }
     ensures next { buffer.new.next ≡ buffer.old.next }

@@ -85,7 +85,7 @@ impl<const D: usize> SegmentSet<D> {
         folder: &mut F,
         last: &[Listed],
     ) -> Result<Commit, PageFault>
-        ensures alone { StaysButSaved self.old self.new }
+        ensures rest { StaysButSaved self.old self.new }
         ensures faithful { IsTrue F.told → IsFaithful D (F.files folder.old) self.old
             → IsFaithful D (F.files folder.new) self.new }
         ensures kept { KeepsNamed (IsTrue F.told) self.old.names self.new.names (F.files folder.old)

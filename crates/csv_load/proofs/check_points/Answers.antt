@@ -22,13 +22,13 @@ returns-in_err-places-clause-fault g c =
     c.in_err-places.field-0.0
     first c.in_err-places.ensures.fault)
 
-pub returns-clause-fine : goal.returns-clause-fine
-returns-clause-fine g c =
+pub returns-clause-on_ok : goal.returns-clause-on_ok
+returns-clause-on_ok g c =
     let first = sym c.open-reader.ensures.records ∙ (c.in_ok-next_record.ensures.more c.if-not-branch.false).first in
     let rows : Result (List (List ℤ)) CsvFault = each_ok (point_of c.len-width.result c.in_ok-places.places) 1 (records_left c.next_record.new.reader) in
     let whole = rows_whole c.args.columns.now (records_of c.args.b.now) (records_left c.next_record.new.reader) (fields_of c.next_record.new.fields)
     c.in_ok-places.places c.len-width.result first c.len-width.ensures c.in_ok-places.ensures.places in
-    on_ok_weaker c.check_rows.result (λ (p : (points : List (List ℤ)) × (rows ≡ Ok points)). (p.0, whole ∙ p.1)) c.check_rows.ensures.fine
+    on_ok_weaker c.check_rows.result (λ (p : (points : List (List ℤ)) × (rows ≡ Ok points)). (p.0, whole ∙ p.1)) c.check_rows.ensures.on_ok
 
 pub returns-clause-fault : goal.returns-clause-fault
 returns-clause-fault g c =

@@ -39,8 +39,8 @@ records-preserved g c =
       );
     }
 
-pub returns-clause-fine : goal.returns-clause-fine
-returns-clause-fine g c =
+pub returns-clause-on_ok : goal.returns-clause-on_ok
+returns-clause-on_ok g c =
     let none = c.in_ok-next_record.ensures.end c.if-branch.false in
     let f = point_of c.args.width c.args.places.now in
     let done = c.records.invariant.same.0 in

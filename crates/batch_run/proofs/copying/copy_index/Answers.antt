@@ -23,7 +23,7 @@ loop-s-preserved g c = record {
       (g.F.Pages.reads c.copy_file-in-loop-s.new.folder)
       c.listed-s-items.ensures.value c.loop-s-test.true (c.loop-s.invariant.files told) (c.in_ok-copy_file.ensures.files told)
       (c.loop-s.invariant.reads told) (c.in_ok-copy_file.ensures.reads told) (c.in_ok-copy_file-2.ensures.reads told);
-  faults = c.in_ok-copy_file-2.ensures.cause.fine ∙ c.in_ok-copy_file.ensures.cause.fine ∙ c.loop-s.invariant.faults;
+  faults = c.in_ok-copy_file-2.ensures.cause.on_ok ∙ c.in_ok-copy_file.ensures.cause.on_ok ∙ c.loop-s.invariant.faults;
 }
 
 pub returns-clause-copied : goal.returns-clause-copied

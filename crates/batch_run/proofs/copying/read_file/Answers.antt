@@ -14,5 +14,5 @@ loop-page-preserved g c = record {
       (c.loop-page.invariant.files told) (c.in_ok-append_page.ensures.page told));
   files = λ told. c.in_ok-append_page.ensures.files told ∙ c.loop-page.invariant.files told;
   reads = omega (arith, c.in_ok-append_page.ensures.reads, c.loop-page.invariant.reads);
-  faults = c.in_ok-append_page.ensures.cause.fine ∙ c.loop-page.invariant.faults;
+  faults = c.in_ok-append_page.ensures.cause.on_ok ∙ c.loop-page.invariant.faults;
 }

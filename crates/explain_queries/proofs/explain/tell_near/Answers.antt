@@ -13,7 +13,7 @@ returns-in_err-found g c =
     let p = err_from_is_err_and c.from_residual.result c.from_residual.ensures.1 in
     explains_fault g.row.D _ _ _ _ c.in_err-found.field-0.0 _ (p.1 ∙ ap (λ (e : PageFault). Err e) p.2) (record {
       seen = c.nearest.ensures.seen;
-      alone = c.nearest.ensures.alone;
+      rest = c.nearest.ensures.rest;
       files = c.nearest.ensures.files;
       reads = λ told s e t tells.
           c.nearest.ensures.reads told e.seen.contents e.seen.stands (nearby g.row.D c.args.k _ _ c.args.at.now.c s e)
@@ -29,7 +29,7 @@ returns-in_err-put_near g c =
     let p = err_from_is_err_and c.from_residual-in_err-put_near.result c.from_residual-in_err-put_near.ensures.1 in
     explains_unsaid g.row.D _ _ _ _ c.in_ok-found.found _ (p.1 ∙ ap (λ (e : PageFault). Err e) p.2) (record {
       seen = c.nearest.ensures.seen;
-      alone = c.nearest.ensures.alone;
+      rest = c.nearest.ensures.rest;
       files = c.nearest.ensures.files;
       reads = λ told s e t tells.
           c.nearest.ensures.reads told e.seen.contents e.seen.stands (nearby g.row.D c.args.k _ _ c.args.at.now.c s e)
@@ -44,7 +44,7 @@ pub returns : goal.returns
 returns g c =
     explains_done g.row.D _ _ _ _ c.in_ok-found.found (record {
       seen = c.nearest.ensures.seen;
-      alone = c.nearest.ensures.alone;
+      rest = c.nearest.ensures.rest;
       files = c.nearest.ensures.files;
       reads = λ told s e t tells.
           c.nearest.ensures.reads told e.seen.contents e.seen.stands (nearby g.row.D c.args.k _ _ c.args.at.now.c s e)

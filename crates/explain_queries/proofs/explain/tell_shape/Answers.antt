@@ -11,7 +11,7 @@ returns-in_err-found g c =
     let p = err_from_is_err_and c.from_residual.result c.from_residual.ensures.1 in
     explains_fault g.row.D _ _ _ _ c.in_err-found.field-0.0 _ (p.1 ∙ ap (λ (e : PageFault). Err e) p.2) (record {
       seen = c.visit.ensures.seen;
-      alone = c.visit.ensures.alone;
+      rest = c.visit.ensures.rest;
       files = c.visit.ensures.files;
       reads = λ told s e t tells. c.visit.ensures.reads t.touched (shape_touches g.row.D _ _ _ _ s t e tells);
       cause = c.in_err-found.ensures.cause;
@@ -25,7 +25,7 @@ returns-in_err-put_shape g c =
     let p = err_from_is_err_and c.from_residual-in_err-put_shape.result c.from_residual-in_err-put_shape.ensures.1 in
     explains_unsaid g.row.D _ _ _ _ c.in_ok-found.found _ (p.1 ∙ ap (λ (e : PageFault). Err e) p.2) (record {
       seen = c.visit.ensures.seen;
-      alone = c.visit.ensures.alone;
+      rest = c.visit.ensures.rest;
       files = c.visit.ensures.files;
       reads = λ told s e t tells. c.visit.ensures.reads t.touched (shape_touches g.row.D _ _ _ _ s t e tells);
       cause = c.in_ok-found.ensures.cause;
@@ -38,7 +38,7 @@ pub returns : goal.returns
 returns g c =
     explains_done g.row.D _ _ _ _ c.in_ok-found.found (record {
       seen = c.visit.ensures.seen;
-      alone = c.visit.ensures.alone;
+      rest = c.visit.ensures.rest;
       files = c.visit.ensures.files;
       reads = λ told s e t tells. c.visit.ensures.reads t.touched (shape_touches g.row.D _ _ _ _ s t e tells);
       cause = c.in_ok-found.ensures.cause;

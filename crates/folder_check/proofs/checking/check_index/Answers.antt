@@ -83,7 +83,7 @@ returns-clause-holds g c = λ told says.
     c.in_ok-segments.segments c.in_ok-findings.findings.items told (c.in_ok-segments.ensures.files told) c.requires says
     c.in_ok-segments.ensures.opened c.in_ok-segments.ensures.placed (c.in_ok-findings.ensures.found told))
     (handed (λ ls n fs. OnOk c.judge.result (AreFine ls n fs)) _ _ _ _ _ _ c.listed.ensures.value c.points_given.ensures.value c.as_slice.ensures.value
-    c.judge.ensures.fine)
+    c.judge.ensures.on_ok)
 
 pub returns-clause-files : goal.returns-clause-files
 returns-clause-files g c = λ told. c.in_ok-findings.ensures.files told ∙ c.in_ok-segments.ensures.files told

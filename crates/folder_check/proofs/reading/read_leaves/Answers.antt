@@ -26,7 +26,7 @@ loop-i-preserved g c =
       files = λ told. one.files told ∙ was.files told;
       agrees = λ told. subst (λ (f : Files). Agrees f c.read_segment.new.cache) (was.files told)
           (one.agrees told (subst (λ (f : Files). Agrees f c.loop-i.cache) (sym (was.files told)) (was.agrees told)));
-      faults = one.cause.fine ∙ was.faults;
+      faults = one.cause.on_ok ∙ was.faults;
       reads = λ told own.
           let step = pages_more files parts c.loop-i.i p c.part.ensures in
           let before = was.reads told own in

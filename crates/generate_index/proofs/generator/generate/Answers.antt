@@ -71,7 +71,7 @@ pub returns-in-Ok-Some-clause-cause : goal.returns-in-Ok-Some-clause-cause
 returns-in-Ok-Some-clause-cause g c = done_cause _ _ _ true c.in-Ok-Some.ensures.cause
 
 pub returns-in-Ok-None-clause-cause : goal.returns-in-Ok-None-clause-cause
-returns-in-Ok-None-clause-cause g c = cause_after _ _ _ _ c.in-Ok-None.ensures.cause.fine c.generate_first.ensures.cause
+returns-in-Ok-None-clause-cause g c = cause_after _ _ _ _ c.in-Ok-None.ensures.cause.on_ok c.generate_first.ensures.cause
 
 pub returns-clause-cause : goal.returns-clause-cause
 returns-clause-cause g c = fault_to _ _ c.in-Err.fault c.in-Err.ensures.cause

@@ -160,7 +160,7 @@ pub returns-in_err-commit-clause-cause : goal.returns-in_err-commit-clause-cause
 returns-in_err-commit-clause-cause g c =
     let p = err_from_is_err_and c.from_residual-in_err-commit.result c.from_residual-in_err-commit.ensures.1 in
     rw (p.1 ∙ ap (λ (e : PageFault). Err e) p.2)
-    (cause_after _ _ _ _ c.in_ok-summary.ensures.makes.cause.fine (fault_to _ _ c.in_err-commit.field-0.0 c.in_err-commit.ensures.faults.cause))
+    (cause_after _ _ _ _ c.in_ok-summary.ensures.makes.cause.on_ok (fault_to _ _ c.in_err-commit.field-0.0 c.in_err-commit.ensures.faults.cause))
 
 pub returns-clause-cause : goal.returns-clause-cause
 returns-clause-cause g c = cause_done _ _ _ c.in_ok-summary.summary tt false c.in_ok-summary.ensures.makes.cause c.in_ok-commit.ensures.faults.cause

@@ -52,7 +52,7 @@ loop-s-preserved g c = record {
       c.listed-listed.ensures.commit.segments.rising c.loop-s-test.true
       c.loop-s.invariant.opened c.in_ok-head.ensures.opened c.in_ok-insert.ensures.placed c.in_ok-insert.ensures.ascend;
   files = λ told. c.in_ok-head.ensures.files told ∙ c.loop-s.invariant.files told;
-  faults = c.in_ok-head.ensures.cause.fine ∙ c.loop-s.invariant.faults;
+  faults = c.in_ok-head.ensures.cause.on_ok ∙ c.loop-s.invariant.faults;
   reads = λ told heads sets have lives.
       let before = c.loop-s.invariant.reads told heads sets have lives in
       let here =

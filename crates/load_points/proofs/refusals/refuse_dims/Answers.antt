@@ -15,7 +15,7 @@ returns-in_err-put_dims-in-Ok c files faults =
 pub returns-in_ok-put_dims-in-Ok : goal.returns-in_ok-put_dims-in-Ok
 returns-in_ok-put_dims-in-Ok c files faults =
     loads_refused _ _ _ _ files faults _ _ (dims_text c.args.dims) c.in_ok-put_dims-in-Ok.ensures (λ stored h. h.0)
-    (λ stored h. dims_refused files c.args.dims stored c.args.input.now c.args.columns.now c.in-Ok.ensures.fine.0 c.requires.other c.in-Ok.ensures.fine.1 h)
+    (λ stored h. dims_refused files c.args.dims stored c.args.input.now c.args.columns.now c.in-Ok.ensures.on_ok.0 c.requires.other c.in-Ok.ensures.on_ok.1 h)
 
 pub returns-in-Err-Memory : goal.returns-in-Err-Memory
 returns-in-Err-Memory c files faults = loads_no_memory _ _ _ _ files faults _ _ _ refl (λ stored h. h.0)

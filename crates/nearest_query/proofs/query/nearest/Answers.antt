@@ -17,7 +17,7 @@ returns-clause-answer g c = λ told agrees contents segments.
     let rs = roots g.row.D c.args.at.now.c c.args.heads.now c.args.lives.now (g.F.Pages.files c.args.folder.now) contents segments in
     let room = c.in_ok-offer_all.ensures.room ∙ c.new-found.ensures.room ∙ c.from.ensures in
     let sought = start g.row.D c.args.at.now.c c.args.heads.now c.args.lives.now (g.F.Pages.files c.args.folder.now) contents segments
-    (items_of c.args.buffer.now) c.push_roots.new.frontier.turns c.push_roots.new.frontier.nodes c.offer_all.new.found
+    (items_of c.args.buffer.now) c.push_roots.new.frontier.waiting c.push_roots.new.frontier.nodes c.offer_all.new.found
     c.requires.lives (c.in_ok-offer_all.ensures.found [] c.new-found.ensures.best) (c.in_ok-push_roots.ensures.nodes w rs refl refl)
     (c.in_ok-push_roots.ensures.totals w rs refl refl) in
     let answer = c.in_ok-search.ensures.answer told agrees w _ (record { at_is = refl; heads_are = refl; lives_are = refl; files_are = refl }) sought in
@@ -32,15 +32,15 @@ returns-clause-reads g c = λ told agrees contents segments nearest is leaves ne
     let rs = roots g.row.D c.args.at.now.c c.args.heads.now c.args.lives.now (g.F.Pages.files c.args.folder.now) contents segments in
     let room = c.in_ok-offer_all.ensures.room ∙ c.new-found.ensures.room ∙ c.from.ensures in
     let sought = start g.row.D c.args.at.now.c c.args.heads.now c.args.lives.now (g.F.Pages.files c.args.folder.now) contents segments
-    (items_of c.args.buffer.now) c.push_roots.new.frontier.turns c.push_roots.new.frontier.nodes c.offer_all.new.found
+    (items_of c.args.buffer.now) c.push_roots.new.frontier.waiting c.push_roots.new.frontier.nodes c.offer_all.new.found
     c.requires.lives (c.in_ok-offer_all.ensures.found [] c.new-found.ensures.best) (c.in_ok-push_roots.ensures.nodes w rs refl refl)
     (c.in_ok-push_roots.ensures.totals w rs refl refl) in
     let reads = c.in_ok-search.ensures.reads told agrees w _ nearest (record { at_is = refl; heads_are = refl; lives_are = refl; files_are = refl }) sought
     (subst (λ k. IsNearest k (nears_of c.args.at.now.c (live_in contents c.args.heads.now c.args.lives.now ++ items_of c.args.buffer.now)) nearest) (sym room)
     is) in
-    let bounds = ap (λ k. sum_by (sum_below (one_within w (bound_of k nearest))) c.push_roots.new.frontier.turns) room in
+    let bounds = ap (λ k. sum_by (sum_below (one_within w (bound_of k nearest))) c.push_roots.new.frontier.waiting) room in
     let total = start_near g.row.D c.args.at.now.c c.args.heads.now c.args.lives.now (g.F.Pages.files c.args.folder.now) contents segments
-    (bound_of c.args.k nearest) c.push_roots.new.frontier.turns leaves near (c.in_ok-push_roots.ensures.most w rs refl) in
+    (bound_of c.args.k nearest) c.push_roots.new.frontier.waiting leaves near (c.in_ok-push_roots.ensures.most w rs refl) in
     omega (arith, reads, bounds, total)
 
 pub returns-in_err-found-clause-reads : goal.returns-in_err-found-clause-reads
@@ -49,15 +49,15 @@ returns-in_err-found-clause-reads g c = λ told agrees contents segments nearest
     let rs = roots g.row.D c.args.at.now.c c.args.heads.now c.args.lives.now (g.F.Pages.files c.args.folder.now) contents segments in
     let room = c.in_ok-offer_all.ensures.room ∙ c.new-found.ensures.room ∙ c.from.ensures in
     let sought = start g.row.D c.args.at.now.c c.args.heads.now c.args.lives.now (g.F.Pages.files c.args.folder.now) contents segments
-    (items_of c.args.buffer.now) c.push_roots.new.frontier.turns c.push_roots.new.frontier.nodes c.offer_all.new.found
+    (items_of c.args.buffer.now) c.push_roots.new.frontier.waiting c.push_roots.new.frontier.nodes c.offer_all.new.found
     c.requires.lives (c.in_ok-offer_all.ensures.found [] c.new-found.ensures.best) (c.in_ok-push_roots.ensures.nodes w rs refl refl)
     (c.in_ok-push_roots.ensures.totals w rs refl refl) in
     let reads = c.in_ok-search.ensures.reads told agrees w _ nearest (record { at_is = refl; heads_are = refl; lives_are = refl; files_are = refl }) sought
     (subst (λ k. IsNearest k (nears_of c.args.at.now.c (live_in contents c.args.heads.now c.args.lives.now ++ items_of c.args.buffer.now)) nearest) (sym room)
     is) in
-    let bounds = ap (λ k. sum_by (sum_below (one_within w (bound_of k nearest))) c.push_roots.new.frontier.turns) room in
+    let bounds = ap (λ k. sum_by (sum_below (one_within w (bound_of k nearest))) c.push_roots.new.frontier.waiting) room in
     let total = start_near g.row.D c.args.at.now.c c.args.heads.now c.args.lives.now (g.F.Pages.files c.args.folder.now) contents segments
-    (bound_of c.args.k nearest) c.push_roots.new.frontier.turns leaves near (c.in_ok-push_roots.ensures.most w rs refl) in
+    (bound_of c.args.k nearest) c.push_roots.new.frontier.waiting leaves near (c.in_ok-push_roots.ensures.most w rs refl) in
     omega (arith, reads, bounds, total)
 
 pub returns-in_err-search-clause-reads : goal.returns-in_err-search-clause-reads
@@ -66,15 +66,15 @@ returns-in_err-search-clause-reads g c = λ told agrees contents segments neares
     let rs = roots g.row.D c.args.at.now.c c.args.heads.now c.args.lives.now (g.F.Pages.files c.args.folder.now) contents segments in
     let room = c.in_ok-offer_all.ensures.room ∙ c.new-found.ensures.room ∙ c.from.ensures in
     let sought = start g.row.D c.args.at.now.c c.args.heads.now c.args.lives.now (g.F.Pages.files c.args.folder.now) contents segments
-    (items_of c.args.buffer.now) c.push_roots.new.frontier.turns c.push_roots.new.frontier.nodes c.offer_all.new.found
+    (items_of c.args.buffer.now) c.push_roots.new.frontier.waiting c.push_roots.new.frontier.nodes c.offer_all.new.found
     c.requires.lives (c.in_ok-offer_all.ensures.found [] c.new-found.ensures.best) (c.in_ok-push_roots.ensures.nodes w rs refl refl)
     (c.in_ok-push_roots.ensures.totals w rs refl refl) in
     let reads = c.in_err-search.ensures.reads told agrees w _ nearest (record { at_is = refl; heads_are = refl; lives_are = refl; files_are = refl }) sought
     (subst (λ k. IsNearest k (nears_of c.args.at.now.c (live_in contents c.args.heads.now c.args.lives.now ++ items_of c.args.buffer.now)) nearest) (sym room)
     is) in
-    let bounds = ap (λ k. sum_by (sum_below (one_within w (bound_of k nearest))) c.push_roots.new.frontier.turns) room in
+    let bounds = ap (λ k. sum_by (sum_below (one_within w (bound_of k nearest))) c.push_roots.new.frontier.waiting) room in
     let total = start_near g.row.D c.args.at.now.c c.args.heads.now c.args.lives.now (g.F.Pages.files c.args.folder.now) contents segments
-    (bound_of c.args.k nearest) c.push_roots.new.frontier.turns leaves near (c.in_ok-push_roots.ensures.most w rs refl) in
+    (bound_of c.args.k nearest) c.push_roots.new.frontier.waiting leaves near (c.in_ok-push_roots.ensures.most w rs refl) in
     omega (arith, reads, bounds, total)
 
 pub returns-in_err-search-clause-whole : goal.returns-in_err-search-clause-whole
@@ -82,7 +82,7 @@ returns-in_err-search-clause-whole g c = λ told agrees contents segments.
     let w = world g.row.D c.args.at.now.c c.args.heads.now c.args.lives.now (g.F.Pages.files c.args.folder.now) contents segments in
     let rs = roots g.row.D c.args.at.now.c c.args.heads.now c.args.lives.now (g.F.Pages.files c.args.folder.now) contents segments in
     let sought = start g.row.D c.args.at.now.c c.args.heads.now c.args.lives.now (g.F.Pages.files c.args.folder.now) contents segments
-    (items_of c.args.buffer.now) c.push_roots.new.frontier.turns c.push_roots.new.frontier.nodes c.offer_all.new.found
+    (items_of c.args.buffer.now) c.push_roots.new.frontier.waiting c.push_roots.new.frontier.nodes c.offer_all.new.found
     c.requires.lives (c.in_ok-offer_all.ensures.found [] c.new-found.ensures.best) (c.in_ok-push_roots.ensures.nodes w rs refl refl)
     (c.in_ok-push_roots.ensures.totals w rs refl refl) in
     let h = c.in_err-search.ensures.whole told agrees w _ (record { at_is = refl; heads_are = refl; lives_are = refl; files_are = refl }) sought in
@@ -103,7 +103,7 @@ returns-in_err-search-clause-reading g c =
       files = h.files;
       others = h.others;
       agrees = h.agrees;
-      cause = rw (p.1, p.2) (record { later = h.cause.later; fine = tt; failed = λ e. h.cause.failed cc });
+      cause = rw (p.1, p.2) (record { later = h.cause.later; on_ok = tt; failed = λ e. h.cause.failed cc });
     }
 
 pub returns-in_err-found-clause-reading : goal.returns-in_err-found-clause-reading
@@ -114,7 +114,7 @@ returns-in_err-found-clause-reading g c =
       files = h.files;
       others = h.others;
       agrees = h.agrees;
-      cause = rw (p.1, p.2) (record { later = h.cause.later; fine = tt; failed = λ e. absurd cc });
+      cause = rw (p.1, p.2) (record { later = h.cause.later; on_ok = tt; failed = λ e. absurd cc });
     }
 
 pub returns-in_err-push_roots-clause-reading : goal.returns-in_err-push_roots-clause-reading
@@ -124,7 +124,7 @@ returns-in_err-push_roots-clause-reading g c =
       files = λ told. refl;
       others = λ i k. inl k;
       agrees = λ told a. a;
-      cause = rw (p.1, p.2) (record { later = omega arith; fine = tt; failed = λ e. absurd cc });
+      cause = rw (p.1, p.2) (record { later = omega arith; on_ok = tt; failed = λ e. absurd cc });
     }
 
 pub returns-clause-reading : goal.returns-clause-reading
@@ -134,7 +134,7 @@ returns-clause-reading g c =
       files = h.files;
       others = h.others;
       agrees = h.agrees;
-      cause = record { later = h.cause.later; fine = h.cause.fine; failed = λ e. absurd cc };
+      cause = record { later = h.cause.later; on_ok = h.cause.on_ok; failed = λ e. absurd cc };
     }
 
 -- ---- the pages of all leaves are kept

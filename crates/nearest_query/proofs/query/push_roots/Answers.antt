@@ -5,7 +5,7 @@ use Rattle.inner_pack.specs.Places.{front}
 use Rattle.inner_pack.specs.Bodies.{HasTree}
 use Rattle.nearest_query.specs.Segments.{no_head}
 use Rattle.nearest_query.specs.Search.{live_at, no_live}
-use Rattle.nearest_query.proofs.Turns.{inside_put, read_any}
+use Rattle.nearest_query.proofs.WaitingNodes.{inside_put, read_any}
 use Rattle.nearest_query.proofs.Roots.{root_nodes, root_totals, root_most, passed_totals, passed_most}
 use Rattle.nearest_query.proofs.Parts.{parts_put}
 use Rattle.nearest_query.proofs.query.push_roots.Goals as goal
@@ -21,8 +21,8 @@ loop-i-preserved-then-live_count-eq0 g c = record {
       ∙ ap (λ (s : LiveSet). s.live) (read_any c.args.lives.now c.loop-i.i c.index-lives-i.result no_live
       (subst (λ n. c.loop-i.i < n) (sym c.requires.lives) c.loop-i-test.true) c.index-lives-i.is)
       ∙ nil_from_length _ (sym c.live_count.ensures.value ∙ c.if-live_count-eq0.true) in
-      passed_totals w c.loop-i.i c.loop-i.frontier.turns h (λ n. none c.loop-i.i n here) (c.loop-i.invariant.totals w roots heads_are lives_are h none);
-  most = λ w roots heads_are h. passed_most w c.loop-i.i c.loop-i.frontier.turns h (c.loop-i.invariant.most w roots heads_are h);
+      passed_totals w c.loop-i.i c.loop-i.frontier.waiting h (λ n. none c.loop-i.i n here) (c.loop-i.invariant.totals w roots heads_are lives_are h none);
+  most = λ w roots heads_are h. passed_most w c.loop-i.i c.loop-i.frontier.waiting h (c.loop-i.invariant.most w roots heads_are h);
 }
 
 pub loop-i-preserved : goal.loop-i-preserved

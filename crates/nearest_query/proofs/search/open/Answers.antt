@@ -4,7 +4,7 @@ use Rattle.std.proofs.Common.{◌≡◌, length, get_or, ℕ, ap, subst, sym, re
 use Rattle.inner_pack.specs.Nodes.{IsAt}
 use Rattle.nearest_query.specs.Search.{one_within, head_at, live_at, no_live}
 use Rattle.nearest_query.specs.Segments.{no_head}
-use Rattle.nearest_query.proofs.Turns.{inside_put, waiting_work, read_any}
+use Rattle.nearest_query.proofs.WaitingNodes.{inside_put, waiting_work, read_any}
 use Rattle.nearest_query.proofs.Steps.{children_span, fork_step, leaf_step, leaf_counts, leaf_whole, Opens, OpensWhole}
 use Rattle.segment_file.specs.Damages.{IsLeafDamage}
 use Rattle.page_cache.specs.Evidence.{OnDamage}
@@ -128,7 +128,7 @@ returns-in-None-clause-sought g c = λ told agrees w all over s.
     ap (λ ls. get_or ls c.args.next.segment no_live) over.lives_are
     ∙ read_any c.args.lives.now c.args.next.segment c.index-lives-next.result no_live (omega (arith, c.requires.lives, c.requires.inside.inside))
     c.index-lives-next.is in
-    leaf_step w all c.args.next c.args.frontier.now.turns c.args.frontier.now.nodes c.node-in-None.result.now c.args.found.now c.open_leaf.new.found
+    leaf_step w all c.args.next c.args.frontier.now.waiting c.args.frontier.now.nodes c.node-in-None.result.now c.args.found.now c.open_leaf.new.found
     c.open_leaf.result s
     (ap (λ m. m.leaves)
     (c.node-in-None.ensures ∙ c.requires.inside.stands.is c.node-in-None.result.now ∙ sym (c.node.ensures ∙ c.requires.inside.stands.is c.node.result.now))
@@ -170,11 +170,11 @@ returns-in-None-clause-whole g c = λ told agrees w over n.
 pub returns-in_ok-fork-in-Some-clause-parts : goal.returns-in_ok-fork-in-Some-clause-parts
 returns-in_ok-fork-in-Some-clause-parts g c = λ trees all.
     let put = c.in_ok-fork-in-Some.ensures.put in
-    let n = All-head (IsNodeBelow c.args.heads.now trees c.args.frontier.now.nodes) c.args.next c.args.frontier.now.turns all in
+    let n = All-head (IsNodeBelow c.args.heads.now trees c.args.frontier.now.nodes) c.args.next c.args.frontier.now.waiting all in
     let same = c.node.ensures ∙ n.stands.is c.node.result.now in
     parts_fork c.args.heads.now trees c.args.at.now.c c.args.next c.args.frontier.now put.0 c.fork.new.frontier c.in-Some.left c.in-Some.right n
     (c.in-Some.ensures.some c.args.next.first n.spot n.path n.tree (subst (λ m. IsAt m c.args.next.first n.spot n.path n.tree) (sym same) n.is))
-    put.1 put.2 (All-tail (IsNodeBelow c.args.heads.now trees c.args.frontier.now.nodes) c.args.next c.args.frontier.now.turns all)
+    put.1 put.2 (All-tail (IsNodeBelow c.args.heads.now trees c.args.frontier.now.nodes) c.args.next c.args.frontier.now.waiting all)
 
 pub returns-in-None-clause-shown : goal.returns-in-None-clause-shown
 returns-in-None-clause-shown g c = λ trees n.
@@ -187,8 +187,8 @@ returns-in-None-clause-shown g c = λ trees n.
 
 pub returns-in-None-clause-parts : goal.returns-in-None-clause-parts
 returns-in-None-clause-parts g c = λ trees all.
-    always (All (IsNodeBelow c.args.heads.now trees c.args.frontier.now.nodes) c.args.frontier.now.turns) c.open_leaf.result
-    (All-tail (IsNodeBelow c.args.heads.now trees c.args.frontier.now.nodes) c.args.next c.args.frontier.now.turns all)
+    always (All (IsNodeBelow c.args.heads.now trees c.args.frontier.now.nodes) c.args.frontier.now.waiting) c.open_leaf.result
+    (All-tail (IsNodeBelow c.args.heads.now trees c.args.frontier.now.nodes) c.args.next c.args.frontier.now.waiting all)
 
 -- ---- the pages of all leaves are kept
 

@@ -20,12 +20,12 @@ use Rattle.nearest_query.proofs.search.search.Goals as goal
 pub returns-then-ends_before-clause-answer : goal.returns-then-ends_before-clause-answer
 returns-then-ends_before-clause-answer g c = λ told agrees w all over s.
     let d = c.in-Some.next.dist2.0 in
-    let far : All (λ t. d ≤ t.dist2.0) (c.in-Some.next ∷ c.pop.new.self.turns) =
-    All-cons (λ t. d ≤ t.dist2.0) c.in-Some.next c.pop.new.self.turns (omega arith) c.in-Some.ensures.least in
-    let here = sought_moved w all c.loop-next.frontier.turns (c.in-Some.next ∷ c.pop.new.self.turns) c.loop-next.frontier.nodes c.loop-next.found
+    let far : All (λ t. d ≤ t.dist2.0) (c.in-Some.next ∷ c.pop.new.self.waiting) =
+    All-cons (λ t. d ≤ t.dist2.0) c.in-Some.next c.pop.new.self.waiting (omega arith) c.in-Some.ensures.least in
+    let here = sought_moved w all c.loop-next.frontier.waiting (c.in-Some.next ∷ c.pop.new.self.waiting) c.loop-next.frontier.nodes c.loop-next.found
     c.in-Some.ensures.some (c.loop-next.invariant.sought told agrees w all over s) in
     subst (λ k. IsNearest k all (found_of c.loop-next.found)) c.loop-next.invariant.room
-    (stop_nearest w all (c.in-Some.next ∷ c.pop.new.self.turns) c.loop-next.frontier.nodes c.loop-next.found here d far
+    (stop_nearest w all (c.in-Some.next ∷ c.pop.new.self.waiting) c.loop-next.frontier.nodes c.loop-next.found here d far
     (c.ends_before.ensures.full c.if-ends_before.true) (c.ends_before.ensures.yes c.if-ends_before.true here.seen here.best))
 
 pub returns-then-ends_before-clause-reads : goal.returns-then-ends_before-clause-reads
@@ -45,9 +45,9 @@ open-requires g c = (
         (
           λ on. record { ascend = (c.requires.passes on).ascend; hides = c.loop-next.invariant.marks.hides on },
           subst (λ ns. IsInside (length c.args.heads.now) ns c.in-Some.next) (sym c.in-Some.ensures.nodes)
-              (All-head (IsInside (length c.args.heads.now) c.loop-next.frontier.nodes) c.in-Some.next c.pop.new.self.turns
-              (All-permutation (IsInside (length c.args.heads.now) c.loop-next.frontier.nodes) c.loop-next.frontier.turns
-              (c.in-Some.next ∷ c.pop.new.self.turns)
+              (All-head (IsInside (length c.args.heads.now) c.loop-next.frontier.nodes) c.in-Some.next c.pop.new.self.waiting
+              (All-permutation (IsInside (length c.args.heads.now) c.loop-next.frontier.nodes) c.loop-next.frontier.waiting
+              (c.in-Some.next ∷ c.pop.new.self.waiting)
               c.in-Some.ensures.some c.loop-next.invariant.inside)),
         ),
       ),
@@ -72,7 +72,7 @@ loop-next-init g c = record {
 
 pub loop-next-smaller : goal.loop-next-smaller
 loop-next-smaller g c =
-    let p = sum_by_popped work c.in-Some.next c.loop-next.frontier.turns c.pop.new.self.turns c.in-Some.ensures.some in
+    let p = sum_by_popped work c.in-Some.next c.loop-next.frontier.waiting c.pop.new.self.waiting c.in-Some.ensures.some in
     let o = c.in_ok-open.ensures.work in
     omega (arith, p, o)
 
@@ -80,7 +80,7 @@ pub loop-next-preserved : goal.loop-next-preserved
 loop-next-preserved g c = record {
   room = c.in_ok-open.ensures.room ∙ c.loop-next.invariant.room;
   files = λ told. c.in_ok-open.ensures.reading.files told ∙ c.loop-next.invariant.files told;
-  faults = c.in_ok-open.ensures.reading.cause.fine ∙ c.loop-next.invariant.faults;
+  faults = c.in_ok-open.ensures.reading.cause.on_ok ∙ c.loop-next.invariant.faults;
   others = λ i h. ⊎_elim (λ k. c.loop-next.invariant.others i k) (λ k. inr k) (c.in_ok-open.ensures.reading.others i h);
   agrees = λ told a. subst (λ f. Agrees f c.open.new.cache) (c.loop-next.invariant.files told)
       (c.in_ok-open.ensures.reading.agrees told
@@ -88,20 +88,20 @@ loop-next-preserved g c = record {
   marks = marks_then g.row.D c.args.watched c.args.heads.now c.args.lives.now c.args.cache.now c.loop-next.cache c.open.new.cache
       c.loop-next.invariant.marks c.in_ok-open.ensures.marks;
   inside = c.in_ok-open.ensures.inside
-      (subst (λ ns. All (IsInside (length c.args.heads.now) ns) c.pop.new.self.turns) (sym c.in-Some.ensures.nodes)
-      (All-tail (IsInside (length c.args.heads.now) c.loop-next.frontier.nodes) c.in-Some.next c.pop.new.self.turns
-      (All-permutation (IsInside (length c.args.heads.now) c.loop-next.frontier.nodes) c.loop-next.frontier.turns (c.in-Some.next ∷ c.pop.new.self.turns)
+      (subst (λ ns. All (IsInside (length c.args.heads.now) ns) c.pop.new.self.waiting) (sym c.in-Some.ensures.nodes)
+      (All-tail (IsInside (length c.args.heads.now) c.loop-next.frontier.nodes) c.in-Some.next c.pop.new.self.waiting
+      (All-permutation (IsInside (length c.args.heads.now) c.loop-next.frontier.nodes) c.loop-next.frontier.waiting (c.in-Some.next ∷ c.pop.new.self.waiting)
       c.in-Some.ensures.some c.loop-next.invariant.inside)));
   parts = λ trees all. c.in_ok-open.ensures.parts trees
-      (subst (λ ns. All (IsNodeBelow c.args.heads.now trees ns) (c.in-Some.next ∷ c.pop.new.self.turns)) (sym c.in-Some.ensures.nodes)
-      (All-permutation (IsNodeBelow c.args.heads.now trees c.loop-next.frontier.nodes) c.loop-next.frontier.turns (c.in-Some.next ∷ c.pop.new.self.turns)
+      (subst (λ ns. All (IsNodeBelow c.args.heads.now trees ns) (c.in-Some.next ∷ c.pop.new.self.waiting)) (sym c.in-Some.ensures.nodes)
+      (All-permutation (IsNodeBelow c.args.heads.now trees c.loop-next.frontier.nodes) c.loop-next.frontier.waiting (c.in-Some.next ∷ c.pop.new.self.waiting)
       c.in-Some.ensures.some (c.loop-next.invariant.parts trees all)));
   kept = λ trees all kept.
       let before = c.loop-next.invariant.kept trees all kept in
       let now = c.in_ok-open.ensures.kept trees
       (subst (λ ns. IsNodeBelow c.args.heads.now trees ns c.in-Some.next) (sym c.in-Some.ensures.nodes)
-      (All-head (IsNodeBelow c.args.heads.now trees c.loop-next.frontier.nodes) c.in-Some.next c.pop.new.self.turns
-      (All-permutation (IsNodeBelow c.args.heads.now trees c.loop-next.frontier.nodes) c.loop-next.frontier.turns (c.in-Some.next ∷ c.pop.new.self.turns)
+      (All-head (IsNodeBelow c.args.heads.now trees c.loop-next.frontier.nodes) c.in-Some.next c.pop.new.self.waiting
+      (All-permutation (IsNodeBelow c.args.heads.now trees c.loop-next.frontier.nodes) c.loop-next.frontier.waiting (c.in-Some.next ∷ c.pop.new.self.waiting)
       c.in-Some.ensures.some (c.loop-next.invariant.parts trees all))))
       (leaves_still c.args.cache.now c.loop-next.cache c.args.heads.now trees before.1 kept) in
       (now.reads ∙ before.0, λ i m k. now.kept i m (before.1 i m k));
@@ -114,20 +114,21 @@ loop-next-preserved g c = record {
         lives_are = over.lives_are;
         files_are = over.files_are ∙ sym (c.loop-next.invariant.files told);
       })
-      (subst (λ ns. IsSought g.row.D w all (c.in-Some.next ∷ c.pop.new.self.turns) ns c.loop-next.found) (sym c.in-Some.ensures.nodes)
-      (sought_moved w all c.loop-next.frontier.turns (c.in-Some.next ∷ c.pop.new.self.turns) c.loop-next.frontier.nodes c.loop-next.found c.in-Some.ensures.some
+      (subst (λ ns. IsSought g.row.D w all (c.in-Some.next ∷ c.pop.new.self.waiting) ns c.loop-next.found) (sym c.in-Some.ensures.nodes)
+      (sought_moved w all c.loop-next.frontier.waiting (c.in-Some.next ∷ c.pop.new.self.waiting) c.loop-next.frontier.nodes c.loop-next.found
+      c.in-Some.ensures.some
       (c.loop-next.invariant.sought told a w all over s)));
   reads = λ told a w all nearest over s is.
       let r = c.loop-next.invariant.reads told a w all nearest over s is in
-      let here = sought_moved w all c.loop-next.frontier.turns (c.in-Some.next ∷ c.pop.new.self.turns) c.loop-next.frontier.nodes c.loop-next.found
+      let here = sought_moved w all c.loop-next.frontier.waiting (c.in-Some.next ∷ c.pop.new.self.waiting) c.loop-next.frontier.nodes c.loop-next.found
       c.in-Some.ensures.some (c.loop-next.invariant.sought told a w all over s) in
       let o = c.in_ok-open.ensures.reads w (bound_of c.args.found.now.many.room nearest)
-      (next_node w all c.in-Some.next c.pop.new.self.turns c.loop-next.frontier.nodes c.pop.new.self.nodes c.loop-next.found here c.in-Some.ensures.nodes)
+      (next_node w all c.in-Some.next c.pop.new.self.waiting c.loop-next.frontier.nodes c.pop.new.self.nodes c.loop-next.found here c.in-Some.ensures.nodes)
       over.at_is
-      (next_within w all c.in-Some.next c.pop.new.self.turns c.loop-next.frontier.nodes c.loop-next.found here c.args.found.now.many.room nearest
+      (next_within w all c.in-Some.next c.pop.new.self.waiting c.loop-next.frontier.nodes c.loop-next.found here c.args.found.now.many.room nearest
       c.loop-next.invariant.room is c.in-Some.ensures.least (c.ends_before.ensures.no c.if-ends_before.false)) in
       let p =
-      sum_by_popped (sum_below (one_within w (bound_of c.args.found.now.many.room nearest))) c.in-Some.next c.loop-next.frontier.turns c.pop.new.self.turns
+      sum_by_popped (sum_below (one_within w (bound_of c.args.found.now.many.room nearest))) c.in-Some.next c.loop-next.frontier.waiting c.pop.new.self.waiting
       c.in-Some.ensures.some in
       omega (arith, r, o, p);
 }
@@ -154,22 +155,22 @@ returns-in_err-open-clause-reading g c =
 pub returns-in_err-open-clause-reads : goal.returns-in_err-open-clause-reads
 returns-in_err-open-clause-reads g c = λ told a w all nearest over s is.
     let r = c.loop-next.invariant.reads told a w all nearest over s is in
-    let here = sought_moved w all c.loop-next.frontier.turns (c.in-Some.next ∷ c.pop.new.self.turns) c.loop-next.frontier.nodes c.loop-next.found
+    let here = sought_moved w all c.loop-next.frontier.waiting (c.in-Some.next ∷ c.pop.new.self.waiting) c.loop-next.frontier.nodes c.loop-next.found
     c.in-Some.ensures.some (c.loop-next.invariant.sought told a w all over s) in
     let o = c.in_err-open.ensures.reads w (bound_of c.args.found.now.many.room nearest)
-    (next_node w all c.in-Some.next c.pop.new.self.turns c.loop-next.frontier.nodes c.pop.new.self.nodes c.loop-next.found here c.in-Some.ensures.nodes)
+    (next_node w all c.in-Some.next c.pop.new.self.waiting c.loop-next.frontier.nodes c.pop.new.self.nodes c.loop-next.found here c.in-Some.ensures.nodes)
     over.at_is
-    (next_within w all c.in-Some.next c.pop.new.self.turns c.loop-next.frontier.nodes c.loop-next.found here c.args.found.now.many.room nearest
+    (next_within w all c.in-Some.next c.pop.new.self.waiting c.loop-next.frontier.nodes c.loop-next.found here c.args.found.now.many.room nearest
     c.loop-next.invariant.room is c.in-Some.ensures.least (c.ends_before.ensures.no c.if-ends_before.false)) in
     let p =
-    sum_by_popped (sum_below (one_within w (bound_of c.args.found.now.many.room nearest))) c.in-Some.next c.loop-next.frontier.turns c.pop.new.self.turns
+    sum_by_popped (sum_below (one_within w (bound_of c.args.found.now.many.room nearest))) c.in-Some.next c.loop-next.frontier.waiting c.pop.new.self.waiting
     c.in-Some.ensures.some in
     omega (arith, r, o, p)
 
 pub returns-clause-answer : goal.returns-clause-answer
 returns-clause-answer g c = λ told agrees w all over s.
     subst (λ k. IsNearest k all (found_of c.loop-next.found)) c.loop-next.invariant.room
-    (end_nearest w all c.loop-next.frontier.turns c.loop-next.frontier.nodes c.loop-next.found (c.loop-next.invariant.sought told agrees w all over s)
+    (end_nearest w all c.loop-next.frontier.waiting c.loop-next.frontier.nodes c.loop-next.found (c.loop-next.invariant.sought told agrees w all over s)
     c.in_default.ensures.none)
 
 pub returns-clause-reads : goal.returns-clause-reads
@@ -179,12 +180,12 @@ returns-clause-reads g c = λ told agrees w all nearest over s is.
 
 pub returns-in_err-open-clause-whole : goal.returns-in_err-open-clause-whole
 returns-in_err-open-clause-whole g c = λ told a w all over s.
-    let here = sought_moved w all c.loop-next.frontier.turns (c.in-Some.next ∷ c.pop.new.self.turns) c.loop-next.frontier.nodes c.loop-next.found
+    let here = sought_moved w all c.loop-next.frontier.waiting (c.in-Some.next ∷ c.pop.new.self.waiting) c.loop-next.frontier.nodes c.loop-next.found
     c.in-Some.ensures.some (c.loop-next.invariant.sought told a w all over s) in
     let h = c.in_err-open.ensures.whole told
     (subst (λ f. Agrees f c.loop-next.cache) (sym (c.loop-next.invariant.files told)) (c.loop-next.invariant.agrees told a)) w
     (record { at_is = over.at_is; heads_are = over.heads_are; lives_are = over.lives_are; files_are = over.files_are ∙ sym (c.loop-next.invariant.files told) })
-    (next_node w all c.in-Some.next c.pop.new.self.turns c.loop-next.frontier.nodes c.pop.new.self.nodes c.loop-next.found here c.in-Some.ensures.nodes) in
+    (next_node w all c.in-Some.next c.pop.new.self.waiting c.loop-next.frontier.nodes c.pop.new.self.nodes c.loop-next.found here c.in-Some.ensures.nodes) in
     let p = err_from_is_err_and c.from_residual.result c.from_residual.ensures.1 in
     rw (p.1, p.2) h
 
@@ -192,8 +193,8 @@ pub returns-in_err-open-clause-shown : goal.returns-in_err-open-clause-shown
 returns-in_err-open-clause-shown g c = λ trees all.
     let h = c.in_err-open.ensures.shown trees
     (subst (λ ns. IsNodeBelow c.args.heads.now trees ns c.in-Some.next) (sym c.in-Some.ensures.nodes)
-    (All-head (IsNodeBelow c.args.heads.now trees c.loop-next.frontier.nodes) c.in-Some.next c.pop.new.self.turns
-    (All-permutation (IsNodeBelow c.args.heads.now trees c.loop-next.frontier.nodes) c.loop-next.frontier.turns (c.in-Some.next ∷ c.pop.new.self.turns)
+    (All-head (IsNodeBelow c.args.heads.now trees c.loop-next.frontier.nodes) c.in-Some.next c.pop.new.self.waiting
+    (All-permutation (IsNodeBelow c.args.heads.now trees c.loop-next.frontier.nodes) c.loop-next.frontier.waiting (c.in-Some.next ∷ c.pop.new.self.waiting)
     c.in-Some.ensures.some (c.loop-next.invariant.parts trees all)))) in
     let p = err_from_is_err_and c.from_residual.result c.from_residual.ensures.1 in
     rw (p.1, p.2) h
@@ -208,8 +209,8 @@ returns-in_err-open-clause-kept g c = λ trees all kept.
     let before = c.loop-next.invariant.kept trees all kept in
     let now = c.in_err-open.ensures.kept trees
     (subst (λ ns. IsNodeBelow c.args.heads.now trees ns c.in-Some.next) (sym c.in-Some.ensures.nodes)
-    (All-head (IsNodeBelow c.args.heads.now trees c.loop-next.frontier.nodes) c.in-Some.next c.pop.new.self.turns
-    (All-permutation (IsNodeBelow c.args.heads.now trees c.loop-next.frontier.nodes) c.loop-next.frontier.turns (c.in-Some.next ∷ c.pop.new.self.turns)
+    (All-head (IsNodeBelow c.args.heads.now trees c.loop-next.frontier.nodes) c.in-Some.next c.pop.new.self.waiting
+    (All-permutation (IsNodeBelow c.args.heads.now trees c.loop-next.frontier.nodes) c.loop-next.frontier.waiting (c.in-Some.next ∷ c.pop.new.self.waiting)
     c.in-Some.ensures.some (c.loop-next.invariant.parts trees all))))
     (leaves_still c.args.cache.now c.loop-next.cache c.args.heads.now trees before.1 kept) in
     let p = err_from_is_err_and c.from_residual.result c.from_residual.ensures.1 in

@@ -18,22 +18,22 @@ invariant-loop-next g l = record {
   others : (i : ℕ) → KeepsFile l.cache i → KeepsFile l.initial.cache i ⊎ HasId l.heads i;
   agrees : IsTrue g.F.Pages.told → Agrees (g.F.Pages.files l.initial.folder) l.initial.cache → Agrees (g.F.Pages.files l.initial.folder) l.cache;
   marks : MarksDead g.row.D l.watched l.heads l.lives l.initial.cache l.cache;
-  inside : All (IsInside (length l.heads) l.frontier.nodes) l.frontier.turns;
-  parts : (trees : ℕ → IndexTree) → All (IsNodeBelow l.heads trees l.initial.frontier.nodes) l.initial.frontier.turns
-      → All (IsNodeBelow l.heads trees l.frontier.nodes) l.frontier.turns;
-  kept : (trees : ℕ → IndexTree) → All (IsNodeBelow l.heads trees l.initial.frontier.nodes) l.initial.frontier.turns
+  inside : All (IsInside (length l.heads) l.frontier.nodes) l.frontier.waiting;
+  parts : (trees : ℕ → IndexTree) → All (IsNodeBelow l.heads trees l.initial.frontier.nodes) l.initial.frontier.waiting
+      → All (IsNodeBelow l.heads trees l.frontier.nodes) l.frontier.waiting;
+  kept : (trees : ℕ → IndexTree) → All (IsNodeBelow l.heads trees l.initial.frontier.nodes) l.initial.frontier.waiting
       → AreLeavesKept l.initial.cache l.heads trees
       → (g.F.Pages.reads l.folder ≡ g.F.Pages.reads l.initial.folder) × KeepsPages l.initial.cache l.cache;
   sought : IsTrue g.F.Pages.told → Agrees (g.F.Pages.files l.initial.folder) l.initial.cache → (w : World) (all : List Near)
       → IsOver w l.at.c l.heads l.lives (g.F.Pages.files l.initial.folder)
-      → IsSought g.row.D w all l.initial.frontier.turns l.initial.frontier.nodes l.initial.found
-      → IsSought g.row.D w all l.frontier.turns l.frontier.nodes l.found;
+      → IsSought g.row.D w all l.initial.frontier.waiting l.initial.frontier.nodes l.initial.found
+      → IsSought g.row.D w all l.frontier.waiting l.frontier.nodes l.found;
   reads : IsTrue g.F.Pages.told → Agrees (g.F.Pages.files l.initial.folder) l.initial.cache → (w : World) (all nearest : List Near)
       → IsOver w l.at.c l.heads l.lives (g.F.Pages.files l.initial.folder)
-      → IsSought g.row.D w all l.initial.frontier.turns l.initial.frontier.nodes l.initial.found → IsNearest l.initial.found.many.room all nearest
-      → g.F.Pages.reads l.folder + sum_by (sum_below (one_within w (bound_of l.initial.found.many.room nearest))) l.frontier.turns
-      ≤ g.F.Pages.reads l.initial.folder + sum_by (sum_below (one_within w (bound_of l.initial.found.many.room nearest))) l.initial.frontier.turns;
+      → IsSought g.row.D w all l.initial.frontier.waiting l.initial.frontier.nodes l.initial.found → IsNearest l.initial.found.many.room all nearest
+      → g.F.Pages.reads l.folder + sum_by (sum_below (one_within w (bound_of l.initial.found.many.room nearest))) l.frontier.waiting
+      ≤ g.F.Pages.reads l.initial.folder + sum_by (sum_below (one_within w (bound_of l.initial.found.many.room nearest))) l.initial.frontier.waiting;
 }
 
 abbrev pub decreases-loop-next : goal.decreases-loop-next
-decreases-loop-next g l = sum_by work l.frontier.turns
+decreases-loop-next g l = sum_by work l.frontier.waiting

@@ -37,7 +37,7 @@ loop-i-preserved g c =
           c.args.cache.now c.loop-i.cache c.count_one.new.cache (ids_of parts) was.calm
           (calm_more g.F.Pages.told (g.F.Pages.files c.loop-i.folder) (g.F.Pages.files c.count_one.new.folder)
           c.loop-i.cache c.count_one.new.cache (p.head.id ∷ []) (ids_of parts) (id_in parts p there) one.calm);
-      faults = one.cause.fine ∙ was.faults;
+      faults = one.cause.on_ok ∙ was.faults;
       reads = λ n all.
           let u = opened_more g.row.D box (g.S.Sorting.parts c.args.sorting.now) parts c.loop-i.i p n is all in
           let before = was.reads u.left u.of_left in

@@ -26,7 +26,7 @@ loop-leaf-preserved g c =
           );
       others = λ told other ne. c.make_room.ensures.others told other (rw i.id ne) ∙ i.others told other ne;
       reads = c.make_room.ensures.reads ∙ i.reads;
-      faults = c.in_ok-make_room.ensures.cause.fine ∙ i.faults;
+      faults = c.in_ok-make_room.ensures.cause.on_ok ∙ i.faults;
     }
 
 pub returns-clause-put : goal.returns-clause-put

@@ -28,7 +28,7 @@ use Rattle.segment_set.proofs.Losing.{loses_none}
 use Rattle.segment_set.proofs.Refused.{memory_caused, memory_damage, never_value, same_cause}
 use Rattle.segment_set.proofs.Saving.{done_cause}
 use Rattle.segment_set.proofs.Sizes.{built_fits}
-use Rattle.segment_set.proofs.Spilled.{some_is}
+use Rattle.segment_set.proofs.WrittenBuffer.{some_is}
 use Rattle.segment_set.proofs.rewriting.gathered.Goals as goal
 use Rattle.point_codec.proofs.Sizes.{entry_fits}
 
@@ -162,7 +162,7 @@ returns-in_err-entries-clause-cause g c =
 
 pub returns-then-is_empty-clause-cause : goal.returns-then-is_empty-clause-cause
 returns-then-is_empty-clause-cause g c =
-    done_cause (g.F.Pages.faults c.args.folder.now) (g.F.Pages.faults c.gather.new.folder) _ c.in_ok-entries.ensures.cause.fine
+    done_cause (g.F.Pages.faults c.args.folder.now) (g.F.Pages.faults c.gather.new.folder) _ c.in_ok-entries.ensures.cause.on_ok
 
 pub returns-in_err-build_of-clause-cause : goal.returns-in_err-build_of-clause-cause
 returns-in_err-build_of-clause-cause g c =
@@ -170,14 +170,14 @@ returns-in_err-build_of-clause-cause g c =
     rw (p.1, p.2)
     (record {
       later = c.in_ok-entries.ensures.cause.later;
-      fine = tt;
+      on_ok = tt;
       failed = λ is.
           let same : c.in_err-build_of.field-0.0 ≡ page.Failed = cc in
           absurd (c.in_err-build_of.ensures.unfailed (ap (λ (f : PageFault). Err f) same));
     })
 
 pub returns-clause-cause : goal.returns-clause-cause
-returns-clause-cause g c = record { later = c.in_ok-entries.ensures.cause.later; fine = c.in_ok-entries.ensures.cause.fine; failed = λ h. cc }
+returns-clause-cause g c = record { later = c.in_ok-entries.ensures.cause.later; on_ok = c.in_ok-entries.ensures.cause.on_ok; failed = λ h. cc }
 
 pub returns-in_err-entries-clause-files : goal.returns-in_err-entries-clause-files
 returns-in_err-entries-clause-files g c = c.gather.ensures.calm.files

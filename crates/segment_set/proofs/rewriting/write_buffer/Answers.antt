@@ -40,8 +40,8 @@ build_segment-requires-after_bounds g c κs = λ _.
       ),
     )
 
-pub returns-clause-spilled : goal.returns-clause-spilled
-returns-clause-spilled g c =
+pub returns-clause-written : goal.returns-clause-written
+returns-clause-written g c =
     let same : items_of c.as_mut_slice.result.now ≡ c.args.buffer.now.items =
     ap items_of (c.as_mut_slice.ensures.value ∙ c.in_ok-copy.ensures.items) ∙ c.as_slice.ensures ∙ c.settle.ensures.items in
     let has = c.in_ok-new.ensures.has in

@@ -40,7 +40,7 @@ loop-i-preserved g c =
           (subst (λ (ps : List LiveSegment). is_among (ids_of ps) id ≡ false) (parts_more parts c.loop-i.i p c.part.ensures) none) in
           one.apart id n (λ same. later.1 (same ∙ one.listed.line.segment)) ∙ was.apart id n later.0;
       reads = one.reads ∙ was.reads;
-      faults = one.cause.fine ∙ was.faults;
+      faults = one.cause.on_ok ∙ was.faults;
       room = omega (arith, was.room, c.push_reserved.ensures.len, c.push_reserved.ensures.capacity, c.loop-i-test.true, c.len-i-end.ensures.value);
       listed = subst
           (λ (ls : List Listed). AllZip

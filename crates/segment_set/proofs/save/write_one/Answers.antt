@@ -58,7 +58,7 @@ returns-clause-anew g c = record {
 }
 
 pub returns-clause-cause : goal.returns-clause-cause
-returns-clause-cause g c = done_cause (g.F.Pages.faults c.args.folder.now) (g.F.Pages.faults c.write_live.new.folder) _ c.in_ok-write_live.ensures.cause.fine
+returns-clause-cause g c = done_cause (g.F.Pages.faults c.args.folder.now) (g.F.Pages.faults c.write_live.new.folder) _ c.in_ok-write_live.ensures.cause.on_ok
 
 pub returns-in_err-write_live-clause-reads : goal.returns-in_err-write_live-clause-reads
 returns-in_err-write_live-clause-reads g c = c.in_err-write_live.ensures.reads

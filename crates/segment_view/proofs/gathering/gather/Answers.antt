@@ -46,7 +46,7 @@ loop-i-preserved g c =
           c.gather_one.new.cache (ids_of (parts_among ids parts)) was.calm
           (calm_more g.F.Pages.told (g.F.Pages.files c.loop-i.folder) (g.F.Pages.files c.gather_one.new.folder) c.loop-i.cache c.gather_one.new.cache
           (ids_of (parts_among ids (p ∷ []))) (ids_of (parts_among ids parts)) (among_in ids parts p there) one.calm);
-      faults = one.cause.fine ∙ was.faults;
+      faults = one.cause.on_ok ∙ was.faults;
       live = subst (λ (xs : List Item). All (λ (x : Item). has_live x.doc (parts_among ids parts) ≡ true) xs) (sym more.1)
           (all_widen ids parts p (items_of c.loop-i.entries.items) more.0 there was.live more.2);
       numbers = one.numbers was.numbers;

@@ -50,7 +50,7 @@ loop-i-preserved g c =
           (calm_more g.F.Pages.told (g.F.Pages.files c.loop-i.folder) (g.F.Pages.files c.visit_one.new.folder) c.loop-i.cache c.visit_one.new.cache
           (p.head.id ∷ []) (ids_of parts) (id_in parts p there) one.calm);
       marks = λ i n offset len page known. was.marks i n offset len page (one.marks i n offset len page known);
-      faults = one.cause.fine ∙ was.faults;
+      faults = one.cause.on_ok ∙ was.faults;
       has = one.has ∙ was.has;
       crosses = one.crosses ∙ was.crosses;
       tests = λ n all.

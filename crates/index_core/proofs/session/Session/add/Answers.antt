@@ -45,7 +45,7 @@ returns-clause-applies g c =
     (record {
       commit = refl;
       refused = refl;
-      grows = grows_added _ _ _ c.add.result c.add.ensures.alone.leaf_size c.add.ensures.gives.points_given c.add.ensures.left.stays;
+      grows = grows_added _ _ _ c.add.result c.add.ensures.rest.leaf_size c.add.ensures.gives.points_given c.add.ensures.left.stays;
       keeps = c.add.ensures.rewrites.kept;
       follows = c.add.ensures.rewrites.follows;
       brings = λ told. brings_written _ _ _ _ _ _ _ _ told c.add.ensures.rewrites.kept c.add.ensures.rewrites.follows (c.add.ensures.rewrites.canon told);
@@ -122,7 +122,7 @@ pub returns-in_err-put_doc-clause-light : goal.returns-in_err-put_doc-clause-lig
 returns-in_err-put_doc-clause-light g c room = light_same _ _ _ _
 
 pub returns-clause-light : goal.returns-clause-light
-returns-clause-light g c = light_added _ _ _ _ _ _ _ c.self.view_is c.add.ensures.in_room.unwritten c.add.ensures.alone.snapshots c.add.ensures.in_room.parts
+returns-clause-light g c = light_added _ _ _ _ _ _ _ c.self.view_is c.add.ensures.in_room.unwritten c.add.ensures.rest.snapshots c.add.ensures.in_room.parts
 
 pub returns-then-is_full-clause-unread : goal.returns-then-is_full-clause-unread
 returns-then-is_full-clause-unread g c = refl

@@ -74,10 +74,10 @@ returns-clause-closed g c = on_ok_weaker c.sweep.result (λ needed. record {
       (c.commit.ensures.seen told i seen)));
   guards = λ told guards. c.sweep.ensures.guards told (guarded g c told guards);
   says = says g c;
-  unchanged = unchanged_closed c.commit.new.self c.rest.new.self c.sweep.new.self (eased g c) c.sweep.ensures.alone (commit_same g c)
+  unchanged = unchanged_closed c.commit.new.self c.rest.new.self c.sweep.new.self (eased g c) c.sweep.ensures.rest (commit_same g c)
       c.in_ok-commit.ensures.done.unchanged c.sweep.ensures.written.1;
   listed =
-      only_listed c.commit.new.self c.rest.new.self c.sweep.new.self (eased g c) c.sweep.ensures.alone (commit_same g c) c.in_ok-commit.ensures.done.unchanged
+      only_listed c.commit.new.self c.rest.new.self c.sweep.new.self (eased g c) c.sweep.ensures.rest (commit_same g c) c.in_ok-commit.ensures.done.unchanged
       (λ m there. let (d, is, need) = needed m there in (d, ap (λ (u : SessionData). u.commit) (sym c.self.view_is) ∙ is, need));
   tracked = λ told m.
       let f = g.F.Pages.files c.args.folder.now in
@@ -94,14 +94,14 @@ returns-clause-durable g c = record {
       keeps_either (g.F.Pages.files c.args.folder.now) (g.F.Pages.files c.sweep.new.folder) c.sweep.new.self c.sweep.result
       (says g c told guards)
       (flight_then _ (g.F.Pages.files c.commit.new.folder) _ c.commit.new.self.set.saved _
-      (ap (λ (u : SetData). u.saved) c.sweep.ensures.alone.is ∙ ap (λ (u : SetData). u.saved) (eased g c))
+      (ap (λ (u : SetData). u.saved) c.sweep.ensures.rest.is ∙ ap (λ (u : SetData). u.saved) (eased g c))
       (kept g c told guards) (c.commit.ensures.flight told guards));
   stored = λ told i seen guards.
       stores_any (g.F.Pages.files c.args.folder.now) (g.F.Pages.files c.sweep.new.folder) i c.sweep.new.self.set
       c.sweep.result
       (stored_still (g.F.Pages.files c.commit.new.folder) (g.F.Pages.files c.sweep.new.folder) (Some (at_rest i)) (kept g c told guards)
       (c.in_ok-commit.ensures.durable.stored told i seen guards).0)
-      (ap (λ (u : SetData). u.buffer) c.sweep.ensures.alone.is ∙ ap (λ (u : SetData). u.buffer) (eased g c)
+      (ap (λ (u : SetData). u.buffer) c.sweep.ensures.rest.is ∙ ap (λ (u : SetData). u.buffer) (eased g c)
       ∙ (c.in_ok-commit.ensures.durable.stored told i seen guards).1);
   undone = λ told guards.
       undone_written _ (g.F.Pages.files c.sweep.new.folder) c.sweep.new.self.commit c.sweep.result c.sweep.ensures.faults.whole
@@ -134,11 +134,11 @@ returns-clause-canon g c told =
     brings_then _ _ (g.F.Pages.files c.commit.new.folder) _ _ c.commit.new.self.set.parts _ (c.commit.ensures.canon told)
     (brings_still _ _ _ c.commit.new.self.set.parts
     _ (λ p there. c.sweep.ensures.removes.segments told p (subst (λ (ps : List LiveSegment). Contains ps p) (sym parts) there))
-    (ap (λ (u : SetData). u.parts) c.sweep.ensures.alone.is ∙ parts))
+    (ap (λ (u : SetData). u.parts) c.sweep.ensures.rest.is ∙ parts))
 
 pub returns-clause-faults : goal.returns-clause-faults
 returns-clause-faults g c = record {
-  cause = cause_after _ _ _ c.sweep.result c.in_ok-commit.ensures.faults.cause.fine c.sweep.ensures.faults.cause;
+  cause = cause_after _ _ _ c.sweep.result c.in_ok-commit.ensures.faults.cause.on_ok c.sweep.ensures.faults.cause;
   whole = λ told i seen. c.sweep.ensures.faults.whole;
   evident = none_evident _ _ _ c.sweep.ensures.faults.whole;
 }

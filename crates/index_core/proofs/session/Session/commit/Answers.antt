@@ -195,7 +195,7 @@ returns-in_err-write g c =
           (subst (λ (u : SetData). Follows c.self.inside.set.names c.self.inside.set.parts u.parts) (sym c.write.ensures.set) c.save.ensures.rewrites.follows);
       faults = record {
         cause =
-            fault_cause _ _ fault _ error (cause_after {T = Unit {0}} _ _ _ (Err fault) c.in_ok-commit.ensures.cause.fine c.in_err-write.ensures.faults.cause);
+            fault_cause _ _ fault _ error (cause_after {T = Unit {0}} _ _ _ (Err fault) c.in_ok-commit.ensures.cause.on_ok c.in_err-write.ensures.faults.cause);
         whole = λ told i seen. damage_to _ _ fault error c.in_err-write.ensures.faults.whole;
         evident = none_evident _ _ _ (damage_to _ _ fault error c.in_err-write.ensures.faults.whole);
       };
@@ -213,10 +213,10 @@ returns g c =
     let kept : IsTrue g.F.Pages.told → Guards g.row.D old c.args.self.now → SameKept old saved =
     λ told guards. kept_after_calls _ _ _ _ _ _ told c.save.ensures.rewrites.kept (subst (Guards g.row.D old) (sym c.self.view_is) guards).set in
     let same = c.sweep.ensures.written.0 ∙ c.in_ok-write.ensures.written.0 in
-    let flown = ap (λ (u : SetData). u.saved) c.sweep.ensures.alone.is
+    let flown = ap (λ (u : SetData). u.saved) c.sweep.ensures.rest.is
     ∙ (ap (λ (u : SetData). u.saved) c.write.ensures.set ∙ c.in_ok-commit.ensures.saves.saved ∙ sym c.in_ok-write.ensures.written.0)
     ∙ sym c.sweep.ensures.written.0 in
-    let empty = ap (λ (u : SetData). u.buffer) c.sweep.ensures.alone.is ∙ ap (λ (u : SetData). u.buffer) c.write.ensures.set ∙ c.in_ok-commit.ensures.emptied in
+    let empty = ap (λ (u : SetData). u.buffer) c.sweep.ensures.rest.is ∙ ap (λ (u : SetData). u.buffer) c.write.ensures.set ∙ c.in_ok-commit.ensures.emptied in
     let covers : Guards g.row.D old c.args.self.now → AreCovering old c.last_lines-last.result.now c.self.inside.set =
     λ guards. covered g.row.D old _ c.last_lines-last.result.now c.last_lines-last.ensures (subst (Guards g.row.D old) (sym c.self.view_is) guards) in
     let guarded : IsTrue g.F.Pages.told → Guards g.row.D old c.args.self.now → Guards g.row.D written c.write.new.self =
@@ -268,7 +268,7 @@ returns g c =
           commit = c.in_ok-commit.commit;
           is = same;
           done = c.sweep.ensures.written.1;
-          same = as_committed _ _ _ _ _ c.in_ok-commit.ensures.saves.commit c.in_ok-commit.ensures.emptied c.write.ensures.set c.sweep.ensures.alone;
+          same = as_committed _ _ _ _ _ c.in_ok-commit.ensures.saves.commit c.in_ok-commit.ensures.emptied c.write.ensures.set c.sweep.ensures.rest;
         };
         anew = λ changed. subst (λ (u : SessionData). IsCommitAnew u c.sweep.new.self) c.self.view_is
             (commit_anew _ _ c.in_ok-commit.commit _ c.last_lines-last.ensures same c.in_ok-commit.ensures.saves.fresh c.in_ok-commit.ensures.saves.kept);
@@ -286,12 +286,12 @@ returns g c =
           (brings_then _ _ _ _ _ c.write.new.self.set.parts _ (brings_then _ _ _ _ _ c.save.new.self.parts _
           (brings_written _ _ _ _ _ _ _ _ told c.save.ensures.rewrites.kept c.save.ensures.rewrites.follows (c.save.ensures.rewrites.canon told))
           (brings_two _ _ _ _ _ (c.write.ensures.others told) (ap (λ (u : SetData). u.parts) c.write.ensures.set)))
-          (brings_still _ _ _ _ _ (c.sweep.ensures.removes.segments told) (ap (λ (u : SetData). u.parts) c.sweep.ensures.alone.is)));
+          (brings_still _ _ _ _ _ (c.sweep.ensures.removes.segments told) (ap (λ (u : SetData). u.parts) c.sweep.ensures.rest.is)));
       follows = subst (λ (u : SessionData). Follows u.set.names u.set.parts c.sweep.new.self.set.parts) c.self.view_is
           (subst (Follows c.self.inside.set.names c.self.inside.set.parts)
-          (sym (ap (λ (u : SetData). u.parts) c.sweep.ensures.alone.is ∙ ap (λ (u : SetData). u.parts) c.write.ensures.set)) c.save.ensures.rewrites.follows);
+          (sym (ap (λ (u : SetData). u.parts) c.sweep.ensures.rest.is ∙ ap (λ (u : SetData). u.parts) c.write.ensures.set)) c.save.ensures.rewrites.follows);
       faults = record {
-        cause = cause_after _ _ _ c.sweep.result (c.in_ok-write.ensures.faults.cause.fine ∙ c.in_ok-commit.ensures.cause.fine) c.sweep.ensures.faults.cause;
+        cause = cause_after _ _ _ c.sweep.result (c.in_ok-write.ensures.faults.cause.on_ok ∙ c.in_ok-commit.ensures.cause.on_ok) c.sweep.ensures.faults.cause;
         whole = λ told i seen. c.sweep.ensures.faults.whole;
         evident = none_evident _ _ _ c.sweep.ensures.faults.whole;
       };

@@ -25,10 +25,10 @@ returns-in_err-put_deleted-clause-applies g c files faults =
 pub returns-then-delete-clause-applies : goal.returns-then-delete-clause-applies
 returns-then-delete-clause-applies g c files faults = applies_seen _ _ _ _ _ _ _ _ _ _ _ c.self.view_is
     (applies _ _ _ _ _ _
-    (calm_like _ _ _ _ _ _ _ _ _ _ _ _ (ap (λ (u : SetData). u.names) c.delete.ensures.alone)
-    (grows_same _ _ (ap (λ (u : SetData). u.leaf_size) c.delete.ensures.alone) (ap (λ (u : SetData). u.next) c.delete.ensures.alone)
-    (ap (λ (u : SetData). u.points_given) c.delete.ensures.alone))
-    c.delete.ensures.follows (λ told. refl) (λ told. brings_cleared _ files _ _ _ (ap (λ (u : SetData). u.parts) c.delete.ensures.alone))
+    (calm_like _ _ _ _ _ _ _ _ _ _ _ _ (ap (λ (u : SetData). u.names) c.delete.ensures.rest)
+    (grows_same _ _ (ap (λ (u : SetData). u.leaf_size) c.delete.ensures.rest) (ap (λ (u : SetData). u.next) c.delete.ensures.rest)
+    (ap (λ (u : SetData). u.points_given) c.delete.ensures.rest))
+    c.delete.ensures.follows (λ told. refl) (λ told. brings_cleared _ files _ _ _ (ap (λ (u : SetData). u.parts) c.delete.ensures.rest))
     (λ told. c.delete.ensures.faithful files))
     (λ told i seen. does_delete _ _ _ i _ c.delete.result _ _ (c.delete.ensures.live files i seen) (c.delete.ensures.seen files i seen)
     (c.in_ok-put_deleted.ensures.ok ∙ ap (λ b. c.args.out.now.items ++ deleted_text (cond b 1 0)) (sym c.if-delete.true)))
@@ -39,10 +39,10 @@ returns-in_err-put_deleted-2-clause-applies g c files faults =
     let p = err_from_is_err_and c.from_residual-in_err-put_deleted-2.result c.from_residual-in_err-put_deleted-2.ensures.1 in
     applies_seen _ _ _ _ _ _ _ _ _ _ _ c.self.view_is
     (applies_unsaid {T = Unit {0}} _ _ _ _ _ _ tt
-    (calm_like _ _ _ _ _ _ _ _ _ _ _ _ (ap (λ (u : SetData). u.names) c.delete.ensures.alone)
-    (grows_same _ _ (ap (λ (u : SetData). u.leaf_size) c.delete.ensures.alone) (ap (λ (u : SetData). u.next) c.delete.ensures.alone)
-    (ap (λ (u : SetData). u.points_given) c.delete.ensures.alone))
-    c.delete.ensures.follows (λ told. refl) (λ told. brings_cleared _ files _ _ _ (ap (λ (u : SetData). u.parts) c.delete.ensures.alone))
+    (calm_like _ _ _ _ _ _ _ _ _ _ _ _ (ap (λ (u : SetData). u.names) c.delete.ensures.rest)
+    (grows_same _ _ (ap (λ (u : SetData). u.leaf_size) c.delete.ensures.rest) (ap (λ (u : SetData). u.next) c.delete.ensures.rest)
+    (ap (λ (u : SetData). u.points_given) c.delete.ensures.rest))
+    c.delete.ensures.follows (λ told. refl) (λ told. brings_cleared _ files _ _ _ (ap (λ (u : SetData). u.parts) c.delete.ensures.rest))
     (λ told. c.delete.ensures.faithful files))
     (p.1 ∙ ap (λ (e : PageFault). Err e) p.2)
     (λ told i seen. seen_deleted _ _ _ i _ (sym (c.delete.ensures.live files i seen) ∙ c.if-delete.false) (c.delete.ensures.seen files i seen))
@@ -59,10 +59,10 @@ returns-clause-applies g c files faults =
     c.in_ok-put_deleted-2.ensures.ok ∙ ap (λ xs. xs ++ deleted_text 0) cut in
     applies_seen _ _ _ _ _ _ _ _ _ _ _ c.self.view_is
     (applies _ _ _ _ _ _
-    (calm_like _ _ _ _ _ _ _ _ _ _ _ _ (ap (λ (u : SetData). u.names) c.delete.ensures.alone)
-    (grows_same _ _ (ap (λ (u : SetData). u.leaf_size) c.delete.ensures.alone) (ap (λ (u : SetData). u.next) c.delete.ensures.alone)
-    (ap (λ (u : SetData). u.points_given) c.delete.ensures.alone))
-    c.delete.ensures.follows (λ told. refl) (λ told. brings_cleared _ files _ _ _ (ap (λ (u : SetData). u.parts) c.delete.ensures.alone))
+    (calm_like _ _ _ _ _ _ _ _ _ _ _ _ (ap (λ (u : SetData). u.names) c.delete.ensures.rest)
+    (grows_same _ _ (ap (λ (u : SetData). u.leaf_size) c.delete.ensures.rest) (ap (λ (u : SetData). u.next) c.delete.ensures.rest)
+    (ap (λ (u : SetData). u.points_given) c.delete.ensures.rest))
+    c.delete.ensures.follows (λ told. refl) (λ told. brings_cleared _ files _ _ _ (ap (λ (u : SetData). u.parts) c.delete.ensures.rest))
     (λ told. c.delete.ensures.faithful files))
     (λ told i seen. does_delete _ _ _ i _ c.delete.result _ _ (c.delete.ensures.live files i seen) (c.delete.ensures.seen files i seen)
     (grew ∙ ap (λ b. c.args.out.now.items ++ deleted_text (cond b 1 0)) (sym c.if-delete.false)))
@@ -85,10 +85,10 @@ pub returns-in_err-put_deleted-clause-light : goal.returns-in_err-put_deleted-cl
 returns-in_err-put_deleted-clause-light g c files = light_same _ _ _ _
 
 pub returns-then-delete-clause-light : goal.returns-then-delete-clause-light
-returns-then-delete-clause-light g c files = light_deleted _ _ _ _ _ c.self.view_is c.delete.ensures.alone
+returns-then-delete-clause-light g c files = light_deleted _ _ _ _ _ c.self.view_is c.delete.ensures.rest
 
 pub returns-in_err-put_deleted-2-clause-light : goal.returns-in_err-put_deleted-2-clause-light
-returns-in_err-put_deleted-2-clause-light g c files = light_deleted _ _ _ _ _ c.self.view_is c.delete.ensures.alone
+returns-in_err-put_deleted-2-clause-light g c files = light_deleted _ _ _ _ _ c.self.view_is c.delete.ensures.rest
 
 pub returns-clause-light : goal.returns-clause-light
-returns-clause-light g c files = light_deleted _ _ _ _ _ c.self.view_is c.delete.ensures.alone
+returns-clause-light g c files = light_deleted _ _ _ _ _ c.self.view_is c.delete.ensures.rest

@@ -29,7 +29,7 @@ pub returns-in_err-hits-clause-applies : goal.returns-in_err-hits-clause-applies
 returns-in_err-hits-clause-applies g c =
     let p = err_from_is_err_and c.from_residual.result c.from_residual.ensures.1 in
     applies_seen _ _ _ _ _ _ _ _ _ _ _ c.self.view_is
-    (applies_fault _ _ _ _ _ _ c.in_err-hits.field-0.0 (calm_cache _ _ _ _ _ _ _ _ _ _ _ _ c.visit.ensures.alone c.visit.ensures.files c.visit.ensures.faithful)
+    (applies_fault _ _ _ _ _ _ c.in_err-hits.field-0.0 (calm_cache _ _ _ _ _ _ _ _ _ _ _ _ c.visit.ensures.rest c.visit.ensures.files c.visit.ensures.faithful)
     (p.1 ∙ ap (λ (e : PageFault). Err e) p.2) c.visit.ensures.seen (begins_itself _) c.in_err-hits.ensures.cause c.in_err-hits.ensures.damaged.whole
     c.in_err-hits.ensures.damaged.evident)
 
@@ -37,7 +37,7 @@ pub returns-in_err-put_deleted-clause-applies : goal.returns-in_err-put_deleted-
 returns-in_err-put_deleted-clause-applies g c =
     let p = err_from_is_err_and c.from_residual-in_err-put_deleted.result c.from_residual-in_err-put_deleted.ensures.1 in
     applies_seen _ _ _ _ _ _ _ _ _ _ _ c.self.view_is
-    (applies_unsaid _ _ _ _ _ _ c.in_ok-hits.hits (calm_cache _ _ _ _ _ _ _ _ _ _ _ _ c.visit.ensures.alone c.visit.ensures.files c.visit.ensures.faithful)
+    (applies_unsaid _ _ _ _ _ _ c.in_ok-hits.hits (calm_cache _ _ _ _ _ _ _ _ _ _ _ _ c.visit.ensures.rest c.visit.ensures.files c.visit.ensures.faithful)
     (p.1 ∙ ap (λ (e : PageFault). Err e) p.2) c.visit.ensures.seen c.in_err-put_deleted.ensures.memory c.in_ok-hits.ensures.cause)
 
 pub returns-clause-applies : goal.returns-clause-applies
@@ -45,13 +45,13 @@ returns-clause-applies g c =
     let long = c.in-Ok.ensures.1 ∙ c.len.ensures ∙ sym c.as_slice.ensures.len in
     applies_seen _ _ _ _ _ _ _ _ _ _ _ c.self.view_is
     (applies_done _ _ _ _ _ c.in_ok-hits.hits _
-    (calm_like _ _ _ _ _ _ _ _ _ _ _ _ (c.delete_all.ensures.names ∙ ap (λ (u : SetData). u.names) c.visit.ensures.alone.is)
-    (grows_same _ _ (c.delete_all.ensures.stays.leaf_size ∙ ap (λ (u : SetData). u.leaf_size) c.visit.ensures.alone.is)
-    (c.delete_all.ensures.stays.next ∙ ap (λ (u : SetData). u.next) c.visit.ensures.alone.is)
-    (c.delete_all.ensures.stays.points_given ∙ ap (λ (u : SetData). u.points_given) c.visit.ensures.alone.is))
-    (subst (λ (u : SetData). Follows u.names u.parts c.delete_all.new.self.parts) c.visit.ensures.alone.is c.delete_all.ensures.follows) c.visit.ensures.files
+    (calm_like _ _ _ _ _ _ _ _ _ _ _ _ (c.delete_all.ensures.names ∙ ap (λ (u : SetData). u.names) c.visit.ensures.rest.is)
+    (grows_same _ _ (c.delete_all.ensures.stays.leaf_size ∙ ap (λ (u : SetData). u.leaf_size) c.visit.ensures.rest.is)
+    (c.delete_all.ensures.stays.next ∙ ap (λ (u : SetData). u.next) c.visit.ensures.rest.is)
+    (c.delete_all.ensures.stays.points_given ∙ ap (λ (u : SetData). u.points_given) c.visit.ensures.rest.is))
+    (subst (λ (u : SetData). Follows u.names u.parts c.delete_all.new.self.parts) c.visit.ensures.rest.is c.delete_all.ensures.follows) c.visit.ensures.files
     (λ told. brings_then _ _ _ _ _ c.visit.new.self.parts
-    _ (brings_same _ _ _ _ _ (c.visit.ensures.files told) (ap (λ (u : SetData). u.parts) c.visit.ensures.alone.is))
+    _ (brings_same _ _ _ _ _ (c.visit.ensures.files told) (ap (λ (u : SetData). u.parts) c.visit.ensures.rest.is))
     (brings_named _ _ _ _ _ _ _ _ told (λ t. refl) c.delete_all.ensures.names c.delete_all.ensures.follows c.leaf_size-leaf_size.ensures.well.named))
     (λ told faithful. c.delete_all.ensures.faithful _ (c.visit.ensures.faithful told faithful)))
     (λ told i seen. does_delete_box _ _ _ _ _ i _ _ c.as_slice.result.now _ _ seen
@@ -63,7 +63,7 @@ returns-clause-applies g c =
 pub returns-in_default-clause-applies : goal.returns-in_default-clause-applies
 returns-in_default-clause-applies g c =
     applies_seen _ _ _ _ _ _ _ _ _ _ _ c.self.view_is
-    (applies_unsaid _ _ _ _ _ _ c.in_ok-hits.hits (calm_cache _ _ _ _ _ _ _ _ _ _ _ _ c.visit.ensures.alone c.visit.ensures.files c.visit.ensures.faithful)
+    (applies_unsaid _ _ _ _ _ _ c.in_ok-hits.hits (calm_cache _ _ _ _ _ _ _ _ _ _ _ _ c.visit.ensures.rest c.visit.ensures.files c.visit.ensures.faithful)
     refl c.visit.ensures.seen refl c.in_ok-hits.ensures.cause)
 
 pub leaf_size-leaf_size-requires : goal.leaf_size-leaf_size-requires

@@ -23,13 +23,13 @@ returns-clause-live g c files i seen = c.delete.ensures.live files i (subst (λ 
 pub returns-clause-canon : goal.returns-clause-canon
 returns-clause-canon g c files =
     brings_cleared g.row.D files c.args.doc
-    _ _ (ap (λ (u : SetData). u.parts) c.delete.ensures.alone ∙ ap (λ (u : SessionData). cleared_parts c.args.doc u.set.parts) c.self.view_is)
+    _ _ (ap (λ (u : SetData). u.parts) c.delete.ensures.rest ∙ ap (λ (u : SessionData). cleared_parts c.args.doc u.set.parts) c.self.view_is)
 
 pub returns-clause-guards : goal.returns-clause-guards
 returns-clause-guards g c files guards =
-    guards_same g.row.D files _ _ _ c.self.view_is (ap (λ (u : SetData). u.names) c.delete.ensures.alone)
-    (grows_same _ _ (ap (λ (u : SetData). u.leaf_size) c.delete.ensures.alone) (ap (λ (u : SetData). u.next) c.delete.ensures.alone)
-    (ap (λ (u : SetData). u.points_given) c.delete.ensures.alone))
+    guards_same g.row.D files _ _ _ c.self.view_is (ap (λ (u : SetData). u.names) c.delete.ensures.rest)
+    (grows_same _ _ (ap (λ (u : SetData). u.leaf_size) c.delete.ensures.rest) (ap (λ (u : SetData). u.next) c.delete.ensures.rest)
+    (ap (λ (u : SetData). u.points_given) c.delete.ensures.rest))
     c.delete.ensures.follows guards
 
 pub returns-clause-faithful : goal.returns-clause-faithful
@@ -38,4 +38,4 @@ returns-clause-faithful g c files = faithful_seen g.row.D files files _ _ _ c.se
 pub returns-clause-traced : goal.returns-clause-traced
 returns-clause-traced g c files =
     traced_cleared g.row.D files c.args.doc
-    _ _ (ap (λ (u : SetData). u.parts) c.delete.ensures.alone ∙ ap (λ (u : SessionData). cleared_parts c.args.doc u.set.parts) c.self.view_is)
+    _ _ (ap (λ (u : SetData). u.parts) c.delete.ensures.rest ∙ ap (λ (u : SessionData). cleared_parts c.args.doc u.set.parts) c.self.view_is)

@@ -37,7 +37,7 @@ pub returns-in_err-hits-clause-applies : goal.returns-in_err-hits-clause-applies
 returns-in_err-hits-clause-applies g c =
     let p = err_from_is_err_and c.from_residual.result c.from_residual.ensures.1 in
     applies_seen _ _ _ _ _ _ _ _ _ _ _ c.self.view_is
-    (applies_fault _ _ _ _ _ _ c.in_err-hits.field-0.0 (calm_cache _ _ _ _ _ _ _ _ _ _ _ _ c.visit.ensures.alone c.visit.ensures.files c.visit.ensures.faithful)
+    (applies_fault _ _ _ _ _ _ c.in_err-hits.field-0.0 (calm_cache _ _ _ _ _ _ _ _ _ _ _ _ c.visit.ensures.rest c.visit.ensures.files c.visit.ensures.faithful)
     (p.1 ∙ ap (λ (e : PageFault). Err e) p.2) c.visit.ensures.seen (begins_itself _) c.in_err-hits.ensures.cause c.in_err-hits.ensures.damaged.whole
     c.in_err-hits.ensures.damaged.evident)
 
@@ -45,12 +45,12 @@ pub returns-in_err-put_hits-clause-applies : goal.returns-in_err-put_hits-clause
 returns-in_err-put_hits-clause-applies g c =
     let p = err_from_is_err_and c.from_residual-in_err-put_hits.result c.from_residual-in_err-put_hits.ensures.1 in
     applies_seen _ _ _ _ _ _ _ _ _ _ _ c.self.view_is
-    (applies_unsaid _ _ _ _ _ _ c.in_ok-hits.hits (calm_cache _ _ _ _ _ _ _ _ _ _ _ _ c.visit.ensures.alone c.visit.ensures.files c.visit.ensures.faithful)
+    (applies_unsaid _ _ _ _ _ _ c.in_ok-hits.hits (calm_cache _ _ _ _ _ _ _ _ _ _ _ _ c.visit.ensures.rest c.visit.ensures.files c.visit.ensures.faithful)
     (p.1 ∙ ap (λ (e : PageFault). Err e) p.2) c.visit.ensures.seen c.in_err-put_hits.ensures.memory c.in_ok-hits.ensures.cause)
 
 pub returns-clause-applies : goal.returns-clause-applies
 returns-clause-applies g c = applies_seen _ _ _ _ _ _ _ _ _ _ _ c.self.view_is
-    (applies_done _ _ _ _ _ c.in_ok-hits.hits _ (calm_cache _ _ _ _ _ _ _ _ _ _ _ _ c.visit.ensures.alone c.visit.ensures.files c.visit.ensures.faithful)
+    (applies_done _ _ _ _ _ c.in_ok-hits.hits _ (calm_cache _ _ _ _ _ _ _ _ _ _ _ _ c.visit.ensures.rest c.visit.ensures.files c.visit.ensures.faithful)
     (λ told i seen.
     let has = (subst (λ (u : SessionData). HasView (view_name c.args.view.now) u.set) (sym c.self.view_is) (c.has_view.ensures.0 c.if-not-has_view.false)) in
     let docs = view_docs _ _ _ i (view_name c.args.view.now) seen has in
@@ -105,15 +105,15 @@ returns-then-not-has_view-clause-still g c = still_same _ _ _
 
 pub returns-in_err-hits-clause-still : goal.returns-in_err-hits-clause-still
 returns-in_err-hits-clause-still g c =
-    still_seen _ _ _ _ _ _ c.self.view_is (record { set = c.visit.ensures.alone; commit = refl; refused = refl; files = c.visit.ensures.files })
+    still_seen _ _ _ _ _ _ c.self.view_is (record { set = c.visit.ensures.rest; commit = refl; refused = refl; files = c.visit.ensures.files })
 
 pub returns-in_err-put_hits-clause-still : goal.returns-in_err-put_hits-clause-still
 returns-in_err-put_hits-clause-still g c =
-    still_seen _ _ _ _ _ _ c.self.view_is (record { set = c.visit.ensures.alone; commit = refl; refused = refl; files = c.visit.ensures.files })
+    still_seen _ _ _ _ _ _ c.self.view_is (record { set = c.visit.ensures.rest; commit = refl; refused = refl; files = c.visit.ensures.files })
 
 pub returns-clause-still : goal.returns-clause-still
 returns-clause-still g c =
-    still_seen _ _ _ _ _ _ c.self.view_is (record { set = c.visit.ensures.alone; commit = refl; refused = refl; files = c.visit.ensures.files })
+    still_seen _ _ _ _ _ _ c.self.view_is (record { set = c.visit.ensures.rest; commit = refl; refused = refl; files = c.visit.ensures.files })
 
 pub returns-then-not-has_view-clause-unread : goal.returns-then-not-has_view-clause-unread
 returns-then-not-has_view-clause-unread g c = refl

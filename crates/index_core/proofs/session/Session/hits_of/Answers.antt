@@ -19,10 +19,10 @@ returns-clause-seen g c told i seen =
     c.visit.ensures.seen told i (subst (λ (u : SessionData). Sees g.row.D (g.F.Pages.files c.args.folder.now) u.set i) (sym c.self.view_is) seen)
 
 pub returns-clause-guards : goal.returns-clause-guards
-returns-clause-guards g c told guards = guards_cache g.row.D _ _ _ _ _ _ c.self.view_is told c.visit.ensures.alone c.visit.ensures.files guards
+returns-clause-guards g c told guards = guards_cache g.row.D _ _ _ _ _ _ c.self.view_is told c.visit.ensures.rest c.visit.ensures.files guards
 
 pub returns-clause-parts : goal.returns-clause-parts
-returns-clause-parts g c = ap (λ (u : SetData). u.parts) c.visit.ensures.alone.is ∙ ap (λ (u : SessionData). u.set.parts) c.self.view_is
+returns-clause-parts g c = ap (λ (u : SetData). u.parts) c.visit.ensures.rest.is ∙ ap (λ (u : SessionData). u.set.parts) c.self.view_is
 
 pub returns-clause-whole : goal.returns-clause-whole
 returns-clause-whole g c told i seen =

@@ -42,11 +42,11 @@ returns-clause-applies g c =
     applies_is _ _ _ _ _ _ _ _ c.begin_answer.ensures
     (applies_seen _ _ _ _ _ _ _ _ _ _ _ c.self.view_is
     (applies_merging_calm _ _ _ _ _ _
-    (calm_like _ _ _ _ _ _ _ _ _ _ _ _ (ap (λ (u : SetData). u.names) c.merge_begin.ensures.alone.is)
-    (grows_same _ _ (ap (λ (u : SetData). u.leaf_size) c.merge_begin.ensures.alone.is) (ap (λ (u : SetData). u.next) c.merge_begin.ensures.alone.is)
-    (ap (λ (u : SetData). u.points_given) c.merge_begin.ensures.alone.is))
-    (follows_same _ _ _ (ap (λ (u : SetData). u.parts) c.merge_begin.ensures.alone.is)) c.merge_begin.ensures.files
-    (λ told. brings_same _ _ _ _ _ (c.merge_begin.ensures.files told) (ap (λ (u : SetData). u.parts) c.merge_begin.ensures.alone.is))
+    (calm_like _ _ _ _ _ _ _ _ _ _ _ _ (ap (λ (u : SetData). u.names) c.merge_begin.ensures.rest.is)
+    (grows_same _ _ (ap (λ (u : SetData). u.leaf_size) c.merge_begin.ensures.rest.is) (ap (λ (u : SetData). u.next) c.merge_begin.ensures.rest.is)
+    (ap (λ (u : SetData). u.points_given) c.merge_begin.ensures.rest.is))
+    (follows_same _ _ _ (ap (λ (u : SetData). u.parts) c.merge_begin.ensures.rest.is)) c.merge_begin.ensures.files
+    (λ told. brings_same _ _ _ _ _ (c.merge_begin.ensures.files told) (ap (λ (u : SetData). u.parts) c.merge_begin.ensures.rest.is))
     c.merge_begin.ensures.faithful)
     c.merge_begin.ensures.files
     (λ told i seen.
@@ -67,7 +67,7 @@ pub returns-clause-leaves : goal.returns-clause-leaves
 returns-clause-leaves g c =
     subst (λ r. OnDone r (HasBegun c.args.which.now c.args.self.now.set c.merge_begin.new.self)) (sym c.begin_answer.ensures)
     (subst (λ (s : SessionData). OnDone (begin_answer c.merge_begin.result) (HasBegun c.args.which.now s.set c.merge_begin.new.self)) c.self.view_is
-    (begin_leaves c.args.which.now c.self.inside.set c.merge_begin.new.self c.merge_begin.result c.merge_begin.ensures.inputs c.merge_begin.ensures.alone))
+    (begin_leaves c.args.which.now c.self.inside.set c.merge_begin.new.self c.merge_begin.result c.merge_begin.ensures.inputs c.merge_begin.ensures.rest))
 
 pub returns-then-is_merging-clause-damage : goal.returns-then-is_merging-clause-damage
 returns-then-is_merging-clause-damage g c = merge_none _ _ _ _ _ _ tt

@@ -49,7 +49,7 @@ returns-in_err-found-clause-applies g c =
     let p = err_from_is_err_and c.from_residual.result c.from_residual.ensures.1 in
     applies_seen _ _ _ _ _ _ _ _ _ _ _ c.self.view_is
     (applies_fault _ _ _ _ _ _ c.in_err-found.field-0.0
-    (calm_cache _ _ _ _ _ _ _ _ _ _ _ _ c.nearest.ensures.alone c.nearest.ensures.files c.nearest.ensures.faithful)
+    (calm_cache _ _ _ _ _ _ _ _ _ _ _ _ c.nearest.ensures.rest c.nearest.ensures.files c.nearest.ensures.faithful)
     (p.1 ∙ ap (λ (e : PageFault). Err e) p.2) c.nearest.ensures.seen (begins_itself _) c.in_err-found.ensures.cause c.in_err-found.ensures.damaged.whole
     c.in_err-found.ensures.damaged.evident)
 
@@ -58,14 +58,14 @@ returns-in_err-put_near-clause-applies g c =
     let p = err_from_is_err_and c.from_residual-in_err-put_near.result c.from_residual-in_err-put_near.ensures.1 in
     applies_seen _ _ _ _ _ _ _ _ _ _ _ c.self.view_is
     (applies_unsaid _ _ _ _ _ _ c.in_ok-found.found
-    (calm_cache _ _ _ _ _ _ _ _ _ _ _ _ c.nearest.ensures.alone c.nearest.ensures.files c.nearest.ensures.faithful)
+    (calm_cache _ _ _ _ _ _ _ _ _ _ _ _ c.nearest.ensures.rest c.nearest.ensures.files c.nearest.ensures.faithful)
     (p.1 ∙ ap (λ (e : PageFault). Err e) p.2) c.nearest.ensures.seen c.in_err-put_near.ensures.memory c.in_ok-found.ensures.cause)
 
 pub returns-clause-applies : goal.returns-clause-applies
 unfolding step_on
 returns-clause-applies g c = applies_seen _ _ _ _ _ _ _ _ _ _ _ c.self.view_is
     (applies_done _ _ _ _ _ c.in_ok-found.found
-    _ (calm_cache _ _ _ _ _ _ _ _ _ _ _ _ c.nearest.ensures.alone c.nearest.ensures.files c.nearest.ensures.faithful)
+    _ (calm_cache _ _ _ _ _ _ _ _ _ _ _ _ c.nearest.ensures.rest c.nearest.ensures.files c.nearest.ensures.faithful)
     (λ told i seen.
     let has = (subst (λ (u : SessionData). HasView (view_name c.args.view.now) u.set) (sym c.self.view_is) (c.has_view.ensures.0 c.if-not-has_view.false)) in
     let docs = view_docs _ _ _ i (view_name c.args.view.now) seen has in
@@ -121,15 +121,15 @@ returns-then-not-has_view-clause-still g c = still_same _ _ _
 
 pub returns-in_err-found-clause-still : goal.returns-in_err-found-clause-still
 returns-in_err-found-clause-still g c =
-    still_seen _ _ _ _ _ _ c.self.view_is (record { set = c.nearest.ensures.alone; commit = refl; refused = refl; files = c.nearest.ensures.files })
+    still_seen _ _ _ _ _ _ c.self.view_is (record { set = c.nearest.ensures.rest; commit = refl; refused = refl; files = c.nearest.ensures.files })
 
 pub returns-in_err-put_near-clause-still : goal.returns-in_err-put_near-clause-still
 returns-in_err-put_near-clause-still g c =
-    still_seen _ _ _ _ _ _ c.self.view_is (record { set = c.nearest.ensures.alone; commit = refl; refused = refl; files = c.nearest.ensures.files })
+    still_seen _ _ _ _ _ _ c.self.view_is (record { set = c.nearest.ensures.rest; commit = refl; refused = refl; files = c.nearest.ensures.files })
 
 pub returns-clause-still : goal.returns-clause-still
 returns-clause-still g c =
-    still_seen _ _ _ _ _ _ c.self.view_is (record { set = c.nearest.ensures.alone; commit = refl; refused = refl; files = c.nearest.ensures.files })
+    still_seen _ _ _ _ _ _ c.self.view_is (record { set = c.nearest.ensures.rest; commit = refl; refused = refl; files = c.nearest.ensures.files })
 
 pub returns-then-not-has_view-clause-unread : goal.returns-then-not-has_view-clause-unread
 returns-then-not-has_view-clause-unread g c = refl

@@ -19,10 +19,10 @@ returns-clause-seen g c told i seen =
     c.nearest.ensures.seen told i (subst (λ (u : SessionData). Sees g.row.D (g.F.Pages.files c.args.folder.now) u.set i) (sym c.self.view_is) seen)
 
 pub returns-clause-guards : goal.returns-clause-guards
-returns-clause-guards g c told guards = guards_cache g.row.D _ _ _ _ _ _ c.self.view_is told c.nearest.ensures.alone c.nearest.ensures.files guards
+returns-clause-guards g c told guards = guards_cache g.row.D _ _ _ _ _ _ c.self.view_is told c.nearest.ensures.rest c.nearest.ensures.files guards
 
 pub returns-clause-parts : goal.returns-clause-parts
-returns-clause-parts g c = ap (λ (u : SetData). u.parts) c.nearest.ensures.alone.is ∙ ap (λ (u : SessionData). u.set.parts) c.self.view_is
+returns-clause-parts g c = ap (λ (u : SetData). u.parts) c.nearest.ensures.rest.is ∙ ap (λ (u : SessionData). u.set.parts) c.self.view_is
 
 pub returns-clause-whole : goal.returns-clause-whole
 returns-clause-whole g c told i seen =

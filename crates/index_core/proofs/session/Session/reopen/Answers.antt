@@ -107,7 +107,7 @@ returns-in_err-set-clause-applies g c =
           subst (λ (f : Files). BringsCanonical g.row.D (g.F.Pages.files c.args.folder.now) f c.args.self.now.set.parts c.commit.new.self.set.parts)
           (sym (c.attach_anew.ensures.files told)) (c.commit.ensures.canon told);
       faults = record {
-        cause = fault_to _ _ c.in_err-set.field-0.0 (cause_after _ _ _ _ c.in_ok-commit.ensures.faults.cause.fine c.in_err-set.ensures.cause);
+        cause = fault_to _ _ c.in_err-set.field-0.0 (cause_after _ _ _ _ c.in_ok-commit.ensures.faults.cause.on_ok c.in_err-set.ensures.cause);
         whole = λ told i seen owed.
             let guards = owed refl in
             c.in_err-set.ensures.whole told c.in_ok-commit.ensures.done.unchanged.done (c.commit.ensures.stays.guards told guards) (Some (at_rest i))
@@ -158,7 +158,7 @@ returns-in_err-put_ok-clause-applies g c =
           subst (λ (f : Files). BringsCanonical g.row.D (g.F.Pages.files c.args.folder.now) f c.args.self.now.set.parts c.commit.new.self.set.parts)
           (sym (c.attach_anew.ensures.files told)) (c.commit.ensures.canon told);
       faults = record {
-        cause = memory_cause _ _ (cause_after _ _ _ _ c.in_ok-commit.ensures.faults.cause.fine c.attach_anew.ensures.cause).later;
+        cause = memory_cause _ _ (cause_after _ _ _ _ c.in_ok-commit.ensures.faults.cause.on_ok c.attach_anew.ensures.cause).later;
         whole = λ told i seen guards. tt;
         evident = tt;
       };
@@ -246,7 +246,7 @@ returns-clause-applies g c = record {
       (c.in_ok-commit.ensures.durable.stored told i seen guards).0)
       ((c.in_ok-set.ensures.unchanged last.commit last.is).ids ∙ sym last.same.ids))));
   faults = record {
-    cause = done_cause _ _ c.in_ok-set.set applied.Done (cause_after _ _ _ _ c.in_ok-commit.ensures.faults.cause.fine c.in_ok-set.ensures.cause);
+    cause = done_cause _ _ c.in_ok-set.set applied.Done (cause_after _ _ _ _ c.in_ok-commit.ensures.faults.cause.on_ok c.in_ok-set.ensures.cause);
     whole = λ told i seen guards. tt;
     evident = tt;
   };

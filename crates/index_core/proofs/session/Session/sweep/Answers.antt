@@ -29,10 +29,10 @@ swept g c told = record {
   commit = c.sweep.ensures.swept.commit told;
   files = c.sweep.ensures.swept.needed told;
   named = c.sweep.ensures.swept.named;
-  parts = ap (λ (u : SetData). u.parts) c.sweep.ensures.swept.alone.is;
-  leaf_size = ap (λ (u : SetData). u.leaf_size) c.sweep.ensures.swept.alone.is;
-  next = ap (λ (u : SetData). u.next) c.sweep.ensures.swept.alone.is;
-  points_given = ap (λ (u : SetData). u.points_given) c.sweep.ensures.swept.alone.is;
+  parts = ap (λ (u : SetData). u.parts) c.sweep.ensures.swept.rest.is;
+  leaf_size = ap (λ (u : SetData). u.leaf_size) c.sweep.ensures.swept.rest.is;
+  next = ap (λ (u : SetData). u.next) c.sweep.ensures.swept.rest.is;
+  points_given = ap (λ (u : SetData). u.points_given) c.sweep.ensures.swept.rest.is;
 }
 
 done : (g : given.Over) (c : goal.Joined-sweep g) → c.self.inside.refused ≡ false
@@ -42,8 +42,8 @@ pub returns-clause-seen : goal.returns-clause-seen
 returns-clause-seen g c told i seen =
     c.sweep.ensures.seen told i (subst (λ (u : SessionData). Sees g.row.D (g.F.Pages.files c.args.folder.now) u.set i) (sym c.self.view_is) seen)
 
-pub returns-clause-alone : goal.returns-clause-alone
-returns-clause-alone g c = subst (λ (u : SessionData). StaysButFiles u.set c.sweep.new.self) c.self.view_is c.sweep.ensures.swept.alone
+pub returns-clause-rest : goal.returns-clause-rest
+returns-clause-rest g c = subst (λ (u : SessionData). StaysButFiles u.set c.sweep.new.self) c.self.view_is c.sweep.ensures.swept.rest
 
 pub returns-clause-written : goal.returns-clause-written
 returns-clause-written g c = (ap (λ (u : SessionData). u.commit) c.self.view_is, done g c)

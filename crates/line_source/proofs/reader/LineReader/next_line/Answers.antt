@@ -37,5 +37,5 @@ pieces-preserved g c =
           (c.in_ok-extend_line.ensures.takes c.pieces.invariant.reading.seen c.pieces.invariant.reading.bytes_are))
           (waits_some c.hold.new.self (c.in_ok-hold.ensures.some some));
       kept = c.extend_line.ensures.kept;
-      faults = omega (arith, c.in_ok-hold.ensures.cause.fine, c.pieces.invariant.faults);
+      faults = omega (arith, c.in_ok-hold.ensures.cause.on_ok, c.pieces.invariant.faults);
     }

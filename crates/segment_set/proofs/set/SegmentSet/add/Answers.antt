@@ -25,8 +25,8 @@ returns-then-is_full-clause-refused g c = λ told i seen. seen
 pub returns-then-is_full-clause-gives : goal.returns-then-is_full-clause-gives
 returns-then-is_full-clause-gives g c = record { number = tt; points_given = tt }
 
-pub returns-then-is_full-clause-alone : goal.returns-then-is_full-clause-alone
-returns-then-is_full-clause-alone g c = record { saved = refl; begun = refl; snapshots = refl; leaf_size = refl }
+pub returns-then-is_full-clause-rest : goal.returns-then-is_full-clause-rest
+returns-then-is_full-clause-rest g c = record { saved = refl; begun = refl; snapshots = refl; leaf_size = refl }
 
 pub returns-then-is_full-clause-in_room : goal.returns-then-is_full-clause-in_room
 returns-then-is_full-clause-in_room g c = record {
@@ -54,8 +54,8 @@ returns-in_err-make_room-clause-gives g c =
     let is = c.from_residual.ensures.1 in
     record { number = never_value _ c.from_residual.result is _; points_given = never_ok _ c.from_residual.result is _ }
 
-pub returns-in_err-make_room-clause-alone : goal.returns-in_err-make_room-clause-alone
-returns-in_err-make_room-clause-alone g c =
+pub returns-in_err-make_room-clause-rest : goal.returns-in_err-make_room-clause-rest
+returns-in_err-make_room-clause-rest g c =
     alone_of g.row.D (IsTrue g.F.Pages.told) (g.F.Pages.files c.args.folder.now) (g.F.Pages.files c.make_room.new.folder) c.args.self.now c.make_room.new.self
     c.in_err-make_room.ensures.moves
 
@@ -94,8 +94,8 @@ returns-in_err-push-clause-gives g c =
       points_given = never_ok _ c.from_residual-in_err-push.result c.from_residual-in_err-push.ensures.1 _;
     }
 
-pub returns-in_err-push-clause-alone : goal.returns-in_err-push-clause-alone
-returns-in_err-push-clause-alone g c =
+pub returns-in_err-push-clause-rest : goal.returns-in_err-push-clause-rest
+returns-in_err-push-clause-rest g c =
     subst (AddsAlone c.args.self.now) (sym c.in_err-push.ensures.refused)
     (alone_of g.row.D (IsTrue g.F.Pages.told) (g.F.Pages.files c.args.folder.now) (g.F.Pages.files c.make_room.new.folder) c.args.self.now c.make_room.new.self
     c.in_ok-make_room.ensures.moves)
@@ -120,7 +120,7 @@ returns-in_err-push-clause-rested g c = λ settled. c.in_ok-make_room.ensures.re
 pub returns-in_err-push-clause-cause : goal.returns-in_err-push-clause-cause
 returns-in_err-push-clause-cause g c =
     add_memory_cause (g.F.Pages.faults c.args.folder.now) (g.F.Pages.faults c.make_room.new.folder) c.from_residual-in_err-push.result
-    c.from_residual-in_err-push.ensures.1 c.in_ok-make_room.ensures.cause.fine
+    c.from_residual-in_err-push.ensures.1 c.in_ok-make_room.ensures.cause.on_ok
 
 pub returns-clause-seen : goal.returns-clause-seen
 returns-clause-seen g c = λ told i seen.
@@ -140,8 +140,8 @@ returns-clause-gives g c = record {
   );
 }
 
-pub returns-clause-alone : goal.returns-clause-alone
-returns-clause-alone g c =
+pub returns-clause-rest : goal.returns-clause-rest
+returns-clause-rest g c =
     subst (AddsAlone c.args.self.now) (sym c.in_ok-push.ensures.put) (record {
       saved = c.in_ok-make_room.ensures.moves.saved;
       begun = c.in_ok-make_room.ensures.moves.begun;
@@ -166,7 +166,7 @@ returns-clause-rested g c = λ settled. c.in_ok-make_room.ensures.rested settled
 
 pub returns-clause-cause : goal.returns-clause-cause
 returns-clause-cause g c =
-    added_caused (g.F.Pages.faults c.args.folder.now) (g.F.Pages.faults c.make_room.new.folder) _ c.in_ok-make_room.ensures.cause.fine
+    added_caused (g.F.Pages.faults c.args.folder.now) (g.F.Pages.faults c.make_room.new.folder) _ c.in_ok-make_room.ensures.cause.on_ok
 
 pub returns-then-is_full-clause-rewrites : goal.returns-then-is_full-clause-rewrites
 returns-then-is_full-clause-rewrites g c = record {

@@ -75,7 +75,7 @@ returns-clause-faithful g c = λ told.
     c.in_ok-segments.ensures.opened (c.in_ok-cache.ensures.agrees files))
 
 pub returns-clause-cause : goal.returns-clause-cause
-returns-clause-cause g c = done_cause (g.F.Pages.faults c.args.folder.now) (g.F.Pages.faults c.open_all.new.folder) _ c.in_ok-segments.ensures.cause.fine
+returns-clause-cause g c = done_cause (g.F.Pages.faults c.args.folder.now) (g.F.Pages.faults c.open_all.new.folder) _ c.in_ok-segments.ensures.cause.on_ok
 
 pub returns-in_err-segments-clause-damaged : goal.returns-in_err-segments-clause-damaged
 returns-in_err-segments-clause-damaged g c =

@@ -73,8 +73,8 @@ returns-clause-live g c files i seen =
     ∙ ap (λ (s : SetData). is_live_in s c.args.doc) c.self.view_is
     ∙ live_seen g.row.D c.args.doc files c.args.self.now i seen
 
-pub returns-clause-alone : goal.returns-clause-alone
-returns-clause-alone g c = whole g c
+pub returns-clause-rest : goal.returns-clause-rest
+returns-clause-rest g c = whole g c
 
 pub returns-clause-faithful : goal.returns-clause-faithful
 returns-clause-faithful g c files keeps = subst (IsFaithful g.row.D files) (sym (whole g c)) (faithful_but g.row.D files c.args.doc c.args.self.now keeps)

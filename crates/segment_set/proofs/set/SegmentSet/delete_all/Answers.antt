@@ -30,11 +30,11 @@ loop-doc-preserved g c = record {
       (c.delete.ensures.seen files (record i { docs = docs_but (take c.loop-doc.doc-index c.args.docs.now) i.docs }) (c.loop-doc.invariant.seen files i seen)));
   faithful = λ files keeps. c.delete.ensures.faithful files (c.loop-doc.invariant.faithful files keeps);
   stays = stays_then c.args.self.now c.loop-doc.self c.delete.new.self c.loop-doc.invariant.stays
-      (subst (StaysAlone c.loop-doc.self) (sym c.delete.ensures.alone) (stays_but (get_or c.args.docs.now c.loop-doc.doc-index 0) c.loop-doc.self));
+      (subst (StaysAlone c.loop-doc.self) (sym c.delete.ensures.rest) (stays_but (get_or c.args.docs.now c.loop-doc.doc-index 0) c.loop-doc.self));
   follows = follows_then c.args.self.now.names c.loop-doc.self.names c.args.self.now.parts c.loop-doc.self.parts c.delete.new.self.parts
       (λ name named. ap (λ (n : NameList). is_named n.names name) c.loop-doc.invariant.names ∙ named) c.loop-doc.invariant.follows c.delete.ensures.follows;
-  names = ap (λ (s : SetData). s.names) c.delete.ensures.alone ∙ c.loop-doc.invariant.names;
-  saved = ap (λ (s : SetData). s.saved) c.delete.ensures.alone ∙ c.loop-doc.invariant.saved;
+  names = ap (λ (s : SetData). s.names) c.delete.ensures.rest ∙ c.loop-doc.invariant.names;
+  saved = ap (λ (s : SetData). s.saved) c.delete.ensures.rest ∙ c.loop-doc.invariant.saved;
 }
 
 pub returns-clause-seen : goal.returns-clause-seen

@@ -67,10 +67,10 @@ returns-in_err-hits-clause-files g c = c.visit.ensures.files
 
 pub returns-in_err-hits-clause-deletes : goal.returns-in_err-hits-clause-deletes
 returns-in_err-hits-clause-deletes g c = record {
-  stays = stays_cached c.args.self.now c.visit.new.self c.visit.ensures.alone;
-  follows = follows_cached c.args.self.now c.visit.new.self c.visit.ensures.alone;
-  names = ap (λ (s : SetData). s.names) c.visit.ensures.alone.is;
-  saved = ap (λ (s : SetData). s.saved) c.visit.ensures.alone.is;
+  stays = stays_cached c.args.self.now c.visit.new.self c.visit.ensures.rest;
+  follows = follows_cached c.args.self.now c.visit.new.self c.visit.ensures.rest;
+  names = ap (λ (s : SetData). s.names) c.visit.ensures.rest.is;
+  saved = ap (λ (s : SetData). s.saved) c.visit.ensures.rest.is;
 }
 
 pub returns-in_default-clause-files : goal.returns-in_default-clause-files
@@ -78,10 +78,10 @@ returns-in_default-clause-files g c = c.visit.ensures.files
 
 pub returns-in_default-clause-deletes : goal.returns-in_default-clause-deletes
 returns-in_default-clause-deletes g c = record {
-  stays = stays_cached c.args.self.now c.visit.new.self c.visit.ensures.alone;
-  follows = follows_cached c.args.self.now c.visit.new.self c.visit.ensures.alone;
-  names = ap (λ (s : SetData). s.names) c.visit.ensures.alone.is;
-  saved = ap (λ (s : SetData). s.saved) c.visit.ensures.alone.is;
+  stays = stays_cached c.args.self.now c.visit.new.self c.visit.ensures.rest;
+  follows = follows_cached c.args.self.now c.visit.new.self c.visit.ensures.rest;
+  names = ap (λ (s : SetData). s.names) c.visit.ensures.rest.is;
+  saved = ap (λ (s : SetData). s.saved) c.visit.ensures.rest.is;
 }
 
 pub returns-in_err-hits-clause-cause : goal.returns-in_err-hits-clause-cause
@@ -120,7 +120,7 @@ returns-in_default-clause-refused g c = λ told i seen. c.visit.ensures.seen tol
 
 pub returns-in_default-clause-cause : goal.returns-in_default-clause-cause
 returns-in_default-clause-cause g c =
-    memory_cause (g.F.Pages.faults c.args.folder.now) (g.F.Pages.faults c.visit.new.folder) c.in_ok-hits.ensures.cause.fine
+    memory_cause (g.F.Pages.faults c.args.folder.now) (g.F.Pages.faults c.visit.new.folder) c.in_ok-hits.ensures.cause.on_ok
 
 pub returns-in_default-clause-damaged : goal.returns-in_default-clause-damaged
 returns-in_default-clause-damaged g c = record {
@@ -138,18 +138,18 @@ returns-clause-files g c = c.visit.ensures.files
 
 pub returns-clause-deletes : goal.returns-clause-deletes
 returns-clause-deletes g c = record {
-  stays = stays_then c.args.self.now c.visit.new.self c.delete_all.new.self (stays_cached c.args.self.now c.visit.new.self c.visit.ensures.alone)
+  stays = stays_then c.args.self.now c.visit.new.self c.delete_all.new.self (stays_cached c.args.self.now c.visit.new.self c.visit.ensures.rest)
       c.delete_all.ensures.stays;
   follows = follows_then c.args.self.now.names c.visit.new.self.names c.args.self.now.parts c.visit.new.self.parts c.delete_all.new.self.parts
-      (λ m named. ap (λ (s : SetData). is_named s.names.names m) c.visit.ensures.alone.is ∙ named)
-      (follows_cached c.args.self.now c.visit.new.self c.visit.ensures.alone) c.delete_all.ensures.follows;
-  names = c.delete_all.ensures.names ∙ ap (λ (s : SetData). s.names) c.visit.ensures.alone.is;
-  saved = c.delete_all.ensures.saved ∙ ap (λ (s : SetData). s.saved) c.visit.ensures.alone.is;
+      (λ m named. ap (λ (s : SetData). is_named s.names.names m) c.visit.ensures.rest.is ∙ named)
+      (follows_cached c.args.self.now c.visit.new.self c.visit.ensures.rest) c.delete_all.ensures.follows;
+  names = c.delete_all.ensures.names ∙ ap (λ (s : SetData). s.names) c.visit.ensures.rest.is;
+  saved = c.delete_all.ensures.saved ∙ ap (λ (s : SetData). s.saved) c.visit.ensures.rest.is;
 }
 
 pub returns-clause-cause : goal.returns-clause-cause
 returns-clause-cause g c =
-    done_cause (g.F.Pages.faults c.args.folder.now) (g.F.Pages.faults c.visit.new.folder) _ c.in_ok-hits.ensures.cause.fine
+    done_cause (g.F.Pages.faults c.args.folder.now) (g.F.Pages.faults c.visit.new.folder) _ c.in_ok-hits.ensures.cause.on_ok
 
 pub returns-clause-faithful : goal.returns-clause-faithful
 returns-clause-faithful g c = λ told keeps. c.delete_all.ensures.faithful (g.F.Pages.files c.visit.new.folder) (c.visit.ensures.faithful told keeps)
@@ -162,8 +162,8 @@ returns-clause-damaged g c = record {
   evident = tt;
 }
 
-pub returns-in_err-hits-clause-alone : goal.returns-in_err-hits-clause-alone
-returns-in_err-hits-clause-alone g c = at_error _ c.from_residual.result c.from_residual.ensures.1 _ c.visit.ensures.alone
+pub returns-in_err-hits-clause-rest : goal.returns-in_err-hits-clause-rest
+returns-in_err-hits-clause-rest g c = at_error _ c.from_residual.result c.from_residual.ensures.1 _ c.visit.ensures.rest
 
-pub returns-clause-alone : goal.returns-clause-alone
-returns-clause-alone g c = tt
+pub returns-clause-rest : goal.returns-clause-rest
+returns-clause-rest g c = tt

@@ -29,7 +29,7 @@ returns-clause-moves g c = all g c
 
 pub returns-clause-cause : goal.returns-clause-cause
 returns-clause-cause g c =
-    subst (λ n. HasPageCause n (g.F.Pages.faults c.write_buffer.new.folder) c.write_buffer.result) c.in_ok-merge_settle.ensures.cause.fine
+    subst (λ n. HasPageCause n (g.F.Pages.faults c.write_buffer.new.folder) c.write_buffer.result) c.in_ok-merge_settle.ensures.cause.on_ok
     c.write_buffer.ensures.cause
 
 pub returns-in_err-merge_settle-clause-rested : goal.returns-in_err-merge_settle-clause-rested
@@ -87,11 +87,11 @@ returns-in_err-merge_settle-clause-left g c = at_error _ c.from_residual.result 
 pub returns-clause-flushed : goal.returns-clause-flushed
 returns-clause-flushed g c =
     on_ok_weaker c.write_buffer.result
-    (λ spills. record {
+    (λ writes. record {
       mid = (moment (g.F.Pages.files c.merge_settle.new.folder) c.merge_settle.new.self);
       settles = c.in_ok-merge_settle.ensures.settled;
-      spills = spills;
-    }) c.write_buffer.ensures.spills
+      writes = writes;
+    }) c.write_buffer.ensures.writes
 
 pub returns-clause-left : goal.returns-clause-left
 returns-clause-left g c =

@@ -29,8 +29,8 @@ invariant_of-self-2 g c =
     well_names g.row.D (IsTrue g.F.Pages.told) (g.F.Pages.files c.args.folder.now) (g.F.Pages.files c.list_lives.new.folder) _ c.list_lives.new.names
     (Some c.new-kept.result) c.self.invariant c.list_lives.ensures.kept
 
-pub returns-in_err-listed-clause-alone : goal.returns-in_err-listed-clause-alone
-returns-in_err-listed-clause-alone g c = but_saved c.args.self.now _ c.self.view_is c.list_lives.new.names c.self.inside.saved
+pub returns-in_err-listed-clause-rest : goal.returns-in_err-listed-clause-rest
+returns-in_err-listed-clause-rest g c = but_saved c.args.self.now _ c.self.view_is c.list_lives.new.names c.self.inside.saved
 
 pub returns-in_err-listed-clause-kept : goal.returns-in_err-listed-clause-kept
 returns-in_err-listed-clause-kept g c =
@@ -40,8 +40,8 @@ returns-in_err-listed-clause-kept g c =
 pub returns-in_err-listed-clause-well : goal.returns-in_err-listed-clause-well
 returns-in_err-listed-clause-well g c = subst (IsWell g.row.D) c.self.view_is c.self.invariant
 
-pub returns-in_err-again-clause-alone : goal.returns-in_err-again-clause-alone
-returns-in_err-again-clause-alone g c = but_saved c.args.self.now _ c.self.view_is c.list_lives.new.names c.self.inside.saved
+pub returns-in_err-again-clause-rest : goal.returns-in_err-again-clause-rest
+returns-in_err-again-clause-rest g c = but_saved c.args.self.now _ c.self.view_is c.list_lives.new.names c.self.inside.saved
 
 pub returns-in_err-again-clause-kept : goal.returns-in_err-again-clause-kept
 returns-in_err-again-clause-kept g c =
@@ -85,8 +85,8 @@ new-requires g c =
     c.next_segment-next_segment.result c.in_ok-listed.listed.items c.self.inside.segments
     c.next_segment-next_segment.ensures.value c.in_ok-listed.ensures.listed))
 
-pub returns-clause-alone : goal.returns-clause-alone
-returns-clause-alone g c = but_saved c.args.self.now _ c.self.view_is c.list_lives.new.names (Some c.new-kept.result)
+pub returns-clause-rest : goal.returns-clause-rest
+returns-clause-rest g c = but_saved c.args.self.now _ c.self.view_is c.list_lives.new.names (Some c.new-kept.result)
 
 pub returns-clause-kept : goal.returns-clause-kept
 returns-clause-kept g c =

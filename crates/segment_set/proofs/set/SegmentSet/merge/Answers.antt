@@ -164,8 +164,8 @@ returns-clause-damaged g c = record {
       c.merge.result c.self.view_is c.self.invariant.spread c.merge.ensures.evident;
 }
 
-pub returns-clause-alone : goal.returns-clause-alone
-returns-clause-alone g c = but_parts c.args.self.now (was g c) c.self.view_is c.merge.new.names c.merge.new.segments c.self.inside.cache
+pub returns-clause-rest : goal.returns-clause-rest
+returns-clause-rest g c = but_parts c.args.self.now (was g c) c.self.view_is c.merge.new.names c.merge.new.segments c.self.inside.cache
 
 pub returns-clause-refused : goal.returns-clause-refused
 returns-clause-refused g c = on_err_weaker c.merge.result

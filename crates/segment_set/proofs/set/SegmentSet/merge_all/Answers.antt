@@ -170,7 +170,7 @@ returns-clause-merged g c = on_ok_weaker c.merge.result
       merged = subst
           (λ (ns : List ℕ). IsMerged g.row.D (IsTrue g.F.Pages.told) s.leaf_size s.names t.names (g.F.Pages.files c.args.folder.now)
           (g.F.Pages.files c.merge.new.folder) ns s.parts t.parts) (c.as_slice-2.ensures.value ∙ c.in_ok-ids.ensures.all) m;
-      alone = c.merge.ensures.alone;
+      rest = c.merge.ensures.rest;
     })) c.merge.ensures.merged
 
 pub returns-clause-still : goal.returns-clause-still

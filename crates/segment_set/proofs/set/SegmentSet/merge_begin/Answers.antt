@@ -18,7 +18,7 @@ use Rattle.segment_set.proofs.Faulted.{begun_cause, begun_damage, begun_memory}
 use Rattle.segment_set.proofs.Moved.{moved}
 use Rattle.segment_set.proofs.Sizes.{set_fits}
 use Rattle.segment_set.proofs.Sources.{begun_seen, begun_well, chosen_few, chosen_is, chosen_there, gathered_merges, merge_docs, merge_few, places_within}
-use Rattle.segment_set.proofs.Spilled.{some_is}
+use Rattle.segment_set.proofs.WrittenBuffer.{some_is}
 use Rattle.segment_build.specs.NewSegments.{NewSegmentData}
 use Rattle.segment_set.proofs.Trusted.{IsTrusted, faithful_looked, on_evident_set}
 use Rattle.segment_set.proofs.Shows.{shows_none}

@@ -18,7 +18,7 @@ use Rattle.segment_set.proofs.Ended.{end_canon, end_follows, end_parts, end_seen
 use Rattle.segment_set.proofs.Faulted.{ended_cause}
 use Rattle.segment_set.proofs.Moved.{moved}
 use Rattle.segment_set.proofs.Sizes.{built_fits}
-use Rattle.segment_set.proofs.Spilled.{refused_after, some_is}
+use Rattle.segment_set.proofs.WrittenBuffer.{refused_after, some_is}
 use Rattle.segment_set.proofs.Standing.{ids_named}
 use Rattle.segment_set.proofs.Steps.{IsAfter}
 use Rattle.segment_set.proofs.Faithful.{faithful_named}
@@ -186,8 +186,8 @@ returns-clause-rewrites g c = record {
       (subst (IsFaithful g.row.D (g.F.Pages.files c.args.folder.now)) (sym c.self.view_is) faithful);
 }
 
-pub returns-in_err-replace-clause-alone : goal.returns-in_err-replace-clause-alone
-returns-in_err-replace-clause-alone g c = at_error _ c.from_residual.result c.from_residual.ensures.1 _
+pub returns-in_err-replace-clause-rest : goal.returns-in_err-replace-clause-rest
+returns-in_err-replace-clause-rest g c = at_error _ c.from_residual.result c.from_residual.ensures.1 _
     (before_moved c.args.self.now (set_of c.self.inside) c.self.view_is c.replace.new.names c.replace.new.segments c.self.inside.buffer.items
     c.self.inside.cache c.in_err-replace.ensures.refused refl)
 

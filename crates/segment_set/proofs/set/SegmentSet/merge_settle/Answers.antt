@@ -38,10 +38,10 @@ loop-ids-preserved g c = record {
       (moment (g.F.Pages.files c.loop-ids.folder) c.loop-ids.self) (moment (g.F.Pages.files c.merge.new.folder) c.merge.new.self) c.loop-ids.invariant.settles
       (merges_chosen g.row.D (IsTrue g.F.Pages.told) (moment (g.F.Pages.files c.loop-ids.folder) c.loop-ids.self)
       (moment (g.F.Pages.files c.merge.new.folder) c.merge.new.self) c.in-Some.ids.items c.as_slice.result.now c.as_slice.ensures.value
-      (rw c.in-Some.is at c.in_ok-ids.ensures.choice) c.in_ok-merge.ensures.merged c.merge.ensures.alone);
+      (rw c.in-Some.is at c.in_ok-ids.ensures.choice) c.in_ok-merge.ensures.merged c.merge.ensures.rest);
   buffer = c.merge.ensures.buffer ∙ c.loop-ids.invariant.buffer;
   cache = c.merge.ensures.cache ∙ c.loop-ids.invariant.cache;
-  faults = c.in_ok-merge.ensures.cause.fine ∙ c.loop-ids.invariant.faults;
+  faults = c.in_ok-merge.ensures.cause.on_ok ∙ c.loop-ids.invariant.faults;
   rested = λ settled.
       absurd (unsettled c.args.self.now c.loop-ids.self (c.loop-ids.invariant.rested settled).0 settled (rw c.in-Some.is at c.in_ok-ids.ensures.ten));
   faithful = λ told faithful. c.merge.ensures.faithful told (c.loop-ids.invariant.faithful told faithful);

@@ -118,8 +118,8 @@ returns-clause-seen g c told i seen =
     subst (λ (s : SetData). Sees g.row.D (g.F.Pages.files c.nearest.new.folder) s i) (sym (same g c))
     (looked_sees _ _ _ _ (was g c) _ _ _ c.self.view_is (calm g c) told i seen)
 
-pub returns-clause-alone : goal.returns-clause-alone
-returns-clause-alone g c = record { is = same g c ∙ (λ i. record (c.self.view_is i) { cache = c.nearest.new.cache }) }
+pub returns-clause-rest : goal.returns-clause-rest
+returns-clause-rest g c = record { is = same g c ∙ (λ i. record (c.self.view_is i) { cache = c.nearest.new.cache }) }
 
 pub returns-clause-reads : goal.returns-clause-reads
 returns-clause-reads g c told contents stands found is leaves are =

@@ -33,32 +33,32 @@ pub returns-clause-seen : goal.returns-clause-seen
 returns-clause-seen g c = λ told i seen.
     let m = c.list_segments.ensures in
     sees_saved g.row.D (IsTrue g.F.Pages.told) (g.F.Pages.files c.flush.new.folder) (g.F.Pages.files c.list_segments.new.folder) c.flush.new.self
-    c.list_segments.new.self i told m.well m.kept m.alone (c.in_ok-flush.ensures.moves.seen told i seen)
+    c.list_segments.new.self i told m.well m.kept m.rest (c.in_ok-flush.ensures.moves.seen told i seen)
 
 pub returns-clause-emptied : goal.returns-clause-emptied
-returns-clause-emptied g c = ok_always c.list_segments.result _ (c.list_segments.ensures.alone.buffer ∙ c.in_ok-flush.ensures.emptied)
+returns-clause-emptied g c = ok_always c.list_segments.result _ (c.list_segments.ensures.rest.buffer ∙ c.in_ok-flush.ensures.emptied)
 
 pub returns-clause-levels : goal.returns-clause-levels
 returns-clause-levels g c =
     let s = c.flush.new.self in
     let t = c.list_segments.new.self in
-    let alone = c.list_segments.ensures.alone in
+    let rest = c.list_segments.ensures.rest in
     ok_always c.list_segments.result ((level : ℕ) → free_count level (sizes_of t.parts) (pins_of t.begun t.parts) ≤ 10) (λ level.
-    subst (λ (ps : List LiveSegment). free_count level (sizes_of ps) (pins_of t.begun ps) ≤ 10) (sym alone.parts)
-    (subst (λ (b : Option BegunMerge). free_count level (sizes_of s.parts) (pins_of b s.parts) ≤ 10) (sym alone.begun) (c.in_ok-flush.ensures.levels level)))
+    subst (λ (ps : List LiveSegment). free_count level (sizes_of ps) (pins_of t.begun ps) ≤ 10) (sym rest.parts)
+    (subst (λ (b : Option BegunMerge). free_count level (sizes_of s.parts) (pins_of b s.parts) ≤ 10) (sym rest.begun) (c.in_ok-flush.ensures.levels level)))
 
 pub returns-clause-stays : goal.returns-clause-stays
 returns-clause-stays g c =
     stays_then c.args.self.now c.flush.new.self c.list_segments.new.self c.in_ok-flush.ensures.moves.stays
-    (stays_saved c.flush.new.self c.list_segments.new.self c.list_segments.ensures.alone)
+    (stays_saved c.flush.new.self c.list_segments.new.self c.list_segments.ensures.rest)
 
 pub returns-clause-begun : goal.returns-clause-begun
-returns-clause-begun g c = c.list_segments.ensures.alone.begun ∙ c.in_ok-flush.ensures.moves.begun
+returns-clause-begun g c = c.list_segments.ensures.rest.begun ∙ c.in_ok-flush.ensures.moves.begun
 
 pub returns-clause-cause : goal.returns-clause-cause
 returns-clause-cause g c =
     cause_after (g.F.Pages.faults c.args.folder.now) (g.F.Pages.faults c.flush.new.folder) (g.F.Pages.faults c.list_segments.new.folder) c.list_segments.result
-    c.in_ok-flush.ensures.cause.fine c.list_segments.ensures.cause
+    c.in_ok-flush.ensures.cause.on_ok c.list_segments.ensures.cause
 
 pub returns-in_err-flush-clause-rested : goal.returns-in_err-flush-clause-rested
 returns-in_err-flush-clause-rested g c = λ settled. c.in_err-flush.ensures.rested settled
@@ -137,17 +137,17 @@ returns-clause-saves g c =
           (λ (k : CommitData).
           AllZip (λ (l : Listed) (p : LiveSegment). IsLiveFile l.segment l.generation (bytes_of (now (Live l.segment l.generation))) p.live)
           k.listed t.parts)
-          (λ k all. all_written now k.listed s.parts t.parts m.alone.parts
+          (λ k all. all_written now k.listed s.parts t.parts m.rest.parts
           (all_listed (IsTrue g.F.Pages.told) last s t.names mid now k.listed told m.kept (covers told covering) all)) m.listed;
       stored = λ told covering i seen.
-          let there = sees_saved g.row.D (IsTrue g.F.Pages.told) mid now s t i told m.well m.kept m.alone (c.in_ok-flush.ensures.moves.seen told i seen) in
+          let there = sees_saved g.row.D (IsTrue g.F.Pages.told) mid now s t i told m.well m.kept m.rest (c.in_ok-flush.ensures.moves.seen told i seen) in
           if_ok_both c.list_segments.result (λ (k : CommitData). IsCommitOf g.row.D t k)
           (λ (k : CommitData). AllZip (IsSaved (IsTrue g.F.Pages.told) last s.names t.names now) k.listed s.parts)
           (λ (k : CommitData). (files : Files) → IsCommitFile (bytes_of (files Commit)) k → ((n : FileName) → ListsFile k n → files n ≡ now n)
           → IsStored files (Some (at_rest i)))
           (λ k commit all. saved_is_stored g.row.D now t k i
-          (well_saved g.row.D (IsTrue g.F.Pages.told) mid now s t m.well m.kept m.alone) (m.alone.buffer ∙ c.in_ok-flush.ensures.emptied) commit
-          (subst (AllZip (IsListedAs now) k.listed) (sym m.alone.parts)
+          (well_saved g.row.D (IsTrue g.F.Pages.told) mid now s t m.well m.kept m.rest) (m.rest.buffer ∙ c.in_ok-flush.ensures.emptied) commit
+          (subst (AllZip (IsListedAs now) k.listed) (sym m.rest.parts)
           (all_listed (IsTrue g.F.Pages.told) last s t.names mid now k.listed told m.kept (covers told covering) all)) there) m.commit m.listed;
     }
 
@@ -155,10 +155,10 @@ pub returns-clause-rewrites : goal.returns-clause-rewrites
 returns-clause-rewrites g c = record {
   kept = keeps_then (IsTrue g.F.Pages.told) c.args.self.now.names c.flush.new.self.names c.list_segments.new.self.names (g.F.Pages.files c.args.folder.now)
       (g.F.Pages.files c.flush.new.folder) (g.F.Pages.files c.list_segments.new.folder) c.in_ok-flush.ensures.moves.kept c.list_segments.ensures.kept;
-  follows = subst (Follows c.args.self.now.names c.args.self.now.parts) (sym c.list_segments.ensures.alone.parts) c.in_ok-flush.ensures.moves.follows;
+  follows = subst (Follows c.args.self.now.names c.args.self.now.parts) (sym c.list_segments.ensures.rest.parts) c.in_ok-flush.ensures.moves.follows;
   canon = λ told. canon_saved g.row.D (IsTrue g.F.Pages.told) c.args.self.now.names (g.F.Pages.files c.flush.new.folder)
       (g.F.Pages.files c.list_segments.new.folder) c.flush.new.self c.list_segments.new.self told c.list_segments.ensures.well c.list_segments.ensures.kept
-      c.in_ok-flush.ensures.moves.kept.more c.list_segments.ensures.alone (c.in_ok-flush.ensures.moves.canon told);
+      c.in_ok-flush.ensures.moves.kept.more c.list_segments.ensures.rest (c.in_ok-flush.ensures.moves.canon told);
   faithful = λ told keeps. c.list_segments.ensures.faithful told (c.in_ok-flush.ensures.faithful told keeps);
 }
 
@@ -187,7 +187,7 @@ returns-clause-flushed g c =
     (λ k all. (
       moment (g.F.Pages.files c.flush.new.folder) s,
       c.in_ok-flush.ensures.flushed,
-      c.list_segments.ensures.alone,
+      c.list_segments.ensures.rest,
       all_next (IsTrue g.F.Pages.told) last s.names t.names files k.listed s.parts all,
     )) c.list_segments.ensures.listed
 

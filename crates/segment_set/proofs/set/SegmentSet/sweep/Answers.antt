@@ -27,10 +27,10 @@ names-preserved g c =
       swept = swept_then (IsTrue g.F.Pages.told) c.args.c.now c.args.self.now c.names.self c.sweep_at.new.self (g.F.Pages.files c.args.folder.now)
           (g.F.Pages.files c.names.folder) (g.F.Pages.files c.sweep_at.new.folder) was.swept one.swept;
       front =
-          front_before c.args.self.now c.names.self c.args.c.now (take c.in_ok-place.place c.sweep_at.new.self.names.names) was.swept.alone
-          (one.front (front_still c.args.self.now c.names.self c.args.c.now (take c.names.place c.names.self.names.names) was.swept.alone was.front));
+          front_before c.args.self.now c.names.self c.args.c.now (take c.in_ok-place.place c.sweep_at.new.self.names.names) was.swept.rest
+          (one.front (front_still c.args.self.now c.names.self c.args.c.now (take c.names.place c.names.self.names.names) was.swept.rest was.front));
       reads = one.unread ∙ was.reads;
-      faults = one.cause.fine ∙ was.faults;
+      faults = one.cause.on_ok ∙ was.faults;
     }
 
 pub sweep_at-requires : goal.sweep_at-requires

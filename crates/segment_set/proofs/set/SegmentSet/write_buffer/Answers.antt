@@ -10,16 +10,16 @@ use Rattle.merge_policy.specs.Choice.{free_count}
 use Rattle.segment_set.specs.Sets.{IsNamed, IsWell, SetData, inputs_of, pins_of, sizes_of}
 use Rattle.segment_set.specs.Kept.{IsAsBefore}
 use Rattle.segment_set.specs.Merged.{Rearranges}
-use Rattle.segment_set.specs.Merges.{IsSpilled, part_at}
+use Rattle.segment_set.specs.Merges.{IsBufferWritten, part_at}
 use Rattle.segment_set.specs.Settles.{WritesBuffer, moment}
 use Rattle.segment_set.specs.Faithful.{IsFaithful}
 use Rattle.segment_set.proofs.Faithful.{faithful_rearranged}
 use Rattle.segment_set.proofs.Leveled.{free_placed, pinned}
 use Rattle.segment_set.proofs.Moved.{moved}
 use Rattle.segment_set.proofs.Rearranged.{both_ok, empty_list, rearranges_after, rearranges_none, waiting_below}
-use Rattle.segment_set.proofs.Settled.{before_moved, spills_moved}
+use Rattle.segment_set.proofs.Settled.{before_moved, writes_moved}
 use Rattle.segment_set.proofs.Sizes.{set_fits}
-use Rattle.segment_set.proofs.Spilled.{spill_after}
+use Rattle.segment_set.proofs.WrittenBuffer.{written_after}
 use Rattle.segment_set.proofs.Steps.{IsAfter, ok_or_err}
 use Rattle.segment_set.proofs.set.SegmentSet.write_buffer.Given as given
 use Rattle.segment_set.proofs.set.SegmentSet.write_buffer.Goals as goal
@@ -50,29 +50,31 @@ now g c = λ i. record (is g c) { next = c.write_buffer.ensures.next i }
 few : (g : given.Over) (c : goal.After-write_buffer g) → length c.self.inside.segments < 200
 few g c = subst (λ (s : SetData). length s.parts < 200) (sym c.self.view_is) c.requires
 
-spilled : (g : given.Over) (c : goal.After-write_buffer g)
+written : (g : given.Over) (c : goal.After-write_buffer g)
     → OnOk c.write_buffer.result
-    (IsSpilled g.row.D (IsTrue g.F.Pages.told) c.self.inside.leaf_size c.self.inside.names c.write_buffer.new.names (g.F.Pages.files c.write_buffer.new.folder)
+    (IsBufferWritten g.row.D (IsTrue g.F.Pages.told) c.self.inside.leaf_size c.self.inside.names c.write_buffer.new.names
+    (g.F.Pages.files c.write_buffer.new.folder)
     c.self.inside.buffer.items
     c.self.inside.segments c.write_buffer.new.segments)
-spilled g c =
+written g c =
     subst (λ n. OnOk c.write_buffer.result
-    (IsSpilled g.row.D (IsTrue g.F.Pages.told) n c.self.inside.names c.write_buffer.new.names (g.F.Pages.files c.write_buffer.new.folder)
+    (IsBufferWritten g.row.D (IsTrue g.F.Pages.told) n c.self.inside.names c.write_buffer.new.names (g.F.Pages.files c.write_buffer.new.folder)
     c.self.inside.buffer.items
     c.self.inside.segments c.write_buffer.new.segments))
-    (c.plan-plan.ensures.leaf_size ∙ sym (ap (λ (s : SetData). s.leaf_size) c.self.view_is)) c.write_buffer.ensures.spilled
+    (c.plan-plan.ensures.leaf_size ∙ sym (ap (λ (s : SetData). s.leaf_size) c.self.view_is)) c.write_buffer.ensures.written
 
 after : (g : given.Over) (c : goal.After-write_buffer g)
     → IsAfter g.row.D (IsTrue g.F.Pages.told) (g.F.Pages.files c.args.folder.now) (g.F.Pages.files c.write_buffer.new.folder) (was g c) (is g c)
 after g c =
-    spill_after g.row.D (IsTrue g.F.Pages.told) (g.F.Pages.files c.args.folder.now) (g.F.Pages.files c.write_buffer.new.folder) {s = was g c} c.self.invariant
+    written_after g.row.D (IsTrue g.F.Pages.told) (g.F.Pages.files c.args.folder.now) (g.F.Pages.files c.write_buffer.new.folder) {s = was g c} c.self.invariant
     c.write_buffer.new.names c.write_buffer.new.segments c.write_buffer.new.buffer.items (few g c)
     c.write_buffer.ensures.kept c.write_buffer.result
     (both_ok
-    (IsSpilled g.row.D (IsTrue g.F.Pages.told) c.self.inside.leaf_size c.self.inside.names c.write_buffer.new.names (g.F.Pages.files c.write_buffer.new.folder)
+    (IsBufferWritten g.row.D (IsTrue g.F.Pages.told) c.self.inside.leaf_size c.self.inside.names c.write_buffer.new.names
+    (g.F.Pages.files c.write_buffer.new.folder)
     c.self.inside.buffer.items c.self.inside.segments c.write_buffer.new.segments)
     (c.write_buffer.new.buffer.items ≡ [])
-    c.write_buffer.result (spilled g c) c.write_buffer.ensures.emptied)
+    c.write_buffer.result (written g c) c.write_buffer.ensures.emptied)
     c.write_buffer.ensures.refused
 
 pub plan-plan-requires : goal.plan-plan-requires
@@ -165,7 +167,7 @@ returns-clause-one_more g c = λ level.
     let inputs = inputs_of c.self.inside.begun in
     let free : List LiveSegment → ℕ = λ parts. free_count level (sizes_of parts) (pinned inputs parts) in
     subst (λ (s : SetData). free c.write_buffer.new.segments ≤ free_count level (sizes_of s.parts) (pins_of s.begun s.parts) + 1) c.self.view_is
-    (elim (ok_or_err c.write_buffer.result (spilled g c) c.write_buffer.ensures.refused) [
+    (elim (ok_or_err c.write_buffer.result (written g c) c.write_buffer.ensures.refused) [
       | inl s ↦ free_placed level inputs (part_at s.put.id s.n) c.self.inside.segments c.write_buffer.new.segments s.put.placed
       | inr same ↦ omega (arith, ap free same.0)
     ])
@@ -176,21 +178,22 @@ returns-then-is_empty-clause-reads g c = refl
 pub returns-clause-reads : goal.returns-clause-reads
 returns-clause-reads g c = c.write_buffer.ensures.reads
 
-pub returns-then-is_empty-clause-spills : goal.returns-then-is_empty-clause-spills
-returns-then-is_empty-clause-spills g c = inl refl
+pub returns-then-is_empty-clause-writes : goal.returns-then-is_empty-clause-writes
+returns-then-is_empty-clause-writes g c = inl refl
 
-pub returns-clause-spills : goal.returns-clause-spills
-returns-clause-spills g c = on_ok_weaker c.write_buffer.result
+pub returns-clause-writes : goal.returns-clause-writes
+returns-clause-writes g c = on_ok_weaker c.write_buffer.result
     (λ h. inr
     (subst (λ (s : SetData). WritesBuffer g.row.D (IsTrue g.F.Pages.told) (moment (g.F.Pages.files c.args.folder.now) c.args.self.now)
     (moment (g.F.Pages.files c.write_buffer.new.folder) s)) (sym (now g c))
-    (spills_moved g.row.D (IsTrue g.F.Pages.told) (g.F.Pages.files c.args.folder.now) (g.F.Pages.files c.write_buffer.new.folder) c.args.self.now
+    (writes_moved g.row.D (IsTrue g.F.Pages.told) (g.F.Pages.files c.args.folder.now) (g.F.Pages.files c.write_buffer.new.folder) c.args.self.now
     (was g c) c.self.view_is c.write_buffer.new.names c.write_buffer.new.segments c.write_buffer.new.buffer.items h.0 h.1)))
     (both_ok
-    (IsSpilled g.row.D (IsTrue g.F.Pages.told) c.self.inside.leaf_size c.self.inside.names c.write_buffer.new.names (g.F.Pages.files c.write_buffer.new.folder)
+    (IsBufferWritten g.row.D (IsTrue g.F.Pages.told) c.self.inside.leaf_size c.self.inside.names c.write_buffer.new.names
+    (g.F.Pages.files c.write_buffer.new.folder)
     c.self.inside.buffer.items c.self.inside.segments c.write_buffer.new.segments)
     (c.write_buffer.new.buffer.items ≡ [])
-    c.write_buffer.result (spilled g c) c.write_buffer.ensures.emptied)
+    c.write_buffer.result (written g c) c.write_buffer.ensures.emptied)
 
 pub returns-clause-refused : goal.returns-clause-refused
 returns-clause-refused g c = on_err_weaker c.write_buffer.result

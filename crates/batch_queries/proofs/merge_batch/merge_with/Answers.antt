@@ -5,7 +5,7 @@ use Rattle.index_core.proofs.Sizes.{session_fits}
 use Rattle.run_status.specs.declared.stop.Stop.{Stop}
 use Rattle.batch_queries.proofs.MergeCalls.{sent_part, sent_whole, status_known}
 use Rattle.batch_queries.proofs.Merged.{all_merged, beside_cut, beside_stopped, end_stopped}
-use Rattle.batch_queries.proofs.merging.merge_with.Goals as goal
+use Rattle.batch_queries.proofs.merge_batch.merge_with.Goals as goal
 
 pub returns-in_err-text : goal.returns-in_err-text
 returns-in_err-text g c =

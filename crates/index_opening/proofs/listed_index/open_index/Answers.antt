@@ -19,7 +19,7 @@ use Rattle.index_opening.proofs.Evident.{on_attach_evident}
 use Rattle.index_opening.proofs.Named.{attach_found}
 use Rattle.page_cache.specs.Evidence.{FaultShows}
 use Rattle.index_opening.specs.First.{IsFirstListed, IsFirstOpened, IsOfLeast, InNumbers, InSegment}
-use Rattle.index_opening.proofs.whole.open_index.Goals as goal
+use Rattle.index_opening.proofs.listed_index.open_index.Goals as goal
 
 pub returns-in_err-segments-clause-undefined : goal.returns-in_err-segments-clause-undefined
 returns-in_err-segments-clause-undefined g c = λ told says.

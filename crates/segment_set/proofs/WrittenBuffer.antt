@@ -16,7 +16,7 @@ use Rattle.file_names.specs.Names.{NameList}
 use Rattle.segment_set.specs.Sets.{SetData, IsBuiltOf, IsWell, inputs_of}
 use Rattle.segment_set.specs.Seen.{Sees}
 use Rattle.segment_set.specs.Kept.{KeepsNamed, StaysAlone, Follows, AreCanonical}
-use Rattle.segment_set.specs.Merges.{IsMade, IsSpilled}
+use Rattle.segment_set.specs.Merges.{IsMade, IsBufferWritten}
 use Rattle.segment_set.proofs.Standing.{sees_same}
 use Rattle.segment_set.proofs.Replaced.{one_if, ids_stay}
 use Rattle.segment_set.proofs.Weller.{length_replaced}
@@ -35,9 +35,9 @@ some_is x y h = cc
 
 module _ (D : ℕ) (told : Type 0) (files new_files : Files) {s : SetData} (names : NameList) (parts : List LiveSegment)
     (kept : KeepsNamed told s.names names files new_files)
-    (sp : IsSpilled D told s.leaf_size s.names names new_files s.buffer s.parts parts) (well : IsWell D s) where
-  spill_moves : Moves D told files new_files s names [] parts []
-  spill_moves = record {
+    (sp : IsBufferWritten D told s.leaf_size s.names names new_files s.buffer s.parts parts) (well : IsWell D s) where
+  written_moves : Moves D told files new_files s names [] parts []
+  written_moves = record {
     kept = kept;
     built = Some sp.n;
     replaces = sp.put;
@@ -50,32 +50,32 @@ module _ (D : ℕ) (told : Type 0) (files new_files : Files) {s : SetData} (name
   apart_none : (id : ℕ) → is_among [] id ≡ true → is_among (inputs_of s.begun) id ≡ false
   apart_none id h = cc
 
-  pub spill_well : length s.parts < 200 → IsWell D (moved s names parts [] s.begun s.cache)
-  spill_well few =
+  pub written_well : length s.parts < 200 → IsWell D (moved s names parts [] s.begun s.cache)
+  written_well few =
       let stay : parts_among (inputs_of s.begun) parts ≡ parts_among (inputs_of s.begun) s.parts =
-      inputs_stay D told files new_files s names [] parts [] spill_moves well apart_none in
-      well_moved D told files new_files s names [] parts [] spill_moves well s.begun s.cache
+      inputs_stay D told files new_files s names [] parts [] written_moves well apart_none in
+      well_moved D told files new_files s names [] parts [] written_moves well s.begun s.cache
       (omega (arith, few, length_replaced D told s.names names new_files [] s.parts parts (Some sp.n) sp.put)) (omega arith)
       (λ i j d le lt. absurd (omega (arith, lt))) none_twice_none few_none
       (ids_stay (inputs_of s.begun) s.parts parts stay well.inputs) well.few_inputs
       (λ n is. subst (λ (ps : List LiveSegment). IsBuiltOf D s.leaf_size ps n) (sym stay) (well.built n is)) well.cached
       (λ i n offset len page known. known)
 
-  pub spill_stays : StaysAlone s (moved s names parts [] s.begun s.cache)
-  spill_stays = stays_moved D told files new_files s names [] parts [] spill_moves s.begun s.cache refl
+  pub written_stays : StaysAlone s (moved s names parts [] s.begun s.cache)
+  written_stays = stays_moved D told files new_files s names [] parts [] written_moves s.begun s.cache refl
 
-  pub spill_follows : Follows s.names s.parts parts
-  spill_follows = follows_moved D told files new_files s names [] parts [] spill_moves
+  pub written_follows : Follows s.names s.parts parts
+  written_follows = follows_moved D told files new_files s names [] parts [] written_moves
 
-  pub spill_canon : told → AreCanonical D new_files s.names parts
-  spill_canon is_told = canon_moved D told files new_files s names [] parts [] spill_moves is_told well
+  pub written_canon : told → AreCanonical D new_files s.names parts
+  written_canon is_told = canon_moved D told files new_files s names [] parts [] written_moves is_told well
 
-  pub spill_seen : told → (i : Index) → Sees D files s i → Sees D new_files (moved s names parts [] s.begun s.cache) i
-  unfolding spill_moves
-  spill_seen is_told i h =
+  pub written_seen : told → (i : Index) → Sees D files s i → Sees D new_files (moved s names parts [] s.begun s.cache) i
+  unfolding written_moves
+  written_seen is_told i h =
       sees_same D new_files (moved s names parts [] s.begun s.cache) i (is_some s.begun) (sym h.begun)
-      (seen_moved D told files new_files s names [] parts [] spill_moves is_told well i h s.buffer sp.holds same s.begun s.cache
-      (λ d alike. begun_moved D told files new_files s names [] parts [] spill_moves well apart_none h.contents d alike h.stands.begun)
+      (seen_moved D told files new_files s names [] parts [] written_moves is_told well i h s.buffer sp.holds same s.begun s.cache
+      (λ d alike. begun_moved D told files new_files s names [] parts [] written_moves well apart_none h.contents d alike h.stands.begun)
       well.cached h.stands.agrees)
     where
       same : SameTotals (live_in_parts h.contents (parts_among [] s.parts) ++ s.buffer) (s.buffer ++ [])
@@ -92,19 +92,19 @@ refused_after D told files new_files {s} well names kept =
     merge_after D told files new_files well names [] s.parts s.cache kept (λ id h. cc) (λ t agrees. agrees) (λ id h. inl h)
     (λ i n offset len page known. known) {T = ℕ} {E = ℕ} (Err 0) tt refl
 
-pub spill_after : (D : ℕ) (told : Type 0) (files new_files : Files) {s : SetData} (well : IsWell D s) (names : NameList) (parts : List LiveSegment)
+pub written_after : (D : ℕ) (told : Type 0) (files new_files : Files) {s : SetData} (well : IsWell D s) (names : NameList) (parts : List LiveSegment)
     (left : List Item)
     → length s.parts < 200
     → KeepsNamed told s.names names files new_files → {T E : Type 0} (r : Result T E)
-    → OnOk r (IsSpilled D told s.leaf_size s.names names new_files s.buffer s.parts parts × (left ≡ [])) → OnErr r ((parts ≡ s.parts) × (left ≡ s.buffer))
+    → OnOk r (IsBufferWritten D told s.leaf_size s.names names new_files s.buffer s.parts parts × (left ≡ [])) → OnErr r ((parts ≡ s.parts) × (left ≡ s.buffer))
     → IsAfter D told files new_files s (moved s names parts left s.begun s.cache)
-spill_after D told files new_files {s} well names parts left few kept r spilled refused = elim (ok_or_err r spilled refused) [
+written_after D told files new_files {s} well names parts left few kept r written refused = elim (ok_or_err r written refused) [
   | inl sp ↦ subst (λ (es : List Item). IsAfter D told files new_files s (moved s names parts es s.begun s.cache)) (sym sp.1) (record {
-    well = spill_well D told files new_files names parts kept sp.0 well few;
-    seen = λ t i h. spill_seen D told files new_files names parts kept sp.0 well t i h;
-    stays = spill_stays D told files new_files names parts kept sp.0 well;
-    follows = spill_follows D told files new_files names parts kept sp.0 well;
-    canon = spill_canon D told files new_files names parts kept sp.0 well;
+    well = written_well D told files new_files names parts kept sp.0 well few;
+    seen = λ t i h. written_seen D told files new_files names parts kept sp.0 well t i h;
+    stays = written_stays D told files new_files names parts kept sp.0 well;
+    follows = written_follows D told files new_files names parts kept sp.0 well;
+    canon = written_canon D told files new_files names parts kept sp.0 well;
   })
   | inr same ↦
       subst (λ (es : List Item). IsAfter D told files new_files s (moved s names parts es s.begun s.cache)) (sym same.1)

@@ -9,7 +9,7 @@ use Rattle.index_opening.proofs.Evident.{on_commit_evident, on_evident_at}
 use Rattle.run_status.specs.declared.stop.Stop.{Stop}
 use Rattle.batch_run.specs.Copies.{IsCommitIn}
 use Rattle.batch_queries.proofs.MergeCalls.{merges_after, stopped}
-use Rattle.batch_queries.proofs.merging.merge_stored.Goals as goal
+use Rattle.batch_queries.proofs.merge_batch.merge_stored.Goals as goal
 use Rattle.stored_index.proofs.Whole.{not_damaged}
 
 pub returns-in_err-read_commit : goal.returns-in_err-read_commit

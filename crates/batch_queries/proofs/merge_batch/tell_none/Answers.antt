@@ -7,7 +7,7 @@ use Rattle.run_status.specs.declared.stop.Stop.{Stop}
 use Rattle.run_status.proofs.Ending.{page_memory, sent_as}
 use Rattle.batch_queries.proofs.MergeCalls.{stopped}
 use Rattle.batch_queries.proofs.NoIndex.{none_told, sent_how}
-use Rattle.batch_queries.proofs.merging.tell_none.Goals as goal
+use Rattle.batch_queries.proofs.merge_batch.tell_none.Goals as goal
 
 pub returns-in_err-text : goal.returns-in_err-text
 returns-in_err-text g c = λ told files faults.

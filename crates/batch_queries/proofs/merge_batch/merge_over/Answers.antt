@@ -12,7 +12,7 @@ use Rattle.run_status.specs.declared.stop.Stop.{Stop}
 use Rattle.batch_run.specs.Copies.{IsCommitIn}
 use Rattle.batch_queries.proofs.MergeCalls.{merges_after, stopped}
 use Rattle.batch_queries.proofs.Opened.{none_undefined, opened}
-use Rattle.batch_queries.proofs.merging.merge_over.Goals as goal
+use Rattle.batch_queries.proofs.merge_batch.merge_over.Goals as goal
 use Rattle.segment_set.proofs.Saving.{cause_after}
 
 pub attach-requires : goal.attach-requires
@@ -42,7 +42,7 @@ returns-in_err-session g c =
     (λ told says. kept_equal _ _ (e.files told ∙ first.files told))
     (λ told says state stored. e.damaged.whole told (subst (λ (f : Files). IsCommitIn f c.args.commit) (sym (first.files told)) says) state
     (subst (λ (f : Files). IsStored f state) (sym (first.files told)) stored))
-    (cause_after _ _ _ (Err c.in_err-session.field-0.0) first.cause.fine e.cause)
+    (cause_after _ _ _ (Err c.in_err-session.field-0.0) first.cause.on_ok e.cause)
     (on_evident_at {X = ℕ} IsTwice _ _ _ _ (Err c.in_err-session.field-0.0)
     (λ h. (h.0, subst (λ (f : Files). IsCommitIn f c.args.commit) (sym (first.files h.0)) h.1)) (λ h. e.files h.0) e.damaged.evident) refl
 
@@ -51,7 +51,7 @@ returns g c =
     let first = c.in_ok-resident.ensures in
     let then = c.in_ok-session.ensures in
     merges_after (IsTrue g.F.Pages.told) _ _ _ _ _ _ _ c.in_ok-session.session _ (λ told. then.files told ∙ first.files told) refl refl
-    (cause_after _ _ _ _ first.cause.fine then.cause)
+    (cause_after _ _ _ _ first.cause.on_ok then.cause)
     (λ told says. opened g.row.D _ _ _ c.args.commit _ _ (first.files told) (then.files told) says (first.copy told)
     (then.attaches.seen told) (then.attaches.guards told) (then.attaches.faithful told) (then.attaches.traced told) then.attaches.unchanged)
     c.merge_with.ensures

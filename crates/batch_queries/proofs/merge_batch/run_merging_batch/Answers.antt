@@ -5,7 +5,7 @@ use Rattle.stored_index.proofs.KeptFiles.{kept_itself}
 use Rattle.run_status.specs.Ends.{DoesNothing}
 use Rattle.batch_queries.specs.MergeRuns.{MergesBatch}
 use Rattle.batch_queries.proofs.MergeCalls.{all_evident, status_is}
-use Rattle.batch_queries.proofs.merging.run_merging_batch.Goals as goal
+use Rattle.batch_queries.proofs.merge_batch.run_merging_batch.Goals as goal
 
 pub returns-in-Ok-clause-never_usage : goal.returns-in-Ok-clause-never_usage
 returns-in-Ok-clause-never_usage g c = λ e.

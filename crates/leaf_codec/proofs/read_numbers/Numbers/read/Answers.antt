@@ -5,8 +5,8 @@ use Rattle.leaf_codec.specs.Raw.{RawNumbers}
 use Rattle.byte_cursor.specs.Vint.{vint}
 use Rattle.leaf_codec.proofs.CanonicalNumbers.{HasWords, has_words, AreBytes-from}
 use Rattle.byte_cursor.proofs.SpelledVints.{vint_front, length-vint}
-use Rattle.leaf_codec.proofs.read_numbers.Numbers.take.Goals as goal
-use Rattle.leaf_codec.proofs.read_numbers.Numbers.take.Goals.{Else-rest-count}
+use Rattle.leaf_codec.proofs.read_numbers.Numbers.read.Goals as goal
+use Rattle.leaf_codec.proofs.read_numbers.Numbers.read.Goals.{Else-rest-count}
 
 two-same : (a b c d : ℕ) (x y : List ℕ) → a ∷ b ∷ x ≡ c ∷ d ∷ y → x ≡ y
 two-same a b c d x y e = cc

@@ -5,7 +5,7 @@ use Rattle.leaf_codec.proofs.TakeKeys.{lengths_same, prefixes_same, total_is, so
 use Rattle.leaf_codec.specs.Words.{AreBytes}
 use Rattle.leaf_codec.proofs.CanonicalNumbers.{AreBytes-from}
 use Rattle.std.proofs.lemmas.List.Elements.{All-take, All-drop}
-use Rattle.leaf_codec.proofs.read_parts.Parts.take.Goals as goal
+use Rattle.leaf_codec.proofs.read_parts.Parts.read.Goals as goal
 
 pub returns-in_err-lengths-clause-only : goal.returns-in_err-lengths-clause-only
 returns-in_err-lengths-clause-only c r h e =

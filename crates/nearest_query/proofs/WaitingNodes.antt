@@ -34,25 +34,25 @@ span_split h a (suc m) n =
 pub span_one : (g : ℕ → ℕ → ℕ) (i first : ℕ) → leaf_sum g i first 1 ≡ g i first
 span_one g i first = let p = sum_by-cons (g i) first [] in omega (arith, p)
 
-pub same_turn : (turns new : List Waiting) (d seg f f' l l' p p' : ℕ) → f ≡ f' → l ≡ l' → p ≡ p'
-    → IsPermutation (record { dist2 = record { 0 = d }; segment = seg; first = f; leaves = l; place = p } ∷ turns) new
-    → IsPermutation (record { dist2 = record { 0 = d }; segment = seg; first = f'; leaves = l'; place = p' } ∷ turns) new
-same_turn turns new d seg f f' l l' p p' a b c h =
-    subst (λ x. IsPermutation (record { dist2 = record { 0 = d }; segment = seg; first = f'; leaves = l'; place = x } ∷ turns) new) c
-    (subst (λ x. IsPermutation (record { dist2 = record { 0 = d }; segment = seg; first = f'; leaves = x; place = p } ∷ turns) new) b
-    (subst (λ x. IsPermutation (record { dist2 = record { 0 = d }; segment = seg; first = x; leaves = l; place = p } ∷ turns) new) a h))
+pub same_waiting : (waiting new : List Waiting) (d seg f f' l l' p p' : ℕ) → f ≡ f' → l ≡ l' → p ≡ p'
+    → IsPermutation (record { dist2 = record { 0 = d }; segment = seg; first = f; leaves = l; place = p } ∷ waiting) new
+    → IsPermutation (record { dist2 = record { 0 = d }; segment = seg; first = f'; leaves = l'; place = p' } ∷ waiting) new
+same_waiting waiting new d seg f f' l l' p p' a b c h =
+    subst (λ x. IsPermutation (record { dist2 = record { 0 = d }; segment = seg; first = f'; leaves = l'; place = x } ∷ waiting) new) c
+    (subst (λ x. IsPermutation (record { dist2 = record { 0 = d }; segment = seg; first = f'; leaves = x; place = p } ∷ waiting) new) b
+    (subst (λ x. IsPermutation (record { dist2 = record { 0 = d }; segment = seg; first = x; leaves = l; place = p } ∷ waiting) new) a h))
 
--- the turn of a node, by its distance, segment and place
-abbrev pub turn_of : {D : ℕ} → ℕ → ℕ → NodeAt D → ℕ → Waiting
-turn_of d seg node place = record { dist2 = record { 0 = d }; segment = seg; first = node.first; leaves = node.leaves; place = place }
+-- the node that waits of a node, by its distance, segment and place
+abbrev pub waiting_of : {D : ℕ} → ℕ → ℕ → NodeAt D → ℕ → Waiting
+waiting_of d seg node place = record { dist2 = record { 0 = d }; segment = seg; first = node.first; leaves = node.leaves; place = place }
 
 pub waiting_sum : {D : ℕ} (at : List ℤ) (seg : ℕ) (node : NodeAt D) (old new : Front D) → IsWaiting at seg node old new
-    → (g : ℕ → ℕ → ℕ) → sum_by (sum_below g) new.turns ≡ leaf_sum g seg node.first node.leaves + sum_by (sum_below g) old.turns
-waiting_sum at seg node old new h g = sum_by_pushed (sum_below g) (turn_of h.dist seg node (length old.nodes)) old.turns new.turns h.moved
+    → (g : ℕ → ℕ → ℕ) → sum_by (sum_below g) new.waiting ≡ leaf_sum g seg node.first node.leaves + sum_by (sum_below g) old.waiting
+waiting_sum at seg node old new h g = sum_by_pushed (sum_below g) (waiting_of h.dist seg node (length old.nodes)) old.waiting new.waiting h.moved
 
 pub waiting_work : {D : ℕ} (at : List ℤ) (seg : ℕ) (node : NodeAt D) (old new : Front D) → IsWaiting at seg node old new
-    → sum_by work new.turns ≡ 2 * node.leaves - 1 + (1 - node.leaves) + sum_by work old.turns
-waiting_work at seg node old new h = sum_by_pushed work (turn_of h.dist seg node (length old.nodes)) old.turns new.turns h.moved
+    → sum_by work new.waiting ≡ 2 * node.leaves - 1 + (1 - node.leaves) + sum_by work old.waiting
+waiting_work at seg node old new h = sum_by_pushed work (waiting_of h.dist seg node (length old.nodes)) old.waiting new.waiting h.moved
 
 pub stands_new : {D : ℕ} (nodes new : List (NodeAt D)) (node : NodeAt D) → new ≡ nodes ++ node ∷ [] → IsNthNode new (length nodes) node
 stands_new nodes new node e =
@@ -69,10 +69,10 @@ stands_still nodes new more node place e h =
     })
 
 pub inside_put : {D : ℕ} (n : ℕ) (at : List ℤ) (seg : ℕ) (node : NodeAt D) (old new : Front D) → seg < n → IsWaiting at seg node old new
-    → All (IsInside n old.nodes) old.turns → All (IsInside n new.nodes) new.turns
+    → All (IsInside n old.nodes) old.waiting → All (IsInside n new.nodes) new.waiting
 inside_put n at seg node old new lt h all =
-    All-permutation (IsInside n new.nodes) (turn_of h.dist seg node (length old.nodes) ∷ old.turns) new.turns h.moved
-    (All-cons (IsInside n new.nodes) (turn_of h.dist seg node (length old.nodes)) old.turns
+    All-permutation (IsInside n new.nodes) (waiting_of h.dist seg node (length old.nodes) ∷ old.waiting) new.waiting h.moved
+    (All-cons (IsInside n new.nodes) (waiting_of h.dist seg node (length old.nodes)) old.waiting
     (record { inside = lt; node = node; stands = stands_new old.nodes new.nodes node h.grown; leaves_are = refl })
     (All-weaker (IsInside n old.nodes) (IsInside n new.nodes)
     (λ t k. record {
@@ -80,7 +80,7 @@ inside_put n at seg node old new lt h all =
       node = k.node;
       stands = stands_still old.nodes new.nodes node k.node t.place h.grown k.stands;
       leaves_are = k.leaves_are;
-    }) old.turns all))
+    }) old.waiting all))
 
 -- an element read is the one that any default gives
 pub read_any : {X : Type 0} (xs : List X) (i : ℕ) (x d : X) → i < length xs → x ≡ get_or xs i x → get_or xs i d ≡ x
