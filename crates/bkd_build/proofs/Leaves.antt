@@ -104,7 +104,7 @@ size_at D leaf_size (Split d x l r) some h k items lt =
       | inl left ↦
           rw (get_or_append_left (leaves_of l) (leaves_of r) items k left)
           (size_at D leaf_size l some h.1 k items left ∙ ap (λ (m : ℕ). min leaf_size (m - k * leaf_size)) full
-              ∙ full_left leaf_size (n * leaf_size) n k left (omega arith)
+          ∙ full_left leaf_size (n * leaf_size) n k left (omega arith)
           ∙ sym (full_left leaf_size count n k left (omega (arith, both, full))))
       | inr right ↦
           rw (get_or-append_right (leaves_of l) (leaves_of r) n k items refl right)
@@ -123,7 +123,7 @@ are_leaves D leaf_size items b some h =
     let n : ℕ = leaves_for leaf_size (length items) in
     let counted : length (leaves_of t) ≡ n = leaves_count D leaf_size t some h.canon.canon ∙ ap (leaves_for leaf_size) all in
     let shape : IsShaped n (index_tree_of D t) =
-        subst (λ (m : ℕ). IsShaped (leaves_for leaf_size m) (index_tree_of D t)) all (shaped D leaf_size t some h.canon.canon) in
+    subst (λ (m : ℕ). IsShaped (leaves_for leaf_size m) (index_tree_of D t)) all (shaped D leaf_size t some h.canon.canon) in
     record {
       index = h.index;
       form = h.form;

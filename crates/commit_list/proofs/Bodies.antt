@@ -142,25 +142,25 @@ unfolding commit_body old_commit_body
 spelling_of First h bytes listed l says long e =
     let same : h ≡ head_of First (commit_of h listed) = λ i.
     record {
-        layout = l i;
-        dims = h.dims;
-        leaf_size = h.leaf_size;
-        next = h.next;
-        points_given = h.points_given;
-        next_segment = h.next_segment;
-        count = (sym long) i;
+      layout = l i;
+      dims = h.dims;
+      leaf_size = h.leaf_size;
+      next = h.next;
+      points_given = h.points_given;
+      next_segment = h.next_segment;
+      count = (sym long) i;
     } in
     inr (says, e ∙ ap (λ (k : Head). spell_head k ++ flat_map spell_listed listed) same)
 spelling_of Second h bytes listed l says long e =
     let same : h ≡ head_of Second (commit_of h listed) = λ i.
     record {
-        layout = l i;
-        dims = h.dims;
-        leaf_size = h.leaf_size;
-        next = h.next;
-        points_given = h.points_given;
-        next_segment = h.next_segment;
-        count = (sym long) i;
+      layout = l i;
+      dims = h.dims;
+      leaf_size = h.leaf_size;
+      next = h.next;
+      points_given = h.points_given;
+      next_segment = h.next_segment;
+      count = (sym long) i;
     } in
     inl (e ∙ ap (λ (k : Head). spell_head k ++ flat_map spell_listed listed) same)
 

@@ -69,16 +69,18 @@ numbers_unique g h x y p q l e =
     ap (λ (k : Layout). spell_given k g.points_given ++ (to_be_bytes w64 g.next_segment ++ (to_be_bytes w16 g.count ++ x))) (sym l) ∙ next.1 in
     let points_given = given_unique h.layout h.next g.points_given h.points_given _ _ says q.says_given p.points_given q.points_given same in
     let segment = spelling_unique w64 g.next_segment h.next_segment _ _ p.next_segment q.next_segment points_given.1 in
-    let count = spelling_unique w16 g.count h.count x y p.count q.count segment.1 in
-    (λ i. record {
-      layout = l i;
-      dims = dims.0 i;
-      leaf_size = leaf_size.0 i;
-      next = next.0 i;
-      points_given = points_given.0 i;
-      next_segment = segment.0 i;
-      count = count.0 i;
-    }, count.1)
+    let count = spelling_unique w16 g.count h.count x y p.count q.count segment.1 in (
+      λ i. record {
+        layout = l i;
+        dims = dims.0 i;
+        leaf_size = leaf_size.0 i;
+        next = next.0 i;
+        points_given = points_given.0 i;
+        next_segment = segment.0 i;
+        count = count.0 i;
+      },
+      count.1,
+    )
 
 pub heads_unique : (g h : Head) (x y : List ℕ) → FitsHead g → FitsHead h → spell_head g ++ x ≡ spell_head h ++ y → (g ≡ h) × (x ≡ y)
 heads_unique g h x y p q e =

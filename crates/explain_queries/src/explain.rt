@@ -63,10 +63,12 @@ pub fn explain_first(number: u64, line: &[u8], reply: &mut Vec<u8>) -> Result<bo
 {
     match read_first(line) {
         Ok(First::Blank) => Ok(false),
-        Ok(First::Create {
-            dims: _,
-            leaf_size: _,
-        }) => {
+        Ok(
+            First::Create {
+                dims: _,
+                leaf_size: _,
+            },
+        ) => {
             put_refusal(reply, number, Refusal::NotQuery)?;
             Ok(true)
         }

@@ -148,7 +148,7 @@ unchanged_is_stored D files s i unchanged sound guards seen =
     leaf_size : c.leaf_size ≡ s.set.leaf_size
     leaf_size = ⊎_elim (λ none. absurd (says_some files c none last.says))
         (λ (h : ListsOnlyNamed D files s.set).
-            ap (λ (d : CommitData). d.leaf_size) (one_file (bytes_of (files Commit)) c h.commit last.says h.says) ∙ h.leaf_size)
+        ap (λ (d : CommitData). d.leaf_size) (one_file (bytes_of (files Commit)) c h.commit last.says h.says) ∙ h.leaf_size)
         guards.set
 
     parts : List SegmentData

@@ -51,7 +51,7 @@ read_create_ranges (w ∷ word ∷ []) = Fails line.Words
 read_create_ranges (w ∷ word ∷ s ∷ []) =
     if bytes_eq word (codes "leaf")
     then on_success (value_of number 2 w)
-        (λ r. on_success (value_of number 4 s) (λ leaf_size. create_reading (2 * r) leaf_size))
+    (λ r. on_success (value_of number 4 s) (λ leaf_size. create_reading (2 * r) leaf_size))
     else Fails line.Words
 read_create_ranges (w ∷ word ∷ s ∷ v ∷ ws) = Fails line.Words
 

@@ -108,7 +108,7 @@ read_create (d ∷ word ∷ []) = Fails fault.Words
 read_create (d ∷ word ∷ s ∷ []) =
     if bytes_eq word (codes "leaf")
     then on_success (value_of number 2 d)
-        (λ dims. on_success (value_of number 4 s) (λ leaf_size. create_reading dims leaf_size))
+    (λ dims. on_success (value_of number 4 s) (λ leaf_size. create_reading dims leaf_size))
     else Fails fault.Words
 read_create (d ∷ word ∷ s ∷ w ∷ ws) = Fails fault.Words
 

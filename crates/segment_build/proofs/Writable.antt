@@ -119,7 +119,7 @@ has_leaves D leaf_size count items b live two limit some few counted h = record 
   counted = counted ∙ sym (length_permutation items (entries_of h.tree) h.canon.same);
   fits = λ id.
       subst (λ (n : ℕ). FitsSegment D id leaf_size n b.index b.leaves (entries_of h.tree)) (sym counted)
-          (fits_built D id leaf_size items b two limit some few h);
+      (fits_built D id leaf_size items b two limit some few h);
 }
 
 -- the same of the entries that it was built of

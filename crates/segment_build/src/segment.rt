@@ -22,9 +22,13 @@ impl<const D: usize> Model for NewSegment<D> {
 
     ghost Value = { NewSegmentData };
 
-    ghost view = { λ n. record
-        { index = n.built.index; leaves = n.built.leaves; leaf_size = n.leaf_size; entries = n.entries;
-            live = n.live } };
+    ghost view = { λ n. record {
+      index = n.built.index;
+      leaves = n.built.leaves;
+      leaf_size = n.leaf_size;
+      entries = n.entries;
+      live = n.live;
+    } };
 
     ghost invariant = { λ n. ∥ HasSomeEntries D
         (record {

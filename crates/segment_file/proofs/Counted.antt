@@ -31,7 +31,7 @@ tree_counted D bytes head first s (Split d x l r) items h =
     ∙ ap (λ (n : ℕ). n + length h.back_items) left
     ∙ ap (λ (n : ℕ). min (leaf_count l * head.leaf_size) (head.entries - first * head.leaf_size) + n) right
     ∙ mins_add (leaf_count l * head.leaf_size) (leaf_count r * head.leaf_size) (head.entries - first * head.leaf_size)
-        (head.entries - (first + leaf_count l) * head.leaf_size)
+    (head.entries - (first + leaf_count l) * head.leaf_size)
     ((leaf_count l + leaf_count r) * head.leaf_size)
     (omega (arith, add-mul first (leaf_count l) head.leaf_size)) (add-mul (leaf_count l) (leaf_count r) head.leaf_size)
 

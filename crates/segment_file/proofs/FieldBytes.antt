@@ -54,7 +54,7 @@ numbers_unique f g x y p q numbers =
     let first = spelling_unique w16 f.leaf_size g.leaf_size
     (to_be_bytes w32 f.entries ++ (to_be_bytes w32 f.leaves ++ (to_be_bytes w32 f.index_length ++ (to_be_bytes w32 f.leaf_pages ++ x))))
     (to_be_bytes w32 g.entries ++ (to_be_bytes w32 g.leaves ++ (to_be_bytes w32 g.index_length ++ (to_be_bytes w32 g.leaf_pages ++ y)))) p.leaf_size q.leaf_size
-        behind in
+    behind in
     let second = spelling_unique w32 f.entries g.entries (to_be_bytes w32 f.leaves ++ (to_be_bytes w32 f.index_length ++ (to_be_bytes w32 f.leaf_pages ++ x)))
     (to_be_bytes w32 g.leaves ++ (to_be_bytes w32 g.index_length ++ (to_be_bytes w32 g.leaf_pages ++ y))) p.entries q.entries first.1 in
     let third = spelling_unique w32 f.leaves g.leaves (to_be_bytes w32 f.index_length ++ (to_be_bytes w32 f.leaf_pages ++ x))

@@ -170,7 +170,7 @@ module _ (D : ℕ) (s : SetData) (k : CommitData) (name : FileName) (cache : Pag
         snapshots = first.snapshots;
       } in
       sees_like D after mid t i (record { leaf_size = like.leaf_size; next = like.next; points_given = like.points_given; snapshots = like.snapshots }) parts
-          buffer begun
+      buffer begun
       (subst (Agrees after) (sym is) second.stands.agrees) second
     where
       not_it : (m : FileName) → is_named (names_but name s.names).names m ≡ true → m ≢ name

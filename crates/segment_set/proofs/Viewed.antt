@@ -111,7 +111,7 @@ pub sees_cache : (D : ℕ) (files : Files) (s : SetData) (i : Index) (cache : Pa
     → Sees D files (record s { cache = cache }) i
 sees_cache D files s i cache agrees seen =
     sees_like D files s (record s { cache = cache }) i (record { leaf_size = refl; next = refl; points_given = refl; snapshots = refl }) refl refl refl agrees
-        seen
+    seen
 
 -- no snapshot has the name where none is found
 pub none_named : (name : List ℕ) (views : List NamedView) → view_of name views ≡ None → has_name name views ≡ false

@@ -108,7 +108,7 @@ pub(crate) fn gathered<const D: usize, R: Threads + Sync, F: Pages, G: Gate>(
     requires { D ≤ 8 }
     ensures gathered { IfOk result
         (λ o. (n : NewSegmentData) → o ≡ Some n
-            → IsGathered D plan.now.leaf_size (parts_among ids.now segments.now) n) }
+        → IsGathered D plan.now.leaf_size (parts_among ids.now segments.now) n) }
     ensures makes { IsTrue F.told → (c : Contents) → AreRead D (F.files folder.old) c segments.now
         → IfOk result (MakesLive D (live_in_parts c (parts_among ids.now segments.now))) }
     ensures loses { IfOk result (LosesNone D (IsTrue F.told) (F.files folder.old) ids.now segments.now) }

@@ -49,7 +49,7 @@ pub all_once : EntriesOnce → (files : Files) (c : CommitData) (xs ys : List Se
 all_once once files c xs ys p q =
     zip_once (HoldsFiles files c)
     (λ s d e h k. held_once once c.dims c.leaf_size s (bytes_of (files (Segment s.segment))) (bytes_of (files (Live s.segment s.generation))) d e h k) c.listed
-        xs ys
+    xs ys
     p q
 
 -- ---- heads and live sets of a list of segments

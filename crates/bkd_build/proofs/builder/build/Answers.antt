@@ -40,5 +40,5 @@ returns-clause-built g c =
     c.as_slice-2.ensures.value c.as_slice-3.ensures.value a in
     let packed = c.in_ok-index.ensures.packed (index_tree_of g.row.D a.tree) are in
     whole_built g.row.D c.args.leaf_size (items_of c.args.entries.now) root (held_pieces c.in_ok-part.part) c.in_ok-index.index c.cell_round-root.ensures a
-        packed.0
+    packed.0
     packed.2

@@ -26,7 +26,7 @@ grow-returns-clause-added g t c =
     let split : IsCanonSplit g.row.D c.args.leaf_size node.dimension node.at (items_of ls) (items_of rs) =
     rw (c.split_at_mut-left.ensures.front, c.split_at_mut-left.ensures.back) c.halve-node.ensures.split in
     node_adds g.row.D c.args.leaf_size node.dimension node.at (items_of c.args.entries.now) (items_of ls) (items_of rs) (held_pieces c.args.part.now)
-        both.middle
+    both.middle
     (held_pieces c.grow_halves.new.part)
     (items_joined c.args.entries.now c.halve-node.new.entries ls rs c.halve-node.ensures.same c.split_at_mut-left.ensures.value)
     split

@@ -32,7 +32,7 @@ returns-in_err-agree-clause-whole g c = λ told d held.
     rw (e.1, e.2)
     (equal_fault (Segment c.args.s.segment) c.from.result c.from-2.result c.in_err-agree.field-0.0
     (c.from.ensures ∙ c.leaf_size-leaf_size.ensures.value ∙ sym held.leaf_size
-        ∙ sym (c.from-2.ensures ∙ c.leaf_size.ensures ∙ ap (λ (h : Head). h.leaf_size) same))
+    ∙ sym (c.from-2.ensures ∙ c.leaf_size.ensures ∙ ap (λ (h : Head). h.leaf_size) same))
     c.in_err-agree.ensures.pair)
 
 pub returns-in_err-agree-2-clause-damage : goal.returns-in_err-agree-2-clause-damage

@@ -80,7 +80,7 @@ returns-in-Ok-Made-clause-does g c =
           (λ sink. c.in-Ok-Made.ensures.text sink ∙ ap (λ (a : Answer). g.K.Sink.written c.lines.out ++ a.text) (sym is)) _ _ c.run_from.result done.0,
       leads_same c.args.work.now.language None _ _ _ _ _ _ _ c.run_from.result same (ap (λ f. g.F.Pages.reads f) c.lines.invariant.folder)
           (made_leads c.args.work.now.language _ _ _ so.1 gives.line ls refl c.in-Ok-Made.dims c.in-Ok-Made.leaf_size state _ _ _ _ still c.run_from.result
-              done.1),
+          done.1),
     ))
     (c.run_from.ensures.does told)
 

@@ -11,14 +11,14 @@ pub invariant_of-result : goal.invariant_of-result
 invariant_of-result g c =
     let r = c.requires in
     some_built c.args.leaf_size (length c.args.entries.now) c.args.entries.now c.in_ok-built.built c.in_ok-live.live r.least_leaf r.greatest_leaf r.some r.few
-        refl
+    refl
     c.in_ok-built.ensures.built
 
 pub returns-clause-has : goal.returns-clause-has
 returns-clause-has g c =
     let r = c.requires in
     has_built c.args.leaf_size (length c.args.entries.now) c.args.entries.now c.in_ok-built.built c.in_ok-live.live r.least_leaf r.greatest_leaf r.some r.few
-        refl
+    refl
     c.in_ok-built.ensures.built
 
 pub returns-clause-found : goal.returns-clause-found

@@ -22,7 +22,7 @@ invariant_of-result g c =
     let short : length c.args.index.bytes < 2 ^ 32 = omega arith in
     let small : c.args.id < 2 ^ 64 = omega arith in
     ∥∥₁_elim c.requires (hlevel props)
-        (λ w. head_ranges g.row.D c.args.id c.args.leaf_size c.args.entries c.args.index c.args.leaves.now w.items small short w.fits)
+    (λ w. head_ranges g.row.D c.args.id c.args.leaf_size c.args.entries c.args.index c.args.leaves.now w.items small short w.fits)
 
 pub returns-clause-written : goal.returns-clause-written
 returns-clause-written g c = λ told items fits.

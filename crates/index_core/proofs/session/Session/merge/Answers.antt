@@ -49,7 +49,7 @@ returns-in_err-merge_all-clause-applies g c =
       faithful = c.merge_all.ensures.faithful;
     })
     c.leaf_size-leaf_size.ensures.well.named (p.1 ∙ ap (λ (e : PageFault). Err e) p.2) c.merge_all.ensures.moves.seen (begins_itself _)
-        c.in_err-merge_all.ensures.cause
+    c.in_err-merge_all.ensures.cause
     c.in_err-merge_all.ensures.damaged.whole c.in_err-merge_all.ensures.damaged.evident)
 
 pub returns-in_err-put_ok-clause-applies : goal.returns-in_err-put_ok-clause-applies
