@@ -72,7 +72,12 @@ created_fine dims leaf_size =
       | true ↦ λ d. elim (is_from_to 2 (greatest_leaf dims) leaf_size) as (λ t.
           is_from_to 2 (greatest_leaf dims) leaf_size ≡ t → IsFine (created_if true t dims leaf_size)) [
             | true ↦ λ l.
-                says (asks.Create dims leaf_size) (grind (arith, nat_tests), grind (arith, nat_tests), grind (arith, nat_tests), grind (arith, nat_tests)) (λ r. tt)
+                says (asks.Create dims leaf_size) (
+                  grind (arith, nat_tests),
+                  grind (arith, nat_tests),
+                  grind (arith, nat_tests),
+                  grind (arith, nat_tests),
+                ) (λ r. tt)
             | false ↦ λ l. fails line.LeafSize (λ e. cc)
           ] refl
       | false ↦ λ d. fails line.Dims (λ e. cc)

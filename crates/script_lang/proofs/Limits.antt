@@ -114,7 +114,12 @@ created_fine dims leaf_size =
     elim (is_from_to 1 8 dims) as (λ t. is_from_to 1 8 dims ≡ t → IsFine (created_if t (is_from_to 2 (greatest_leaf dims) leaf_size) dims leaf_size)) [
       | true ↦ λ d. elim (is_from_to 2 (greatest_leaf dims) leaf_size) as (λ t.
           is_from_to 2 (greatest_leaf dims) leaf_size ≡ t → IsFine (created_if true t dims leaf_size)) [
-            | true ↦ λ l. says (asks.Create dims leaf_size) (grind (arith, nat_tests), grind (arith, nat_tests), grind (arith, nat_tests), grind (arith, nat_tests))
+            | true ↦ λ l. says (asks.Create dims leaf_size) (
+              grind (arith, nat_tests),
+              grind (arith, nat_tests),
+              grind (arith, nat_tests),
+              grind (arith, nat_tests),
+            )
             | false ↦ λ l. fails fault.LeafSize (λ e. cc)
           ] refl
       | false ↦ λ d. fails fault.Dims (λ e. cc)
