@@ -91,7 +91,7 @@ impl Stored {
         )
         .ok()?;
         let mut sum = 0u64;
-        for near in found.as_slice() {
+        for near in found.docs.as_slice() {
             sum = sum.wrapping_mul(31).wrapping_add(u64::from(near.doc));
         }
         Some(sum)

@@ -14,6 +14,7 @@ pub mod Unique
 pub mod Steps
 pub mod Ends
 pub mod Roots
+pub mod Touched
 pub mod Start
 pub mod Parts
 pub mod LeftOut

@@ -56,7 +56,7 @@ one_segment w g i =
     omega (arith, q, c, e)
 
 -- a root that waits adds what its segment has
-root_adds : {D : ℕ} (w : World) (at : List ℤ) (i : ℕ) (node : NodeAt D) (old new : Front D) → HasRoots D w → i < length w.heads
+pub root_adds : {D : ℕ} (w : World) (at : List ℤ) (i : ℕ) (node : NodeAt D) (old new : Front D) → HasRoots D w → i < length w.heads
     → ((root : Region) (t : IndexTree) → HasTree D (head_at w i).index root t → IsAt node 0 front root t)
     → IsWaiting at i node old new → (g : ℕ → ℕ → ℕ)
     → sum_by (sum_below g) new.waiting ≡ leaf_sum g i 0 (head_at w i).index.leaves + sum_by (sum_below g) old.waiting

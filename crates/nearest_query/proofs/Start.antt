@@ -22,8 +22,10 @@ use Rattle.documents.specs.NearestEntries.{near_of, nears_of}
 use Rattle.nearest_query.specs.Best.{AreAdded}
 use Rattle.nearest_query.specs.Segments.{live_items, live_in, AreSegments, AreNearLeaves}
 use Rattle.nearest_query.specs.Fronts.{leaf_sum, sum_below}
-use Rattle.nearest_query.specs.Search.{World, IsNode, IsSought, HasRoot, HasRoots, head_at, live_at, nears_at, one_within}
+use Rattle.nearest_query.specs.Search.{World, IsNode, IsSought, HasRoot, HasRoots, head_at, live_at, nears_at, one_within, sum_of}
+use Rattle.nearest_query.specs.Search.{sum_of_live, sum_of_dead}
 use Rattle.nearest_query.specs.Segments.{no_head}
+use Rattle.nearest_query.proofs.Touched.{live_and_dead, near_out}
 use Rattle.nearest_query.proofs.Roots.{shaped_count, leaves_of, least_of, has_leaves, leaf_totals, near_totals, sum_in, near_in, HasNear, no_nears}
 
 -- a segment's tree with its leaves
@@ -135,3 +137,13 @@ module _ (D : ℕ) (at : List ℤ) (heads : List Head) (lives : List LiveSet) (f
       let e : zero + i ≡ i = omega arith in
       subst (λ k. HasNear D at bound (head_of i) (leaf_sum (one_within world bound) k 0 (head_at world k).index.leaves)) (sym e) ((root_at i lt).near bound)) in
       omega (arith, a, b)
+
+  -- what the segments have that a search looks at, and the others
+  pub all_near : (bound : Option ℕ) (n : ℕ)
+      → n ≡ sum_of_live world (one_within world bound) (length heads) + sum_of_dead world (one_within world bound) (length heads)
+      → AreNearLeaves D at bound heads n
+  all_near bound n is = subst (AreNearLeaves D at bound heads) (sym (is ∙ live_and_dead world (one_within world bound) (length heads)))
+      (near_out D at bound heads 0 (sum_of world (one_within world bound))
+      (λ i lt.
+      let e : zero + i ≡ i = omega arith in
+      subst (λ k. HasNear D at bound (head_of i) (sum_of world (one_within world bound) k)) (sym e) ((root_at i lt).near bound)))

@@ -1,5 +1,6 @@
 -- What contracts see of the nodes that wait.
-use Rattle.std.specs.Prelude.{ℕ, ◌+◌, ◌-◌, ◌*◌, ◌≡◌, ◌≤◌, All, List, [], ◌∷◌, ◌++◌, length, sum_by, ℤ}
+use Rattle.std.specs.Prelude.{ℕ, ◌+◌, ◌-◌, ◌*◌, ◌≡◌, ◌≤◌, All, List, [], ◌∷◌, ◌++◌, length, sum_by, ℤ, nat_eq}
+use Rattle.std.specs.Prelude.{if◌then◌else◌, Result, OnOk}
 use Rattle.std.specs.List.{range_with_len}
 use Rattle.std.specs.List.Sorted.{IsPermutation}
 use Rattle.std.specs.declared.cmp.Ordering.{Ordering}
@@ -9,6 +10,7 @@ use Rattle.inner_pack.specs.Places.{Spot}
 use Rattle.inner_pack.specs.Trees.{IndexTree, cell_of, leaf_count}
 use Rattle.inner_pack.specs.Nodes.{IsAt}
 use Rattle.inner_pack.specs.declared.node.NodeAt.{NodeAt}
+use Rattle.page_cache.specs.declared.faults.PageFault.{PageFault}
 use Rattle.nearest_query.specs.declared.frontier.Waiting.{Waiting}
 use Rattle.nearest_query.specs.Segments.{least_dist2}
 
@@ -35,6 +37,17 @@ sum_below g t = leaf_sum g t.segment t.first t.leaves
 -- how much is left to do below a node; more than for both children together
 abbrev pub work : Waiting → ℕ
 work t = 2 * t.leaves - 1 + (1 - t.leaves)
+
+-- 1 for a leaf, and 0 for another node
+abbrev pub one_leaf : Waiting → ℕ
+one_leaf t = if nat_eq t.leaves 1 then 1 else 0
+
+-- a node was opened: of the leaves that g counts, those below what waits now are those that were left, but for the
+-- node itself where it is a leaf. At most one page was read for each that was taken out.
+pub record IsOpened {T : Type 0} (g : ℕ → ℕ → ℕ) (next : Waiting) (old new : List Waiting) (before now : ℕ)
+    (result : Result T PageFault) : Type 0 where
+  pub reads : now + sum_by (sum_below g) new ≤ before + sum_below g next + sum_by (sum_below g) old
+  pub rest : OnOk result (one_leaf next + sum_by (sum_below g) new ≡ sum_below g next + sum_by (sum_below g) old)
 
 -- a node waits now, by its least distance from the point
 pub record IsWaiting {D : ℕ} (at : List ℤ) (segment : ℕ) (node : NodeAt D) (old new : Front D) : Type 0 where

@@ -1,5 +1,7 @@
 -- What a search knows of the nodes that wait.
-use Rattle.std.specs.Prelude.{ℕ, ◌+◌, ◌≡◌, ◌<◌, if◌then◌else◌, Option, List, [], length, sum_by, All, slice_index_or, ℤ}
+use Rattle.std.specs.Prelude.{ℕ, ◌+◌, ◌≡◌, ◌≤◌, ◌<◌, if◌then◌else◌, Bool, Option, List, [], length, sum_by, All}
+use Rattle.std.specs.Prelude.{nat_eq, slice_index_or, ℤ}
+use Rattle.std.specs.List.{range_with_len}
 use Rattle.point_codec.specs.Points.{Item, Region}
 use Rattle.point_codec.specs.declared.entries.Near.{Near}
 use Rattle.live_bits.specs.LiveSet.{LiveSet}
@@ -16,7 +18,7 @@ use Rattle.nearest_query.specs.declared.candidates.Candidates.{Candidates}
 use Rattle.nearest_query.specs.declared.frontier.Waiting.{Waiting}
 use Rattle.documents.specs.NearestEntries.{nears_of}
 use Rattle.nearest_query.specs.Best.{AreBest}
-use Rattle.nearest_query.specs.Fronts.{sum_below}
+use Rattle.nearest_query.specs.Fronts.{Front, leaf_sum, sum_below}
 use Rattle.nearest_query.specs.Segments.{live_items, least_dist2, is_within, no_head}
 
 -- what is searched: a point and segments, told by position, with the entries and the least distance of each leaf
@@ -68,6 +70,11 @@ pub record IsInside {D : ℕ} (segments : ℕ) (nodes : List (NodeAt D)) (t : Wa
   pub stands : IsNthNode nodes t.place node
   pub leaves_are : t.leaves ≡ node.leaves
 
+-- each that waits stands inside, and so many leaves taken out and those that wait are no more than ever waited
+pub record AreInside {D : ℕ} (segments taken : ℕ) (f : Front D) : Type 0 where
+  pub each : All (IsInside segments f.nodes) f.waiting
+  pub few : taken + length f.waiting ≤ length f.nodes
+
 -- what waits is a node of its segment's tree, whose leaves are some of those of the tree
 pub record IsNodeBelow {D : ℕ} (heads : List Head) (trees : ℕ → IndexTree) (nodes : List (NodeAt D)) (t : Waiting)
     : Type 0 where
@@ -110,6 +117,21 @@ pub record IsSought (D : ℕ) (w : World) (all : List Near) (waiting : List Wait
 -- a leaf counts where it is within the bound
 abbrev pub one_within : World → Option ℕ → ℕ → ℕ → ℕ
 one_within w bound i n = if is_within bound (w.least i n) then 1 else 0
+
+-- no number of segment i is live
+abbrev pub is_dead : World → ℕ → Bool
+is_dead w i = nat_eq (length (live_at w i).live) 0
+
+-- what g counts of all leaves of a segment
+abbrev pub sum_of : World → (ℕ → ℕ → ℕ) → (i : ℕ) → ℕ
+sum_of w g i = leaf_sum g i 0 (head_at w i).index.leaves
+
+-- together that of the first so many segments that have a live number, and of those that have none
+abbrev pub sum_of_live : World → (ℕ → ℕ → ℕ) → (count : ℕ) → ℕ
+sum_of_live w g count = sum_by (λ i. if is_dead w i then 0 else sum_of w g i) (range_with_len 0 count)
+
+abbrev pub sum_of_dead : World → (ℕ → ℕ → ℕ) → (count : ℕ) → ℕ
+sum_of_dead w g count = sum_by (λ i. if is_dead w i then sum_of w g i else 0) (range_with_len 0 count)
 
 -- each segment's tree, with its leaves
 pub record HasRoot (D : ℕ) (w : World) (i : ℕ) : Type 0 where

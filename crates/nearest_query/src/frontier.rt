@@ -1,6 +1,6 @@
 //! The nodes that wait to be opened.
 
-ghost use Rattle.std.specs.Prelude.{◌≡◌, ◌≤◌, ◌<◌, ◌+◌, ℕ, [], ◌∷◌, length, OnOk, IfSome, IfNone, All, sum_by};
+ghost use Rattle.std.specs.Prelude.{◌≡◌, ◌≤◌, ◌<◌, ◌+◌, ◌^◌, ℕ, [], ◌∷◌, length, OnOk, IfSome, IfNone, All, sum_by};
 ghost use Rattle.std.specs.Prelude.{slice_index_or};
 ghost use Rattle.std.specs.List.Sorted.{IsPermutation};
 ghost use Rattle.point_codec.specs.Points.{Region};
@@ -94,6 +94,7 @@ impl<'a, const D: usize> Frontier<'a, D> {
         ensures least { IfSome result (λ t. All (λ u. t.dist2.0 ≤ u.dist2.0) self.new.waiting) }
         ensures none { IfNone result (self.old.waiting ≡ []) }
         ensures nodes { self.new.nodes ≡ self.old.nodes }
+        ensures fits { length self.new.nodes < 2 ^ 63 }
     {
         self.queue.pop()
     }

@@ -2,6 +2,7 @@
 //! and a leaf is read only where it may hold one of the k.
 #![tactic(auto)]
 
+mod answer;
 mod candidates;
 mod dead;
 mod few;
@@ -15,6 +16,7 @@ mod queue;
 mod search;
 mod survey;
 
+pub use answer::Nearest;
 pub use laws::one_nearest;
 pub use query::nearest;
 pub use survey::survey_near;

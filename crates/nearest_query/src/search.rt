@@ -1,7 +1,7 @@
 //! The search: waiting nodes are opened, the nearest first, until none can have an entry among the nearest.
 
 ghost use Rattle.std.specs.Prelude.{◌≡◌, ◌≤◌, ◌<◌, ◌+◌, ℕ, List, [], ◌∷◌, length, All, IsTrue, true, OnOk, sum_by};
-ghost use Rattle.std.specs.Prelude.{Option};
+ghost use Rattle.std.specs.Prelude.{IfOk, Option};
 ghost use Rattle.point_codec.specs.Points.{Region};
 ghost use Rattle.point_codec.specs.declared.entries.Near.{Near};
 ghost use Rattle.inner_pack.specs.Places.{Spot};
@@ -15,8 +15,9 @@ ghost use Rattle.documents.specs.NearestEntries.{IsNearest};
 ghost use Rattle.nearest_query.specs.Best.{found_of};
 ghost use Rattle.nearest_query.specs.Dead.{MayPass, MarksDead};
 ghost use Rattle.nearest_query.specs.Segments.{AreLeavesKept, HasId, IsSegmentDamage, is_within, bound_of};
-ghost use Rattle.nearest_query.specs.Fronts.{Front, IsWaiting, leaf_sum, sum_below, work};
-ghost use Rattle.nearest_query.specs.Search.{World, IsOver, IsInside, IsNodeBelow, IsNode, IsSought, one_within};
+ghost use Rattle.nearest_query.specs.Fronts.{Front, IsOpened, IsWaiting, leaf_sum, one_leaf, sum_below, work};
+ghost use Rattle.nearest_query.specs.Search.{World, AreInside, IsOver, IsInside, IsNodeBelow, IsNode, IsSought};
+ghost use Rattle.nearest_query.specs.Search.{one_within};
 
 use crate::candidates::Candidates;
 use crate::frontier::{Frontier, Waiting};
@@ -73,17 +74,16 @@ fn open<'a, const D: usize, F: Pages>(
         cache.old cache.new (F.faults folder.old) (F.faults folder.new) result }
     ensures room { found.new.many.room ≡ found.old.many.room }
     ensures work { OnOk result (sum_by work frontier.new.waiting < work next + sum_by work frontier.old.waiting) }
-    ensures inside { All (IsInside (length heads.now) frontier.old.nodes) frontier.old.waiting
-        → OnOk result (All (IsInside (length heads.now) frontier.new.nodes) frontier.new.waiting) }
+    ensures inside { (taken : ℕ) → AreInside (length heads.now) (taken + 1) frontier.old
+        → OnOk result (AreInside (length heads.now) (taken + one_leaf next) frontier.new) }
     ensures sought { IsTrue F.told → Agrees (F.files folder.old) cache.old → (w : World) (all : List Near)
         → IsOver w at.now.c heads.now lives.now (F.files folder.old)
         → IsSought D w all (next ∷ frontier.old.waiting) frontier.old.nodes found.old
         → OnOk result (IsSought D w all frontier.new.waiting frontier.new.nodes found.new) }
-    ensures reads { (w : World) (bound : Option ℕ) → IsNode D w frontier.old.nodes next → w.at ≡ at.now.c
+    ensures opened { (w : World) (bound : Option ℕ) → IsNode D w frontier.old.nodes next → w.at ≡ at.now.c
         → is_within bound next.dist2.0 ≡ true
-        → F.reads folder.new + sum_by (sum_below (one_within w bound)) frontier.new.waiting
-        ≤ F.reads folder.old + sum_below (one_within w bound) next + sum_by
-        (sum_below (one_within w bound)) frontier.old.waiting }
+        → IsOpened (one_within w bound) next frontier.old.waiting frontier.new.waiting (F.reads folder.old)
+        (F.reads folder.new) result }
     ensures kept { (trees : ℕ → IndexTree) → IsNodeBelow heads.now trees frontier.old.nodes next
         → AreLeavesKept cache.old heads.now trees
         → ReadsNothing (F.reads folder.old) (F.reads folder.new) cache.old cache.new result }
@@ -114,7 +114,8 @@ fn open<'a, const D: usize, F: Pages>(
     }
 }
 
-/// Opens nodes, the nearest first, until no node can have an entry that is among the nearest.
+/// Opens nodes, the nearest first, until no node can have an entry that is among the nearest. It answers how many
+/// leaves it took out: those whose cell is as near as the last number found, also where they are known to be dead.
 pub fn search<'a, const D: usize, F: Pages>(
     alloc: Global,
     folder: &mut F,
@@ -125,10 +126,10 @@ pub fn search<'a, const D: usize, F: Pages>(
     frontier: &mut Frontier<'a, D>,
     found: &mut Candidates,
     watched: bool,
-) -> Result<(), PageFault>
+) -> Result<u64, PageFault>
     requires lives { length lives.now ≡ length heads.now }
     requires passes { IsTrue watched → MayPass D cache.old heads.now lives.now }
-    requires inside { All (IsInside (length heads.now) frontier.old.nodes) frontier.old.waiting }
+    requires inside { AreInside (length heads.now) 0 frontier.old }
     ensures marks { MarksDead D watched heads.now lives.now cache.old cache.new }
     ensures reading { ReadsMarking F.told (HasId heads.now) (F.files folder.old) (F.files folder.new)
         cache.old cache.new (F.faults folder.old) (F.faults folder.new) result }
@@ -141,6 +142,11 @@ pub fn search<'a, const D: usize, F: Pages>(
         → IsSought D w all frontier.old.waiting frontier.old.nodes found.old → IsNearest found.old.many.room all nearest
         → F.reads folder.new ≤ F.reads folder.old + sum_by
         (sum_below (one_within w (bound_of found.old.many.room nearest))) frontier.old.waiting }
+    ensures touched { IsTrue F.told → Agrees (F.files folder.old) cache.old → (w : World) (all : List Near)
+        → IsOver w at.now.c heads.now lives.now (F.files folder.old)
+        → IsSought D w all frontier.old.waiting frontier.old.nodes found.old
+        → IfOk result (λ n. n ≡ sum_by
+        (sum_below (one_within w (bound_of found.old.many.room (found_of found.new)))) frontier.old.waiting) }
     ensures kept { (trees : ℕ → IndexTree) → All (IsNodeBelow heads.now trees frontier.old.nodes) frontier.old.waiting
         → AreLeavesKept cache.old heads.now trees
         → ReadsNothing (F.reads folder.old) (F.reads folder.new) cache.old cache.new result }
@@ -152,13 +158,22 @@ pub fn search<'a, const D: usize, F: Pages>(
         → IsOver w at.now.c heads.now lives.now (F.files folder.old)
         → IsSought D w all frontier.old.waiting frontier.old.nodes found.old → NotDamaged result }
 {
+    let mut taken = 0;
     while let Some(next) = frontier.pop() {
         if found.ends_before(next.dist2.0) {
-            return Ok(());
+            return Ok(taken);
         }
         open(
             alloc, folder, cache, heads, lives, at, next, frontier, found, watched,
         )?;
+        taken += one_leaf(next);
     }
-    Ok(())
+    Ok(taken)
+}
+
+/// 1 for a leaf, and 0 for another node.
+fn one_leaf(next: Waiting) -> u64
+    ensures { result ≡ one_leaf next }
+{
+    if next.leaves == 1 { 1 } else { 0 }
 }

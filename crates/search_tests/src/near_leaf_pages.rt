@@ -4,7 +4,7 @@ use crate::asserts::{holds_at, same_at};
 use crate::leaf_pages::{Stored, make_stored};
 use page_cache::{PageCache, PageFault};
 use point_codec::{Near, Point};
-use segment_view::{Segments, nearest, survey_near};
+use segment_view::{Nearest, Segments, nearest};
 use std::alloc::Global;
 use std::process::Abort;
 use std::test::Fail;
@@ -15,7 +15,7 @@ fn ten_nearest(
     stored: &mut Stored,
     cache: &mut PageCache,
     at: &Point<2>,
-) -> Result<Vec<Near>, PageFault> {
+) -> Result<Nearest, PageFault> {
     nearest(
         alloc,
         &stored.segments,
@@ -29,11 +29,7 @@ fn ten_nearest(
 }
 
 /// The ten nearest among the entries themselves, all of them in the buffer.
-fn ten_of_entries(
-    alloc: Global,
-    stored: &mut Stored,
-    at: &Point<2>,
-) -> Result<Vec<Near>, PageFault> {
+fn ten_of_entries(alloc: Global, stored: &mut Stored, at: &Point<2>) -> Result<Nearest, PageFault> {
     let mut cache = PageCache::new(alloc, 1)?;
     nearest(
         alloc,
@@ -52,21 +48,26 @@ fn ten_of_entries(
 const PLACES: [(i32, u64, u64); 4] = [(0, 1, 1), (3_996, 2, 1), (3_663, 2, 2), (9_000, 2, 1)];
 
 /// A search over a cache without the segment's pages, where this call of the folder fails: it finds those that are
-/// wanted just where it doesn't come to that call.
+/// wanted, and tells how many leaves are near, just where it doesn't come to that call.
 fn check_search(
     rt: &impl Abort,
     alloc: Global,
     stored: &mut Stored,
     cache: &mut PageCache,
     wanted: &[Near],
-    place: (i32, u64),
+    place: (i32, u64, u64),
     call: u64,
 ) -> Result<(), Fail> {
-    let (x, pages) = place;
+    let (x, near_leaves, pages) = place;
     cache.forget(3);
     stored.folder.plan([call].to_vec(alloc)?, None);
     match ten_nearest(alloc, stored, cache, &Point { c: [x, 0] }) {
-        Ok(found) => same_at(rt, (found.as_slice(), call), (wanted, pages), &x),
+        Ok(found) => same_at(
+            rt,
+            (found.docs.as_slice(), found.touched, call),
+            (wanted, near_leaves, pages),
+            &x,
+        ),
         Err(fault) => {
             holds_at(rt, matches!(fault, PageFault::Failed) && call < pages, &x);
         }
@@ -84,13 +85,7 @@ fn check_place(
     let (x, near_leaves, pages) = place;
     let at = Point { c: [x, 0] };
     let wanted = ten_of_entries(alloc, stored, &at)?;
-    let greatest = wanted.last().map(|near| near.dist2);
-    same_at(
-        rt,
-        survey_near(&stored.segments, &at, greatest),
-        near_leaves,
-        &x,
-    );
+    same_at(rt, wanted.touched, 0, &x);
     let mut cache = PageCache::new(alloc, 4)?;
     for call in 0..=pages {
         check_search(
@@ -98,14 +93,15 @@ fn check_place(
             alloc,
             stored,
             &mut cache,
-            wanted.as_slice(),
-            (x, pages),
+            wanted.docs.as_slice(),
+            place,
             call,
         )?;
     }
     stored.folder.plan(Vec::new(alloc), Some(0));
     let found = ten_nearest(alloc, stored, &mut cache, &at)?;
-    same_at(rt, found.as_slice(), wanted.as_slice(), &x);
+    same_at(rt, found.docs.as_slice(), wanted.docs.as_slice(), &x);
+    same_at(rt, found.touched, near_leaves, &x);
     Ok(())
 }
 

@@ -35,7 +35,7 @@ fn nearest_in<const D: usize>(
         k,
         false,
     )?;
-    Ok(found)
+    Ok(found.docs)
 }
 
 const TWO: [Entry<2>; 2] = [

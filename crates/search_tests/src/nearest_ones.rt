@@ -9,7 +9,7 @@ use crate::stored::{
 };
 use crate::walks::place;
 use live_bits::LiveBits;
-use nearest_query::{nearest, survey_near};
+use nearest_query::{Nearest, nearest, survey_near};
 use outer_io::MemFolder;
 use page_cache::{PageCache, PageFault};
 use point_codec::{Entry, Near, Point};
@@ -80,7 +80,7 @@ fn nearest_of_three(
     at: i32,
     k: u16,
     fail: u64,
-) -> Result<Result<Vec<Near>, PageFault>, Fail> {
+) -> Result<Result<Nearest, PageFault>, Fail> {
     if k < 1 || k > 10_000 {
         return Err("not 1 to 10,000".into());
     }
@@ -108,7 +108,7 @@ fn two_nearest(
     cache: &mut PageCache,
     heads: &[SegmentHead<1>; 1],
     at: i32,
-) -> Result<Vec<Near>, PageFault> {
+) -> Result<Nearest, PageFault> {
     let lives = [five_live(alloc)?];
     nearest(
         alloc,
@@ -129,7 +129,7 @@ fn asked_twice(
     segment: &Stored,
     at: i32,
     fail: u64,
-) -> Result<(Result<Vec<Near>, PageFault>, Result<Vec<Near>, PageFault>), Fail> {
+) -> Result<(Result<Nearest, PageFault>, Result<Nearest, PageFault>), Fail> {
     let mut folder = MemFolder::new(alloc, Vec::new(alloc));
     let heads = [store(alloc, &mut folder, segment)?];
     let mut cache = PageCache::new(alloc, 4)?;
@@ -162,7 +162,7 @@ const FOUND: [(i32, u16, &[Near]); 2] = [
 fn segments_and_a_buffer_by_number(rt: HostRuntime) -> Result<(), Fail> {
     for (at, k, expected) in FOUND {
         let found = nearest_of_three(rt.alloc(), at, k, 9)??;
-        same_at(&rt, found.as_slice(), expected, &(k, at));
+        same_at(&rt, found.docs.as_slice(), expected, &(k, at));
     }
     Ok(())
 }
@@ -211,9 +211,10 @@ fn nothing_is_read_where_no_number_is_live(rt: HostRuntime) -> Result<(), Fail> 
     )?;
     same(
         &rt,
-        found.as_slice(),
+        found.docs.as_slice(),
         [Near { doc: 3, dist2: 100 }].as_slice(),
     );
+    same(&rt, found.touched, 3);
     Ok(())
 }
 
@@ -225,10 +226,10 @@ const ONE_FOUND: [Near; 1] = [Near { doc: 0, dist2: 0 }];
 #[test]
 fn a_kept_page_is_not_read_again(rt: HostRuntime) -> Result<(), Fail> {
     let (first, second) = asked_twice(rt.alloc(), &THREE_LEAVES, 6, 1)?;
-    same(&rt, first?.as_slice(), TWO_FOUND.as_slice());
-    same(&rt, second?.as_slice(), TWO_FOUND.as_slice());
+    same(&rt, first?.docs.as_slice(), TWO_FOUND.as_slice());
+    same(&rt, second?.docs.as_slice(), TWO_FOUND.as_slice());
     let (first, _) = asked_twice(rt.alloc(), &TWO_POINTS, 9, 1)?;
-    same(&rt, first?.as_slice(), ONE_FOUND.as_slice());
+    same(&rt, first?.docs.as_slice(), ONE_FOUND.as_slice());
     Ok(())
 }
 
@@ -243,12 +244,54 @@ fn a_leaf_astray_where_it_is_read(rt: HostRuntime) -> Result<(), Fail> {
     Ok(())
 }
 
+/// Number 9 at 6.
+const BESIDE: [Entry<1>; 1] = [Entry {
+    doc: 9,
+    point: Point { c: [6] },
+}];
+
+/// How many leaves are touched where so many are asked for from 5, beside number 9.
+fn touched_leaves(alloc: Global, live: LiveBits, k: u16) -> Result<u64, Fail> {
+    if k < 1 || k > 10_000 {
+        return Err("not 1 to 10,000".into());
+    }
+    let (mut folder, head) = open_alone(alloc, &THREE_LEAVES)?;
+    let mut cache = PageCache::new(alloc, 4)?;
+    let found = nearest(
+        alloc,
+        &[head],
+        &[live],
+        &BESIDE,
+        &mut cache,
+        &mut folder,
+        &Point { c: [5] },
+        k,
+        false,
+    )?;
+    Ok(found.touched)
+}
+
+/// For how many it is asked, and how many leaves are as near as the last one found: at a distance below that of two
+/// leaves, at theirs, and where fewer are found.
+const TOUCHED: [(u16, u64); 3] = [(2, 1), (3, 3), (10, 3)];
+
+/// The same where no number of the segment is live: number 9 is the only one.
+const TOUCHED_DEAD: [(u16, u64); 2] = [(1, 1), (2, 3)];
+
 #[test]
 fn leaves_within_a_bound(rt: HostRuntime) -> Result<(), Fail> {
+    for (k, leaves) in TOUCHED {
+        let live = five_live(rt.alloc())?;
+        same_at(&rt, touched_leaves(rt.alloc(), live, k)?, leaves, &k);
+    }
+    for (k, leaves) in TOUCHED_DEAD {
+        let live = LiveBits::of_docs(rt.alloc(), &[])?;
+        same_at(&rt, touched_leaves(rt.alloc(), live, k)?, leaves, &k);
+    }
     let (_folder, head) = open_alone(rt.alloc(), &THREE_LEAVES)?;
-    let at = Point { c: [5] };
     for (bound, leaves) in [(Some(3), 1), (Some(4), 3), (None, 3)] {
-        same_at(&rt, survey_near(&head, &at, bound), leaves, &bound);
+        let surveyed = survey_near(&head, &Point { c: [5] }, bound);
+        same_at(&rt, surveyed, leaves, &bound);
     }
     Ok(())
 }

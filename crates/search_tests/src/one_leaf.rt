@@ -59,7 +59,7 @@ fn nearest_in_leaf(
         k,
         false,
     )?;
-    Ok(found)
+    Ok(found.docs)
 }
 
 /// From the middle all numbers in order: at the same distance 1 below and 3 above, and 0 and 4 at both sides.

@@ -8,7 +8,7 @@ use live_bits::LiveBits;
 use outer_io::MemFolder;
 use page_cache::{PageCache, PageFault};
 use point_codec::{Entry, Near, Point};
-use segment_view::{Segments, gather, nearest, survey, survey_near, visit};
+use segment_view::{Nearest, Segments, gather, nearest, survey, survey_near, visit};
 use std::alloc::Global;
 use std::process::Abort;
 use std::test::Fail;
@@ -194,27 +194,40 @@ fn live_entries_of_some(rt: HostRuntime) -> Result<(), Fail> {
     Ok(())
 }
 
-#[test]
-fn the_nearest_of_segments_and_buffer(rt: HostRuntime) -> Result<(), Fail> {
-    let (mut folder, segments) = three(rt.alloc())?;
-    let mut cache = PageCache::new(rt.alloc(), 4)?;
-    let at = Point { c: [8] };
+/// So many of the segments and the buffer that are nearest to 8.
+fn nearest_to_eight(alloc: Global, k: u16) -> Result<Nearest, Fail> {
+    if k < 1 || k > 10_000 {
+        return Err("not 1 to 10,000".into());
+    }
+    let (mut folder, segments) = three(alloc)?;
+    let mut cache = PageCache::new(alloc, 4)?;
     let found = nearest(
-        rt.alloc(),
+        alloc,
         &segments,
         &BUFFER,
         &mut cache,
         &mut folder,
-        &at,
-        3,
+        &Point { c: [8] },
+        k,
         false,
     )?;
+    Ok(found)
+}
+
+#[test]
+fn the_nearest_of_segments_and_buffer(rt: HostRuntime) -> Result<(), Fail> {
+    let found = nearest_to_eight(rt.alloc(), 3)?;
     let expected = [
         Near { doc: 1, dist2: 1 },
         Near { doc: 2, dist2: 1 },
         Near { doc: 3, dist2: 1 },
     ];
-    same(&rt, found.as_slice(), expected.as_slice());
+    same(&rt, found.docs.as_slice(), expected.as_slice());
+    same(&rt, found.touched, 4);
+    // fewer are found than are asked for
+    same(&rt, nearest_to_eight(rt.alloc(), 20)?.touched, 5);
+    let (_folder, segments) = three(rt.alloc())?;
+    let at = Point { c: [8] };
     same(&rt, survey_near(&segments, &at, Some(1)), 4);
     same(&rt, survey_near(&segments, &at, None), 5);
     Ok(())

@@ -17,6 +17,7 @@ mod visiting;
 
 pub use gathering::gather;
 pub use nearby::nearest;
+pub use nearest_query::Nearest;
 pub use segments::{Memory, Segments};
 pub use surveys::{survey, survey_near};
 pub use visiting::visit;

@@ -6,7 +6,7 @@ ghost use Rattle.point_codec.specs.Seen.{items_of};
 ghost use Rattle.inner_pack.specs.Trees.{IndexTree};
 ghost use Rattle.page_cache.specs.Cache.{Agrees};
 ghost use Rattle.page_cache.specs.Evidence.{OnDamage, NotDamaged};
-ghost use Rattle.page_cache.specs.Reading.{ReadsMarking};
+ghost use Rattle.page_cache.specs.Reading.{ReadsMarking, ReadsNothing};
 ghost use Rattle.segment_file.specs.Heads.{IsHead};
 ghost use Rattle.segment_file.specs.Damages.{IsLeafDamageOf};
 ghost use Rattle.documents.specs.NearestEntries.{IsNearest, nears_of};
@@ -16,15 +16,17 @@ ghost use Rattle.segment_view.specs.Unhidden.{HidesNoneOf, MarksDeadOf};
 ghost use Rattle.segment_view.specs.Damages.{IsPartDamage};
 
 use crate::segments::Segments;
+use nearest_query::Nearest;
 use outer_io::Pages;
 use page_cache::{PageCache, PageFault};
-use point_codec::{Entry, Near, Point};
+use point_codec::{Entry, Point};
 use segment_file::SegmentHead;
 use std::alloc::Global;
 
 /// The `k` numbers that are nearest to a point among the live entries of the segments and those of the buffer, the
 /// nearest first, each with the least squared distance of its entries: all numbers, where there are fewer than `k`.
-/// Of equally near ones the smaller comes first. `k` is 1 to 10,000.
+/// Of equally near ones the smaller comes first. `k` is 1 to 10,000. Beside them it tells how many leaves have a cell
+/// as near as the last number found.
 ///
 /// Only leaves whose cell is as near as the last number found are read. The answer may be a damage of a leaf that had
 /// to be read, Failed and Memory.
@@ -40,7 +42,7 @@ pub fn nearest<const D: usize, F: Pages>(
     at: &Point<D>,
     k: u16,
     watched: bool,
-) -> Result<Vec<Near>, PageFault>
+) -> Result<Nearest, PageFault>
     requires some { 1 ≤ k }
     requires few { k ≤ 10000 }
     // no leaf that the cache knows to be dead has an entry that is live
@@ -49,16 +51,21 @@ pub fn nearest<const D: usize, F: Pages>(
     ensures answer { IsTrue F.told → Agrees (F.files folder.old) cache.old → (c : Contents)
         → AreRead D (F.files folder.old) c segments.now
         → IfOk result
-        (λ v. IsNearest k (nears_of at.now.c (live_in_parts c segments.now ++ items_of buffer.now)) v.items) }
+        (λ v. IsNearest k (nears_of at.now.c (live_in_parts c segments.now ++ items_of buffer.now)) v.docs.items) }
     ensures reads { IsTrue F.told → Agrees (F.files folder.old) cache.old → (c : Contents)
         → AreRead D (F.files folder.old) c segments.now
         → (found : List Near)
         → IsNearest k (nears_of at.now.c (live_in_parts c segments.now ++ items_of buffer.now)) found
         → (leaves : ℕ) → AreNearLeaves D at.now.c (bound_of k found) (heads_of segments.now) leaves
         → F.reads folder.new ≤ F.reads folder.old + leaves }
+    // known dead leaves and segments without a live number count too
+    ensures touches { IsTrue F.told → Agrees (F.files folder.old) cache.old → (c : Contents)
+        → AreRead D (F.files folder.old) c segments.now → IfOk result
+        (λ v. AreNearLeaves D at.now.c (bound_of k v.docs.items) (heads_of segments.now) v.touched) }
     // where the page of each leaf is kept nothing is read
     ensures kept { (trees : ℕ → IndexTree) → HaveTrees D (heads_of segments.now) trees
-        → AreLeavesKept cache.old (heads_of segments.now) trees → F.reads folder.new ≡ F.reads folder.old }
+        → AreLeavesKept cache.old (heads_of segments.now) trees
+        → ReadsNothing (F.reads folder.old) (F.reads folder.new) cache.old cache.new result }
     ensures reading { ReadsMarking F.told (Contains (ids_of segments.now)) (F.files folder.old) (F.files folder.new)
         cache.old cache.new (F.faults folder.old) (F.faults folder.new) result }
     // What a damage says.

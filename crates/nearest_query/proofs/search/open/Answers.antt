@@ -1,10 +1,12 @@
-use Rattle.std.specs.Prelude.{All}
+use Rattle.std.specs.Prelude.{All, sum_by}
 use Rattle.nearest_query.proofs.Results.{always}
-use Rattle.std.proofs.Common.{◌≡◌, length, get_or, ℕ, ap, subst, sym, refl, ◌∙◌, arith, rules}
+use Rattle.std.proofs.Common.{◌≡◌, ◌+◌, length, get_or, ℕ, ap, subst, sym, refl, ◌∙◌, arith, rules}
 use Rattle.inner_pack.specs.Nodes.{IsAt}
-use Rattle.nearest_query.specs.Search.{one_within, head_at, live_at, no_live}
+use Rattle.nearest_query.specs.Fronts.{one_leaf, sum_below}
+use Rattle.nearest_query.specs.Search.{AreInside, one_within, head_at, live_at, no_live}
 use Rattle.nearest_query.specs.Segments.{no_head}
-use Rattle.nearest_query.proofs.WaitingNodes.{inside_put, waiting_work, read_any}
+use Rattle.nearest_query.proofs.WaitingNodes.{waiting_sum, waiting_work, read_any}
+use Rattle.nearest_query.proofs.Touched.{front_put, inside_less, is_leaf, no_leaf, one_most, opened_failed}
 use Rattle.nearest_query.proofs.Steps.{children_span, fork_step, leaf_step, leaf_counts, leaf_whole, Opens, OpensWhole}
 use Rattle.segment_file.specs.Damages.{IsLeafDamage}
 use Rattle.page_cache.specs.Evidence.{OnDamage}
@@ -71,14 +73,15 @@ returns-in_ok-fork-in-Some-clause-marks g c =
 
 -- ---- the search
 
-pub returns-in_err-fork-in-Some-clause-reads : goal.returns-in_err-fork-in-Some-clause-reads
-returns-in_err-fork-in-Some-clause-reads g c = λ w bound n at within.
+pub returns-in_err-fork-in-Some-clause-opened : goal.returns-in_err-fork-in-Some-clause-opened
+returns-in_err-fork-in-Some-clause-opened g c = λ w bound n at within.
     let same = c.node.ensures ∙ n.stands.is c.node.result.now in
     let kids = c.in-Some.ensures.some c.args.next.first n.spot n.path n.tree (subst (λ m. IsAt m c.args.next.first n.spot n.path n.tree) (sym same) n.is) in
     let counted = children_span w c.args.frontier.now.nodes c.args.next n c.in-Some.left c.in-Some.right kids refl (one_within w bound)
     (c.in-Some.ensures.sum ∙ ap (λ m. m.leaves) same) c.fork.ensures.counted in
     let most = c.fork.ensures.most (one_within w bound) in
-    omega (arith, counted, most)
+    let p = err_from_is_err_and c.from_residual.result c.from_residual.ensures.1 in
+    opened_failed (one_within w bound) c.args.next c.args.frontier.now.waiting c.fork.new.frontier.waiting _ _ _ _ p.1 (omega (arith, counted, most))
 
 pub returns-in_ok-fork-in-Some-clause-work : goal.returns-in_ok-fork-in-Some-clause-work
 returns-in_ok-fork-in-Some-clause-work g c =
@@ -93,10 +96,20 @@ returns-in_ok-fork-in-Some-clause-work g c =
     omega (arith, a, b, leaves, sum, l, r)
 
 pub returns-in_ok-fork-in-Some-clause-inside : goal.returns-in_ok-fork-in-Some-clause-inside
-returns-in_ok-fork-in-Some-clause-inside g c = λ all.
+returns-in_ok-fork-in-Some-clause-inside g c = λ taken was.
+    let n = length c.args.heads.now in
+    let seg = c.args.next.segment in
     let put = c.in_ok-fork-in-Some.ensures.put in
-    inside_put (length c.args.heads.now) c.args.at.now.c c.args.next.segment c.in-Some.right put.0 c.fork.new.frontier c.requires.inside.inside put.2
-    (inside_put (length c.args.heads.now) c.args.at.now.c c.args.next.segment c.in-Some.left c.args.frontier.now put.0 c.requires.inside.inside put.1 all)
+    let one = one_most c.args.next in
+    inside_less n (taken + 1) (taken + one_leaf c.args.next) c.fork.new.frontier (omega (arith, one))
+    (front_put n c.args.at.now.c seg c.in-Some.right (taken + 1) put.0 c.fork.new.frontier c.requires.inside.inside put.2
+    (front_put n c.args.at.now.c seg c.in-Some.left (taken + 1) c.args.frontier.now put.0 c.requires.inside.inside put.1 was))
+
+pub returns-in-None-clause-inside : goal.returns-in-None-clause-inside
+returns-in-None-clause-inside g c = λ taken was.
+    let one = one_most c.args.next in
+    always (AreInside (length c.args.heads.now) (taken + one_leaf c.args.next) c.args.frontier.now) c.open_leaf.result
+    (inside_less (length c.args.heads.now) (taken + 1) (taken + one_leaf c.args.next) c.args.frontier.now (omega (arith, one)) was)
 
 pub returns-in_ok-fork-in-Some-clause-sought : goal.returns-in_ok-fork-in-Some-clause-sought
 returns-in_ok-fork-in-Some-clause-sought g c = λ told agrees w all over s.
@@ -109,14 +122,22 @@ returns-in_ok-fork-in-Some-clause-sought g c = λ told agrees w all over s.
     ))
     put.1 put.2
 
-pub returns-in_ok-fork-in-Some-clause-reads : goal.returns-in_ok-fork-in-Some-clause-reads
-returns-in_ok-fork-in-Some-clause-reads g c = λ w bound n at within.
+pub returns-in_ok-fork-in-Some-clause-opened : goal.returns-in_ok-fork-in-Some-clause-opened
+returns-in_ok-fork-in-Some-clause-opened g c = λ w bound n at within.
     let same = c.node.ensures ∙ n.stands.is c.node.result.now in
     let kids = c.in-Some.ensures.some c.args.next.first n.spot n.path n.tree (subst (λ m. IsAt m c.args.next.first n.spot n.path n.tree) (sym same) n.is) in
     let counted = children_span w c.args.frontier.now.nodes c.args.next n c.in-Some.left c.in-Some.right kids refl (one_within w bound)
     (c.in-Some.ensures.sum ∙ ap (λ m. m.leaves) same) c.fork.ensures.counted in
-    let most = c.fork.ensures.most (one_within w bound) in
-    omega (arith, counted, most)
+    let put = c.in_ok-fork-in-Some.ensures.put in
+    let a = waiting_sum c.args.at.now.c c.args.next.segment c.in-Some.left c.args.frontier.now put.0 put.1 (one_within w bound) in
+    let b = waiting_sum c.args.at.now.c c.args.next.segment c.in-Some.right put.0 c.fork.new.frontier put.2 (one_within w bound) in
+    let stands = c.node.ensures ∙ c.requires.inside.stands.is c.node.result.now in
+    let leaves = c.requires.inside.leaves_are ∙ ap (λ m. m.leaves) (sym stands) in
+    let sum = c.in-Some.ensures.sum in
+    let l = c.in-Some.ensures.fewer.0 in
+    let r = c.in-Some.ensures.fewer.1 in
+    let none = no_leaf c.args.next (λ one. omega (arith, one, leaves, sum, l, r)) in
+    record { reads = omega (arith, counted, a, b); rest = omega (arith, counted, a, b, none) }
 
 pub returns-in-None-clause-sought : goal.returns-in-None-clause-sought
 returns-in-None-clause-sought g c = λ told agrees w all over s.
@@ -144,13 +165,20 @@ returns-in-None-clause-sought g c = λ told agrees w all over s.
     c.args.found.now c.open_leaf.new.found) (sym live)
     (c.open_leaf.ensures.found told agrees)))))
 
-pub returns-in-None-clause-reads : goal.returns-in-None-clause-reads
-returns-in-None-clause-reads g c = λ w bound n at within.
+pub returns-in-None-clause-opened : goal.returns-in-None-clause-opened
+returns-in-None-clause-opened g c = λ w bound n at within.
     let single = c.in-None.ensures.none.0 refl in
-    let one = leaf_counts w bound c.args.frontier.now.nodes c.args.next n (ap (λ m. m.leaves) (sym (c.node.ensures ∙ n.stands.is c.node.result.now)) ∙ single)
-    within in
+    let leaves = ap (λ m. m.leaves) (sym (c.node.ensures ∙ n.stands.is c.node.result.now)) ∙ single in
+    let one = leaf_counts w bound c.args.frontier.now.nodes c.args.next n leaves within in
+    let leaf = is_leaf c.args.next (n.count ∙ sym n.node_count ∙ leaves) in
     let reads = c.open_leaf.ensures.reads in
-    omega (arith, one, reads)
+    record {
+      reads = omega (arith, one, reads);
+      rest = always
+          (one_leaf c.args.next + sum_by (sum_below (one_within w bound)) c.args.frontier.now.waiting
+          ≡ sum_below (one_within w bound) c.args.next + sum_by (sum_below (one_within w bound)) c.args.frontier.now.waiting)
+          c.open_leaf.result (omega (arith, one, leaf));
+    }
 
 pub returns-in-None-clause-whole : goal.returns-in-None-clause-whole
 returns-in-None-clause-whole g c = λ told agrees w over n.
