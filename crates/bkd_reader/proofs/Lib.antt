@@ -4,3 +4,6 @@ pub mod Trees
 pub mod Beyond
 pub mod Unread
 pub mod Uncrossed
+pub mod Sums
+pub mod Walks
+pub mod LeafNodes

@@ -1,9 +1,11 @@
 -- What a walk over an index costs at most, leaf by leaf; each leaf is judged by its own cell (Apache Lucene's points).
-use Rattle.std.specs.Prelude.{ℕ, ◌+◌, Bool, if◌then◌else◌, List, ℤ}
+use Rattle.std.specs.Prelude.{ℕ, ◌+◌, ◌≡◌, Bool, if◌then◌else◌, List, ℤ}
 use Rattle.point_codec.specs.Points.{Region}
 use Rattle.point_codec.specs.Cells.{left_of, right_of}
 use Rattle.cell_relate.specs.Relations.{is_outside}
 use Rattle.inner_pack.specs.Trees.{IndexTree, Leaf, Split, leaf_count}
+use Rattle.segment_file.specs.Heads.{Head, count_of}
+use Rattle.bkd_reader.specs.declared.costs.Cost.{Cost}
 
 -- how many entries, live or dead, are in leaves whose own cell the shape crosses; the subtree's first leaf has this
 -- number
@@ -24,3 +26,8 @@ asked_cells crosses path (Split d x l r) =
     1 + (if crosses path then
     asked_cells crosses (left_of path d x) l + asked_cells crosses (right_of path d x) r
     else 0)
+
+-- the counts of a segment's tree
+abbrev pub IsCost : (head : Head) (has : List ℤ → Bool) (crosses : Region → Bool) → IndexTree → Cost → Type 0
+IsCost head has crosses t cost =
+    (cost.tested ≡ tested_entries crosses (count_of head) 0 t) × (cost.touched ≡ touched_leaves has crosses t)

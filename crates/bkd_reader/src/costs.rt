@@ -1,4 +1,4 @@
-//! What a walk would cost, without a page read.
+//! What a walk counts, and what it would count without a page read.
 
 ghost use Rattle.std.specs.Prelude.{◌≡◌, ◌≤◌, ◌+◌, ◌*◌, ℕ};
 ghost use Rattle.point_codec.specs.Points.{Region};
@@ -14,7 +14,16 @@ use cell_relate::{Relation, Shape};
 use inner_pack::NodeAt;
 use segment_file::SegmentHead;
 
-/// What a walk costs at most.
+/// What a walk meets.
+#[derive(Clone, Copy, PartialEq, Eq, Debug)]
+pub struct Cost {
+    /// The entries, live or dead, of leaves whose own cell is crossed.
+    pub tested: u64,
+    /// The leaves whose own cell is not outside.
+    pub touched: u64,
+}
+
+/// What a walk would meet, and of how many leaves.
 #[derive(Clone, Copy, PartialEq, Eq, Debug)]
 pub struct Tally {
     /// The entries, live or dead, of leaves whose own cell is crossed.
@@ -79,14 +88,14 @@ fn cost<const D: usize, S: Shape<D>>(
 }
 
 /// How many leaves there are at or below a node.
-fn leaves_below<const D: usize>(node: &NodeAt<'_, D>) -> u64
+pub(crate) fn leaves_below<const D: usize>(node: &NodeAt<'_, D>) -> u64
     ensures { result ≡ node.now.leaves }
 {
     u64::from(node.leaf_count())
 }
 
 /// How many entries a leaf has, live or dead.
-fn entries_of<const D: usize>(head: &SegmentHead<D>, node: &NodeAt<'_, D>) -> u64
+pub(crate) fn entries_of<const D: usize>(head: &SegmentHead<D>, node: &NodeAt<'_, D>) -> u64
     ensures count { (first : ℕ) (s : Spot) (path : Region) (t : IndexTree) → IsAt node.now first s path t
         → result ≡ count_of head.now first }
     ensures few { result ≤ 65535 }

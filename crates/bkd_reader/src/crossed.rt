@@ -1,7 +1,7 @@
 //! A leaf whose cell the shape crosses.
 
-ghost use Rattle.std.specs.Prelude.{◌≡◌, ◌≤◌, ◌+◌, ◌++◌, ℕ, List, length, take, drop, All, ℤ, Bool, true, false};
-ghost use Rattle.std.specs.Prelude.{IsTrue, OnOk};
+ghost use Rattle.std.specs.Prelude.{◌≡◌, ◌≤◌, ◌+◌, ◌*◌, ◌++◌, ℕ, List, length, take, drop, All, ℤ, Bool, true, false};
+ghost use Rattle.std.specs.Prelude.{IsTrue, IfOk, OnOk};
 ghost use Rattle.outer_io.specs.Files.{bytes_of};
 ghost use Rattle.outer_io.specs.declared.file_name.FileName.TheVariants.{Segment};
 ghost use Rattle.point_codec.specs.Points.{Item, Region};
@@ -18,6 +18,7 @@ ghost use Rattle.bkd_reader.specs.Counts.{tested_entries};
 ghost use Rattle.bkd_reader.specs.Hits.{AreHits, Appends, Begins, hits_in};
 ghost use Rattle.bkd_reader.specs.Unread.{ReadsLeaf};
 
+use crate::costs::{Cost, entries_of};
 use cell_relate::Shape;
 use inner_pack::NodeAt;
 use leaf_codec::LeafView;
@@ -27,7 +28,8 @@ use page_cache::{PageCache, PageFault};
 use segment_file::{SegmentHead, bad_leaf, leaf_in, load_leaf};
 use std::alloc::{AllocError, Global};
 
-/// Appends the numbers of the live entries of a leaf that the shape has. It is asked for some of the entries.
+/// Appends the numbers of the live entries of a leaf that the shape has. It is asked for some of the entries. All of
+/// them, live or dead, count as tested.
 pub fn test_leaf<const D: usize, S: Shape<D>, F: Pages>(
     alloc: Global,
     head: &SegmentHead<D>,
@@ -37,7 +39,7 @@ pub fn test_leaf<const D: usize, S: Shape<D>, F: Pages>(
     shape: &mut S,
     live: &LiveBits,
     hits: &mut Vec<u32>,
-) -> Result<(), PageFault>
+) -> Result<Cost, PageFault>
     requires leaf { node.now.leaves ≡ 1 }
     ensures begins { Begins hits.old.items hits.new.items }
     ensures hits { IsTrue F.told → Agrees (F.files folder.old) cache.old
@@ -49,6 +51,11 @@ pub fn test_leaf<const D: usize, S: Shape<D>, F: Pages>(
     ensures tests { (first : ℕ) (s : Spot) (path : Region) (t : IndexTree) → IsAt node.now first s path t
         → S.crosses shape.old (cell_of path t) ≡ true
         → S.tests shape.new ≤ S.tests shape.old + tested_entries (S.crosses shape.old) (count_of head.now) first t }
+    ensures tested { (first : ℕ) (s : Spot) (path : Region) (t : IndexTree) → IsAt node.now first s path t
+        → IfOk result (λ n. n.tested ≡ count_of head.now first) }
+    ensures touched { IfOk result (λ n. n.touched ≡ 1) }
+    ensures few_tested { IfOk result (λ n. n.tested ≤ 65535 * node.now.leaves) }
+    ensures few_touched { IfOk result (λ n. n.touched ≤ node.now.leaves) }
     ensures compares { S.compares shape.new ≡ S.compares shape.old }
     ensures reads { ReadsLeaf head.now node.now (F.reads folder.old) (F.reads folder.new) cache.old cache.new result }
     ensures has { S.has shape.new ≡ S.has shape.old }
@@ -69,7 +76,10 @@ pub fn test_leaf<const D: usize, S: Shape<D>, F: Pages>(
         return Err(bad_leaf(cache, head, node, place));
     };
     push_tested(&leaf, shape, live, hits)?;
-    Ok(())
+    Ok(Cost {
+        tested: entries_of(head, node),
+        touched: 1,
+    })
 }
 
 /// Appends the numbers of the leaf's live entries that the shape has. Those beyond its reach are not tested.

@@ -1,10 +1,10 @@
 //! The walk: cells outside are left, cells inside are taken whole, and crossed ones are opened.
 
-ghost use Rattle.std.specs.Prelude.{◌≡◌, ◌≤◌, ◌+◌, ◌*◌, ◌++◌, ℕ, List, ℤ, Bool, true, IsTrue, OnOk};
+ghost use Rattle.std.specs.Prelude.{◌≡◌, ◌≤◌, ◌+◌, ◌*◌, ◌++◌, ℕ, List, ℤ, Bool, true, IsTrue, IfOk, OnOk};
 ghost use Rattle.outer_io.specs.Files.{bytes_of};
 ghost use Rattle.outer_io.specs.declared.file_name.FileName.TheVariants.{Segment};
 ghost use Rattle.point_codec.specs.Points.{Item, Region};
-ghost use Rattle.cell_relate.specs.Relations.{AllAnswer};
+ghost use Rattle.cell_relate.specs.Relations.{AllAnswer, KeepsShape};
 ghost use Rattle.inner_pack.specs.Places.{Spot, front};
 ghost use Rattle.inner_pack.specs.Trees.{IndexTree, leaf_count, cell_of};
 ghost use Rattle.inner_pack.specs.Bodies.{HasTree};
@@ -16,10 +16,11 @@ ghost use Rattle.segment_file.specs.Heads.{count_of};
 ghost use Rattle.segment_file.specs.Segments.{HoldsTree, IsSegment};
 ghost use Rattle.segment_file.specs.Damages.{IsLeafDamage, IsLeafDamageOf};
 ghost use Rattle.bkd_reader.specs.Below.{IsRoot};
-ghost use Rattle.bkd_reader.specs.Counts.{tested_entries, touched_leaves};
+ghost use Rattle.bkd_reader.specs.Counts.{tested_entries, touched_leaves, IsCost};
 ghost use Rattle.bkd_reader.specs.Hits.{AreHits, Appends, Begins, hits_in};
 ghost use Rattle.bkd_reader.specs.Unread.{AreKept, IsAny, IsTouched, ReadsLeaves};
 
+use crate::costs::{Cost, leaves_below};
 use crate::crossed::test_leaf;
 use crate::inside::collect_leaf;
 use cell_relate::{Relation, Shape};
@@ -30,7 +31,8 @@ use page_cache::{PageCache, PageFault};
 use segment_file::SegmentHead;
 use std::alloc::Global;
 
-/// Appends the numbers of the live entries of the segment that the shape has, in the order of the leaves.
+/// Appends the numbers of the live entries of the segment that the shape has, in the order of the leaves, and answers
+/// what the walk counts.
 ///
 /// A number stands there once for each of its entries that the shape has. Only entries of leaves whose own cell the
 /// shape crosses are tested, only leaves whose own cell is not outside are read, and where their pages are all kept
@@ -44,7 +46,7 @@ pub fn intersect<const D: usize, S: Shape<D>, F: Pages>(
     shape: &mut S,
     live: &LiveBits,
     hits: &mut Vec<u32>,
-) -> Result<(), PageFault>
+) -> Result<Cost, PageFault>
     // What is found.
     ensures begins { Begins hits.old.items hits.new.items }
     ensures found { IsTrue F.told → Agrees (F.files folder.old) cache.old → (items : List Item)
@@ -64,9 +66,10 @@ pub fn intersect<const D: usize, S: Shape<D>, F: Pages>(
     ensures reads { (root : Region) (t : IndexTree) → HasTree D head.now.index root t
         → ReadsLeaves head.now (S.has shape.old) (S.crosses shape.old) front t (F.reads folder.old)
         (F.reads folder.new) cache.old cache.new result }
+    ensures counts { (root : Region) (t : IndexTree) → HasTree D head.now.index root t
+        → IfOk result (IsCost head.now (S.has shape.old) (S.crosses shape.old) t) }
     // What stays.
-    ensures has { S.has shape.new ≡ S.has shape.old }
-    ensures crosses { S.crosses shape.new ≡ S.crosses shape.old }
+    ensures shape { KeepsShape (S.has shape.old) (S.has shape.new) (S.crosses shape.old) (S.crosses shape.new) }
     ensures reading { ReadsCached F.told (λ i. i ≡ head.now.id) (F.files folder.old) (F.files folder.new)
         cache.old cache.new (F.faults folder.old) (F.faults folder.new) result }
     // What an error says.
@@ -99,7 +102,7 @@ fn visit<const D: usize, S: Shape<D>, F: Pages>(
     shape: &mut S,
     live: &LiveBits,
     hits: &mut Vec<u32>,
-) -> Result<(), PageFault>
+) -> Result<Cost, PageFault>
     ensures begins { Begins hits.old.items hits.new.items }
     ensures hits { IsTrue F.told → Agrees (F.files folder.old) cache.old
         → (first : ℕ) (s : Spot) (path : Region) (t : IndexTree) → IsRoot node.now first s path t
@@ -116,6 +119,12 @@ fn visit<const D: usize, S: Shape<D>, F: Pages>(
     ensures kept { (first : ℕ) (s : Spot) (path : Region) (t : IndexTree) → IsRoot node.now first s path t
         → AreKept cache.old head.now (IsTouched (S.has shape.old) (S.crosses shape.old)) s t
         → ReadsNothing (F.reads folder.old) (F.reads folder.new) cache.old cache.new result }
+    ensures tested { (first : ℕ) (s : Spot) (path : Region) (t : IndexTree) → IsRoot node.now first s path t
+        → IfOk result (λ n. n.tested ≡ tested_entries (S.crosses shape.old) (count_of head.now) first t) }
+    ensures touched { (first : ℕ) (s : Spot) (path : Region) (t : IndexTree) → IsRoot node.now first s path t
+        → IfOk result (λ n. n.touched ≡ touched_leaves (S.has shape.old) (S.crosses shape.old) t) }
+    ensures few_tested { IfOk result (λ n. n.tested ≤ 65535 * node.now.leaves) }
+    ensures few_touched { IfOk result (λ n. n.touched ≤ node.now.leaves) }
     ensures has { S.has shape.new ≡ S.has shape.old }
     ensures crosses { S.crosses shape.new ≡ S.crosses shape.old }
     ensures reading { ReadsCached F.told (λ i. i ≡ head.now.id) (F.files folder.old) (F.files folder.new)
@@ -130,16 +139,67 @@ fn visit<const D: usize, S: Shape<D>, F: Pages>(
         → NotDamaged result }
 {
     match shape.compare(&node.cell()) {
-        Relation::Outside => Ok(()),
-        Relation::Inside => collect_all(alloc, head, node, cache, folder, live, hits),
+        Relation::Outside => Ok(Cost {
+            tested: 0,
+            touched: 0,
+        }),
+        Relation::Inside => take_all(alloc, head, node, cache, folder, live, hits),
         Relation::Crosses => match node.children() {
             Some((left, right)) => {
-                visit(alloc, head, &left, cache, folder, shape, live, hits)?;
-                visit(alloc, head, &right, cache, folder, shape, live, hits)
+                let front = visit(alloc, head, &left, cache, folder, shape, live, hits)?;
+                let back = visit(alloc, head, &right, cache, folder, shape, live, hits)?;
+                Ok(Cost {
+                    tested: front.tested + back.tested,
+                    touched: front.touched + back.touched,
+                })
             }
             None => test_leaf(alloc, head, node, cache, folder, shape, live, hits),
         },
     }
+}
+
+/// Appends the numbers of the live entries below a node all points of whose cell the shape has, and counts the leaves.
+/// The shape is not asked, and no entry counts as tested.
+fn take_all<const D: usize, F: Pages>(
+    alloc: Global,
+    head: &SegmentHead<D>,
+    node: &NodeAt<'_, D>,
+    cache: &mut PageCache,
+    folder: &mut F,
+    live: &LiveBits,
+    hits: &mut Vec<u32>,
+) -> Result<Cost, PageFault>
+    ensures begins { Begins hits.old.items hits.new.items }
+    ensures hits { IsTrue F.told → Agrees (F.files folder.old) cache.old
+        → (first : ℕ) (s : Spot) (path : Region) (t : IndexTree) → IsRoot node.now first s path t
+        → (has : List ℤ → Bool) → AllAnswer has true (cell_of path t)
+        → OnOk result
+        (Appends hits.old.items hits.new.items
+        (AreHits D (bytes_of (F.files folder.old (Segment head.now.id))) head.now has live.now first s t)) }
+    ensures untested { IfOk result (λ n. n.tested ≡ 0) }
+    ensures touched { IfOk result (λ n. n.touched ≡ node.now.leaves) }
+    ensures few_tested { IfOk result (λ n. n.tested ≤ 65535 * node.now.leaves) }
+    ensures few_touched { IfOk result (λ n. n.touched ≤ node.now.leaves) }
+    ensures reads { F.reads folder.new ≤ F.reads folder.old + node.now.leaves }
+    ensures kept { (first : ℕ) (s : Spot) (path : Region) (t : IndexTree) → IsAt node.now first s path t
+        → AreKept cache.old head.now IsAny s t
+        → ReadsNothing (F.reads folder.old) (F.reads folder.new) cache.old cache.new result }
+    ensures reading { ReadsCached F.told (λ i. i ≡ head.now.id) (F.files folder.old) (F.files folder.new)
+        cache.old cache.new (F.faults folder.old) (F.faults folder.new) result }
+    ensures shown { (first : ℕ) (s : Spot) (path : Region) (t : IndexTree) → IsAt node.now first s path t
+        → OnDamage result (IsLeafDamage D head.now first s t) }
+    ensures damage { IsTrue F.told → Agrees (F.files folder.old) cache.old
+        → OnDamage result (IsLeafDamageOf (F.files folder.old)) }
+    ensures whole { IsTrue F.told → Agrees (F.files folder.old) cache.old
+        → (first : ℕ) (s : Spot) (path : Region) (t : IndexTree) (items : List Item) → IsAt node.now first s path t
+        → HoldsTree D (bytes_of (F.files folder.old (Segment head.now.id))) head.now first s t items
+        → NotDamaged result }
+{
+    collect_all(alloc, head, node, cache, folder, live, hits)?;
+    Ok(Cost {
+        tested: 0,
+        touched: leaves_below(node),
+    })
 }
 
 /// Appends the numbers of the live entries below a node all points of whose cell the shape has. The shape is not asked.

@@ -7,6 +7,7 @@ use Rattle.segment_file.specs.Heads.{count_of}
 use Rattle.bkd_reader.specs.Counts.{asked_cells, tested_entries, touched_leaves}
 use Rattle.bkd_reader.proofs.Cells.{crossed_tested, crossed_touched, touched_all}
 use Rattle.bkd_reader.proofs.Trees.{count_at, left_root, right_root}
+use Rattle.bkd_reader.proofs.Sums.{tested_both, touched_both}
 use Rattle.bkd_reader.proofs.Uncrossed.{asked_some, asked_split, untested, untouched}
 use Rattle.bkd_reader.proofs.costs.+cost.Goals as goal
 use Rattle.segment_file.proofs.Subtrees.{only_leaf}
@@ -58,31 +59,23 @@ returns-in-Inside-clause-compares g t c = λ first s path t' is.
 pub returns-in-Some-clause-tested : goal.returns-in-Some-clause-tested
 returns-in-Some-clause-tested g t c = λ first s path t' root.
     let k = c.in-Some.ensures.some first s path t' root.is in
-    let left = subst (λ f. c.cost-left_tested.result.0 ≡ tested_entries f (count_of c.args.head.now) first k.l) c.compare.ensures.crosses
-    (c.cost-left_tested.ensures.tested first s _ k.l (left_root c.in-Some.left c.in-Some.right first s path t' k root.cells)) in
-    let right = subst (λ f. c.cost-right_tested.result.0 ≡ tested_entries f (count_of c.args.head.now) (first + leaf_count k.l) k.r)
-    (c.cost-left_tested.ensures.crosses ∙ c.compare.ensures.crosses)
-    (c.cost-right_tested.ensures.tested (first + leaf_count k.l) (right_begin s k.l k.r) _ k.r
-    (right_root c.in-Some.left c.in-Some.right first s path t' k root.cells)) in
-    subst (λ u.
-    c.cost-left_tested.result.0 + c.cost-right_tested.result.0 ≡ tested_entries (g.S.Shape.crosses c.args.shape.now) (count_of c.args.head.now) first u)
-    (sym k.is) (omega (arith, left, right))
+    let left = c.cost-left_tested.ensures.tested first s _ k.l (left_root c.in-Some.left c.in-Some.right first s path t' k root.cells) in
+    let right = c.cost-right_tested.ensures.tested (first + leaf_count k.l) (right_begin s k.l k.r) _ k.r
+    (right_root c.in-Some.left c.in-Some.right first s path t' k root.cells) in
+    let both = tested_both c.in-Some.left c.in-Some.right first s path t' k (g.S.Shape.crosses c.args.shape.now) _ _ (count_of c.args.head.now)
+    c.compare.ensures.crosses (c.cost-left_tested.ensures.crosses ∙ c.compare.ensures.crosses) in
+    omega (arith, left, right, both)
 
 pub returns-in-Some-clause-touched : goal.returns-in-Some-clause-touched
 returns-in-Some-clause-touched g t c = λ first s path t' root.
     let k = c.in-Some.ensures.some first s path t' root.is in
-    let left' = subst (λ f. c.cost-left_tested.result.1 ≡ touched_leaves (g.S.Shape.has c.compare.new.self) f k.l) c.compare.ensures.crosses
-    (c.cost-left_tested.ensures.touched first s _ k.l (left_root c.in-Some.left c.in-Some.right first s path t' k root.cells)) in
-    let left = subst (λ f. c.cost-left_tested.result.1 ≡ touched_leaves f (g.S.Shape.crosses c.args.shape.now) k.l) c.compare.ensures.has left' in
-    let right' = subst (λ f. c.cost-right_tested.result.1 ≡ touched_leaves (g.S.Shape.has c.cost-left_tested.new.shape) f k.r)
-    (c.cost-left_tested.ensures.crosses ∙ c.compare.ensures.crosses)
-    (c.cost-right_tested.ensures.touched (first + leaf_count k.l) (right_begin s k.l k.r) _ k.r
-    (right_root c.in-Some.left c.in-Some.right first s path t' k root.cells)) in
-    let right = subst (λ f. c.cost-right_tested.result.1 ≡ touched_leaves f (g.S.Shape.crosses c.args.shape.now) k.r)
-    (c.cost-left_tested.ensures.has ∙ c.compare.ensures.has) right' in
-    subst (λ u.
-    c.cost-left_tested.result.1 + c.cost-right_tested.result.1 ≡ touched_leaves (g.S.Shape.has c.args.shape.now) (g.S.Shape.crosses c.args.shape.now) u)
-    (sym k.is) (omega (arith, left, right))
+    let left = c.cost-left_tested.ensures.touched first s _ k.l (left_root c.in-Some.left c.in-Some.right first s path t' k root.cells) in
+    let right = c.cost-right_tested.ensures.touched (first + leaf_count k.l) (right_begin s k.l k.r) _ k.r
+    (right_root c.in-Some.left c.in-Some.right first s path t' k root.cells) in
+    let both = touched_both c.in-Some.left c.in-Some.right first s path t' k (g.S.Shape.has c.args.shape.now) _ _ (g.S.Shape.crosses c.args.shape.now) _ _
+    c.compare.ensures.has (c.cost-left_tested.ensures.has ∙ c.compare.ensures.has)
+    c.compare.ensures.crosses (c.cost-left_tested.ensures.crosses ∙ c.compare.ensures.crosses) in
+    omega (arith, left, right, both)
 
 pub returns-in-Some-clause-compares : goal.returns-in-Some-clause-compares
 returns-in-Some-clause-compares g t c = λ first s path t' is.

@@ -87,3 +87,17 @@ returns-clause-reads g c = record {
       let hit = c.in_ok-place.ensures.hit first s path t is kept in
       record { reads = hit.1; kept = hit.2 };
 }
+
+-- ---- what is counted
+
+pub returns-clause-tested : goal.returns-clause-tested
+returns-clause-tested g c = λ first s path t is. c.entries_of.ensures.count first s path t is
+
+pub returns-clause-few_tested : goal.returns-clause-few_tested
+returns-clause-few_tested g c =
+    let one = c.requires.leaf in
+    let few = c.entries_of.ensures.few in
+    omega (arith, one, few)
+
+pub returns-clause-few_touched : goal.returns-clause-few_touched
+returns-clause-few_touched g c = let one = c.requires.leaf in omega (arith, one)

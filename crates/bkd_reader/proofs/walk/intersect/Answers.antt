@@ -4,6 +4,7 @@ use Rattle.outer_io.specs.declared.file_name.FileName.TheVariants.{Segment}
 use Rattle.inner_pack.specs.Places.{front}
 use Rattle.inner_pack.specs.Bodies.{HasTree}
 use Rattle.bkd_reader.specs.Hits.{AreHits, Appends, hits_in}
+use Rattle.bkd_reader.proofs.Sums.{both_ok}
 use Rattle.bkd_reader.proofs.Trees.{root_of, parts_of, tree_hits}
 use Rattle.bkd_reader.proofs.walk.intersect.Goals as goal
 use Rattle.segment_file.proofs.Subtrees.{on_ok}
@@ -42,6 +43,12 @@ returns-clause-reads g c = λ root t h.
     let at =
     root_of c.walk.result c.args.head.now.index root t h (c.walk.ensures root t (subst (λ i. HasTree g.row.D i root t) (sym c.index.ensures.value) h)) in
     record { most = c.visit.ensures.reads 0 front root t at; none = c.visit.ensures.kept 0 front root t at }
+
+pub returns-clause-counts : goal.returns-clause-counts
+returns-clause-counts g c = λ root t h.
+    let at =
+    root_of c.walk.result c.args.head.now.index root t h (c.walk.ensures root t (subst (λ i. HasTree g.row.D i root t) (sym c.index.ensures.value) h)) in
+    both_ok c.visit.result _ _ (c.visit.ensures.tested 0 front root t at) (c.visit.ensures.touched 0 front root t at)
 
 pub returns-clause-shown : goal.returns-clause-shown
 returns-clause-shown g c = λ root t h.
