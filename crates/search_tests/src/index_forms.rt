@@ -3,8 +3,7 @@
 
 use crate::asserts::same_at;
 use crate::stored::{Stored, open_alone};
-use crate::walks::{line, reads, walked};
-use bkd_reader::survey;
+use crate::walks::{counted, line, reads};
 use live_bits::LiveBits;
 use outer_io::MemFolder;
 use segment_file::SegmentHead;
@@ -92,12 +91,12 @@ fn check_row(
 ) -> Result<(), Fail> {
     let (ends, expected, path_costs, own_costs) = row;
     let mut shape = line(ends);
-    let hits = walked(alloc, folder, head, live, &mut shape)?
+    let (hits, cost) = counted(alloc, folder, head, live, &mut shape)?
         .ok()
         .ok_or("no walk")?;
     same_at(rt, hits.as_slice(), expected, &ends);
     let tests = shape.tests();
-    let touched = survey(head, &mut shape).touched;
+    let touched = cost.touched;
     let costs = if own { own_costs } else { path_costs };
     same_at(rt, (tests, touched), costs, &ends);
     let read = reads(alloc, folder, head, live, &mut shape)?;

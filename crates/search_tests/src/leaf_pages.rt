@@ -10,7 +10,7 @@ use outer_io::{FileName, MemFolder};
 use page_cache::{Damage, PageCache, PageFault};
 use point_codec::{Entry, Point};
 use segment_build::build_segment;
-use segment_view::{Segments, survey, visit};
+use segment_view::{Segments, Visit, visit};
 use std::alloc::{AllocError, Global};
 use std::marker::Sync;
 use std::process::Abort;
@@ -67,13 +67,13 @@ pub(crate) fn make_stored<R: Threads + Sync>(rt: &R, alloc: Global) -> Result<St
     })
 }
 
-/// The numbers in the box from one corner to the other.
+/// The numbers in the box from one corner to the other, and what was counted.
 fn visited(
     alloc: Global,
     stored: &mut Stored,
     cache: &mut PageCache,
     shape: &mut BoxShape<2>,
-) -> Result<Vec<u32>, PageFault> {
+) -> Result<Visit, PageFault> {
     visit(
         alloc,
         &stored.segments,
@@ -110,14 +110,19 @@ fn check_visit(
     row: Row,
     call: u64,
 ) -> Result<(), Fail> {
-    let (lo, hi, expected, (tests, _, pages)) = row;
+    let (lo, hi, expected, (tests, touched, pages)) = row;
     let mut shape = BoxShape::new(Point { c: lo }, Point { c: hi });
     let mut cache = PageCache::new(alloc, 4)?;
     stored.folder.plan([call].to_vec(alloc)?, None);
     match visited(alloc, stored, &mut cache, &mut shape) {
-        Ok(hits) => {
-            same_at(rt, (hits.len(), hits.first().copied()), expected, &(lo, hi));
-            same_at(rt, (shape.tests(), call), (tests, pages), &(lo, hi));
+        Ok(Visit { docs, cost }) => {
+            same_at(rt, (docs.len(), docs.first().copied()), expected, &(lo, hi));
+            same_at(
+                rt,
+                (shape.tests(), cost.touched, call),
+                (tests, touched, pages),
+                &(lo, hi),
+            );
         }
         Err(fault) => {
             holds_at(
@@ -137,12 +142,12 @@ fn check_again(rt: &impl Abort, alloc: Global, stored: &mut Stored, row: Row) ->
     let mut cache = PageCache::new(alloc, 4)?;
     stored.folder.plan(Vec::new(alloc), None);
     for call in 0..2u32 {
-        let hits = visited(alloc, stored, &mut cache, &mut shape)
+        let Visit { docs, .. } = visited(alloc, stored, &mut cache, &mut shape)
             .ok()
             .ok_or("no hits")?;
         same_at(
             rt,
-            (hits.len(), hits.first().copied()),
+            (docs.len(), docs.first().copied()),
             expected,
             &(call, lo),
         );
@@ -151,16 +156,9 @@ fn check_again(rt: &impl Abort, alloc: Global, stored: &mut Stored, row: Row) ->
     Ok(())
 }
 
-/// What a survey says of a row's box; then each of its reads fails in turn, and then none.
+/// Each read of a visit with a row's box fails in turn, and then none; then the visit again.
 fn check_row(rt: &impl Abort, alloc: Global, stored: &mut Stored, row: Row) -> Result<(), Fail> {
-    let (lo, hi, _, (_, touched, pages)) = row;
-    let mut shape = BoxShape::new(Point { c: lo }, Point { c: hi });
-    same_at(
-        rt,
-        survey(&stored.segments, &mut shape).touched,
-        touched,
-        &(lo, hi),
-    );
+    let (_, _, _, (_, _, pages)) = row;
     for call in 0..pages {
         check_visit(rt, alloc, stored, row, call)?;
     }

@@ -4,8 +4,7 @@ ghost use Rattle.std.specs.Prelude.{◌<◌, All, IfOk};
 
 use crate::asserts::same_at;
 use crate::stored::{Stored, open_alone};
-use crate::walks::{reads, walked};
-use bkd_reader::survey;
+use crate::walks::{counted, reads};
 use cell_relate::BoxShape;
 use live_bits::LiveBits;
 use outer_io::MemFolder;
@@ -81,12 +80,12 @@ fn check_row(
 ) -> Result<(), Fail> {
     let (lo, hi, expected, costs) = row;
     let mut shape = BoxShape::new(Point { c: lo }, Point { c: hi });
-    let hits = walked(alloc, folder, head, live, &mut shape)?
+    let (hits, cost) = counted(alloc, folder, head, live, &mut shape)?
         .ok()
         .ok_or("no walk")?;
     same_at(rt, (hits.len(), hits.first().copied()), expected, &(lo, hi));
     let tests = shape.tests();
-    let touched = survey(head, &mut shape).touched;
+    let touched = cost.touched;
     let read = reads(alloc, folder, head, live, &mut shape)?;
     same_at(rt, (tests, touched, read), costs, &(lo, hi));
     Ok(())

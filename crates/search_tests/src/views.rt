@@ -2,7 +2,7 @@
 
 use crate::asserts::{same, same_at};
 use crate::stored::{AT_TEN, ONE_FIELDS, ONE_TO_NINE, Stored, THREE_LEAVES, TWO_FIELDS, store};
-use bkd_reader::Tally;
+use bkd_reader::{Cost, Tally};
 use cell_relate::BoxShape;
 use live_bits::LiveBits;
 use outer_io::MemFolder;
@@ -41,38 +41,35 @@ pub const BUFFER: [Entry<1>; 2] = [
     },
 ];
 
-/// The ends of a box, the hits, how often it is asked for a point, and what a survey tells of it.
-type Row = ((i32, i32), &'static [u32], u64, Tally);
+/// The ends of a box, the hits, how often it is asked for a point, and what the visit meets.
+type Row = ((i32, i32), &'static [u32], u64, Cost);
 
 const ROWS: [Row; 3] = [
     (
         (0, 10),
         &[0, 1, 2, 3, 4, 5, 6, 7],
         2,
-        Tally {
+        Cost {
             tested: 0,
             touched: 5,
-            leaves: 5,
         },
     ),
     (
         (6, 9),
         &[1, 2, 3, 4, 5, 7],
         4,
-        Tally {
+        Cost {
             tested: 4,
             touched: 4,
-            leaves: 5,
         },
     ),
     (
         (11, 12),
         &[],
         2,
-        Tally {
+        Cost {
             tested: 0,
             touched: 0,
-            leaves: 5,
         },
     ),
 ];
@@ -149,9 +146,9 @@ fn a_copy_of_segments_is_its_own(rt: HostRuntime) -> Result<(), Fail> {
 fn what_a_box_has_and_costs(rt: HostRuntime) -> Result<(), Fail> {
     let (mut folder, segments) = three(rt.alloc())?;
     let mut cache = PageCache::new(rt.alloc(), 4)?;
-    for (ends, expected, tests, tally) in ROWS {
+    for (ends, expected, tests, cost) in ROWS {
         let mut shape = BoxShape::new(Point { c: [ends.0] }, Point { c: [ends.1] });
-        let hits = visit(
+        let found = visit(
             rt.alloc(),
             &segments,
             &BUFFER,
@@ -159,11 +156,41 @@ fn what_a_box_has_and_costs(rt: HostRuntime) -> Result<(), Fail> {
             &mut folder,
             &mut shape,
         )?;
-        same_at(&rt, hits.as_slice(), expected, &ends);
+        same_at(&rt, found.docs.as_slice(), expected, &ends);
         same_at(&rt, shape.tests(), tests, &ends);
+        same_at(&rt, found.cost, cost, &ends);
+        let tally = Tally {
+            tested: cost.tested,
+            touched: cost.touched,
+            leaves: 5,
+        };
         same_at(&rt, survey(&segments, &mut shape), tally, &ends);
-        same_at(&rt, shape.tests(), tests, &ends);
     }
+    Ok(())
+}
+
+#[test]
+fn a_segment_without_a_live_number_counts(rt: HostRuntime) -> Result<(), Fail> {
+    let (mut folder, mut segments) = three(rt.alloc())?;
+    let mut cache = PageCache::new(rt.alloc(), 4)?;
+    segments.clear(6);
+    let mut shape = BoxShape::new(Point { c: [0] }, Point { c: [10] });
+    // two pages are read: none of segment 8
+    folder.plan([2].to_vec(rt.alloc())?, None);
+    let found = visit(
+        rt.alloc(),
+        &segments,
+        &[],
+        &mut cache,
+        &mut folder,
+        &mut shape,
+    )?;
+    same(&rt, found.docs.as_slice(), [0, 1, 2, 3, 4, 5].as_slice());
+    let cost = Cost {
+        tested: 0,
+        touched: 5,
+    };
+    same(&rt, found.cost, cost);
     Ok(())
 }
 

@@ -2,7 +2,7 @@
 
 use crate::asserts::same_at;
 use crate::stored::{ASTRAY, THREE_LEAVES, open_alone};
-use bkd_reader::{Tally, intersect, survey};
+use bkd_reader::{Cost, Tally, intersect, survey};
 use cell_relate::BoxShape;
 use live_bits::LiveBits;
 use outer_io::{FileName, MemFolder};
@@ -13,7 +13,7 @@ use std::alloc::Global;
 use std::process::Abort;
 use std::test::Fail;
 
-/// The end of a box, its other end, the live numbers; then the hits, the tests, the compares; of the survey the
+/// The end of a box, its other end, the live numbers; then the hits, the tests, the compares; of what the walk met the
 /// tested entries and the touched leaves.
 type Row = (
     (i32, i32),
@@ -52,7 +52,7 @@ fn walked_behind(
     head: &SegmentHead<1>,
     live: &LiveBits,
     shape: &mut BoxShape<1>,
-) -> Result<(Result<(), PageFault>, Vec<u32>), Fail> {
+) -> Result<(Result<Cost, PageFault>, Vec<u32>), Fail> {
     let mut hits = vec![in alloc; BEFORE]?;
     let done = intersect(alloc, head, cache, folder, shape, live, &mut hits);
     Ok((done, hits))
@@ -73,7 +73,11 @@ fn hits_and_costs(rt: HostRuntime) -> Result<(), Fail> {
             &live,
             &mut shape,
         )?;
-        same_at(&rt, done.is_ok(), true, &ends);
+        let cost = Cost {
+            tested: costs.0,
+            touched: costs.1,
+        };
+        same_at(&rt, done.ok(), Some(cost), &ends);
         same_at(
             &rt,
             hits.as_slice().split_first(),
@@ -91,8 +95,8 @@ fn hits_and_costs(rt: HostRuntime) -> Result<(), Fail> {
     Ok(())
 }
 
-/// A survey tells so many tested entries and touched leaves of three, tests no point, and asks for as many cells as the
-/// walk did before it.
+/// A survey tells what the walk before it met and that there are three leaves, tests no point, and asks for as many
+/// cells as the walk did.
 fn check_survey(
     rt: &impl Abort,
     head: &SegmentHead<1>,
@@ -102,18 +106,34 @@ fn check_survey(
     costs: (u64, u64),
 ) {
     let before = shape.tests();
-    let tally = survey(head, shape);
     let expected = Tally {
         tested: costs.0,
         touched: costs.1,
         leaves: 3,
     };
-    same_at(rt, tally, expected, &ends);
+    same_at(rt, survey(head, shape), expected, &ends);
     same_at(rt, shape.tests(), before, &ends);
     same_at(rt, shape.compares(), walked.saturating_mul(2), &ends);
 }
 
-/// The numbers that a walk with the box finds, over a cache that keeps no page.
+/// The numbers that a walk with the box finds, over a cache that keeps no page, and what it meets.
+pub fn counted<const D: usize>(
+    alloc: Global,
+    folder: &mut MemFolder,
+    head: &SegmentHead<D>,
+    live: &LiveBits,
+    shape: &mut BoxShape<D>,
+) -> Result<Result<(Vec<u32>, Cost), PageFault>, Fail> {
+    let mut cache = PageCache::new(alloc, 4)?;
+    let mut hits = Vec::new(alloc);
+    let done = intersect(alloc, head, &mut cache, folder, shape, live, &mut hits);
+    Ok(match done {
+        Ok(cost) => Ok((hits, cost)),
+        Err(fault) => Err(fault),
+    })
+}
+
+/// The numbers alone.
 pub fn walked<const D: usize>(
     alloc: Global,
     folder: &mut MemFolder,
@@ -121,11 +141,8 @@ pub fn walked<const D: usize>(
     live: &LiveBits,
     shape: &mut BoxShape<D>,
 ) -> Result<Result<Vec<u32>, PageFault>, Fail> {
-    let mut cache = PageCache::new(alloc, 4)?;
-    let mut hits = Vec::new(alloc);
-    let done = intersect(alloc, head, &mut cache, folder, shape, live, &mut hits);
-    Ok(match done {
-        Ok(()) => Ok(hits),
+    Ok(match counted(alloc, folder, head, live, shape)? {
+        Ok((hits, _)) => Ok(hits),
         Err(fault) => Err(fault),
     })
 }
@@ -211,7 +228,7 @@ fn a_leaf_astray(rt: HostRuntime) -> Result<(), Fail> {
             &mut line(ends),
         )?;
         let seen = match &done {
-            Ok(()) => None,
+            Ok(_) => None,
             Err(fault) => place(fault),
         };
         same_at(&rt, (hits.len(), seen), (hits_then, damage), &ends);

@@ -10,3 +10,4 @@ pub mod Hits
 pub mod Marked
 pub mod Numbered
 pub mod Listing
+pub mod Costing

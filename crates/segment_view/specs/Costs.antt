@@ -1,12 +1,15 @@
 -- What reading of segments costs: sums over the trees of their indexes.
-use Rattle.std.specs.Prelude.{ℕ, ◌+◌, ◌≡◌, ◌≤◌, Bool, List, [], ◌∷◌, sum_by, All, ℤ}
+use Rattle.std.specs.Prelude.{ℕ, ◌+◌, ◌≡◌, ◌≤◌, Bool, List, [], ◌∷◌, Result, sum_by, All, ℤ}
 use Rattle.point_codec.specs.Points.{Region}
 use Rattle.inner_pack.specs.Places.{front}
 use Rattle.inner_pack.specs.Trees.{IndexTree}
 use Rattle.inner_pack.specs.Bodies.{HasTree}
 use Rattle.page_cache.specs.declared.cache.PageCache.{PageCache}
+use Rattle.page_cache.specs.declared.faults.PageFault.{PageFault}
+use Rattle.page_cache.specs.Reading.{ReadsNothing}
 use Rattle.segment_file.specs.Heads.{Head, count_of}
 use Rattle.bkd_reader.specs.Counts.{tested_entries, touched_leaves}
+use Rattle.bkd_reader.specs.declared.costs.Cost.{Cost}
 use Rattle.bkd_reader.specs.Unread.{AreKept, IsTouched}
 use Rattle.segment_view.specs.LiveSegments.{LiveSegment, heads_of}
 
@@ -29,6 +32,10 @@ AreTested D crosses heads n = AreCounted D (λ h t. tested_entries crosses (coun
 abbrev pub AreTouched : (D : ℕ) → (has : List ℤ → Bool) → (crosses : Region → Bool) → List Head → ℕ → Type 0
 AreTouched D has crosses heads n = AreCounted D (λ h t. touched_leaves has crosses t) heads n
 
+-- what walks of these segments meet together
+abbrev pub IsCostOf : (D : ℕ) → (has : List ℤ → Bool) → (crosses : Region → Bool) → List Head → Cost → Type 0
+IsCostOf D has crosses heads cost = AreTested D crosses heads cost.tested × AreTouched D has crosses heads cost.touched
+
 -- the page of each of these leaves is kept, of each of the segments
 abbrev pub HasTouchedKept : (D : ℕ) → PageCache → (has : List ℤ → Bool) → (crosses : Region → Bool) → LiveSegment
     → Type 0
@@ -40,8 +47,8 @@ abbrev pub AreTouchedKept : (D : ℕ) → PageCache → (has : List ℤ → Bool
     → Type 0
 AreTouchedKept D cache has crosses parts = All (HasTouchedKept D cache has crosses) parts
 
--- no more pages are read than there are such leaves, and none where the page of each is kept
-pub record ReadsTouched (D : ℕ) (has : List ℤ → Bool) (crosses : Region → Bool) (parts : List LiveSegment)
-    (cache : PageCache) (before now : ℕ) : Type 0 where
+-- no more pages are read than there are such leaves, and none where the page of each is kept; then these stay kept
+pub record ReadsTouched {T : Type 0} (D : ℕ) (has : List ℤ → Bool) (crosses : Region → Bool) (parts : List LiveSegment)
+    (cache new_cache : PageCache) (before now : ℕ) (result : Result T PageFault) : Type 0 where
   pub most : (n : ℕ) → AreTouched D has crosses (heads_of parts) n → now ≤ before + n
-  pub none : AreTouchedKept D cache has crosses parts → now ≡ before
+  pub none : AreTouchedKept D cache has crosses parts → ReadsNothing before now cache new_cache result

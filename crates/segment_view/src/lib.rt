@@ -5,6 +5,7 @@
 //! segments, from which a merge builds another.
 #![tactic(auto)]
 
+mod answers;
 mod gathering;
 mod laws;
 mod nearby;
@@ -15,6 +16,7 @@ mod segments;
 mod surveys;
 mod visiting;
 
+pub use answers::Visit;
 pub use gathering::gather;
 pub use nearby::nearest;
 pub use nearest_query::Nearest;

@@ -1,4 +1,4 @@
-//! The documents that a shape has.
+//! The documents that a shape has, and what the walks that find them count.
 
 ghost use Rattle.std.specs.Prelude.{◌≡◌, ◌≤◌, ◌+◌, ◌*◌, ◌++◌, ℕ, [], ◌∷◌, length, Contains, IsTrue, IfOk, OnOk};
 ghost use Rattle.std.specs.List.Sorted.{IsStrictlyIncreasing};
@@ -7,6 +7,7 @@ ghost use Rattle.point_codec.specs.Seen.{items_of};
 ghost use Rattle.inner_pack.specs.Places.{front};
 ghost use Rattle.inner_pack.specs.Trees.{IndexTree};
 ghost use Rattle.inner_pack.specs.Bodies.{HasTree};
+ghost use Rattle.cell_relate.specs.Relations.{KeepsShape};
 ghost use Rattle.page_cache.specs.Cache.{MarksGo, Agrees};
 ghost use Rattle.page_cache.specs.Causes.{HasPageCause};
 ghost use Rattle.page_cache.specs.Evidence.{OnDamage, NotDamaged};
@@ -16,14 +17,15 @@ ghost use Rattle.bkd_reader.specs.Unread.{AreKept, IsTouched};
 ghost use Rattle.documents.specs.Entries.{numbers_found};
 ghost use Rattle.segment_view.specs.LiveSegments.{Contents, IsRead, AreRead, live_segment, heads_of, ids_of};
 ghost use Rattle.segment_view.specs.LiveSegments.{live_in_parts};
-ghost use Rattle.segment_view.specs.Costs.{leaves_in, AreTested, AreTouched, AreTouchedKept, ReadsTouched};
+ghost use Rattle.segment_view.specs.Costs.{leaves_in, AreTested, AreTouched, AreTouchedKept, IsCostOf, ReadsTouched};
 ghost use Rattle.segment_view.specs.Found.{AreFound};
 ghost use Rattle.segment_view.specs.Calm.{IsCalm};
 ghost use Rattle.segment_view.specs.Damages.{IsPartDamage, IsReadDamage};
 
+use crate::answers::Visit;
 use crate::ordering::ascending;
 use crate::segments::Segments;
-use bkd_reader::intersect;
+use bkd_reader::{Cost, intersect, survey};
 use cell_relate::Shape;
 use live_bits::LiveBits;
 use outer_io::Pages;
@@ -33,11 +35,12 @@ use segment_file::SegmentHead;
 use std::alloc::{AllocError, Global};
 
 /// The numbers of the live entries of the segments and of the entries of the buffer that the shape has, each once and
-/// ascending.
+/// ascending, and what is counted of the segments on the way.
 ///
 /// Only entries of the buffer and of leaves whose own cell the shape crosses are tested, only leaves whose own cell
-/// is not outside are read, and where their pages are all kept nothing is read. The answer may be a damage of a leaf
-/// that had to be read, Failed and Memory.
+/// is not outside are read, and where their pages are all kept nothing is read. These entries and these leaves are
+/// counted, and those of a segment without a live number too, of which nothing is read. The answer may be a damage of a
+/// leaf that had to be read, Failed and Memory.
 pub fn visit<const D: usize, S: Shape<D>, F: Pages>(
     alloc: Global,
     segments: &Segments<D>,
@@ -45,20 +48,22 @@ pub fn visit<const D: usize, S: Shape<D>, F: Pages>(
     cache: &mut PageCache,
     folder: &mut F,
     shape: &mut S,
-) -> Result<Vec<u32>, PageFault>
+) -> Result<Visit, PageFault>
     ensures found { IsTrue F.told → Agrees (F.files folder.old) cache.old → (c : Contents)
         → AreRead D (F.files folder.old) c segments.now
-        → IfOk result (λ v. AreFound (S.has shape.old) (live_in_parts c segments.now ++ items_of buffer.now) v.items) }
-    ensures rises { IfOk result (λ v. IsStrictlyIncreasing v.items) }
+        → IfOk result
+        (λ v. AreFound (S.has shape.old) (live_in_parts c segments.now ++ items_of buffer.now) v.docs.items) }
+    ensures rises { IfOk result (λ v. IsStrictlyIncreasing v.docs.items) }
     // What it costs, over every folder.
     ensures tests { (n : ℕ) → AreTested D (S.crosses shape.old) (heads_of segments.now) n
         → S.tests shape.new ≤ S.tests shape.old + n + length buffer.now }
     ensures compares { S.compares shape.new ≤ S.compares shape.old + 2 * leaves_in (heads_of segments.now) }
-    ensures reads { ReadsTouched D (S.has shape.old) (S.crosses shape.old) segments.now cache.old
-        (F.reads folder.old) (F.reads folder.new) }
+    ensures reads { ReadsTouched D (S.has shape.old) (S.crosses shape.old) segments.now cache.old cache.new
+        (F.reads folder.old) (F.reads folder.new) result }
+    ensures counts { IfOk result
+        (λ v. IsCostOf D (S.has shape.old) (S.crosses shape.old) (heads_of segments.now) v.cost) }
     // What stays.
-    ensures has { S.has shape.new ≡ S.has shape.old }
-    ensures crosses { S.crosses shape.new ≡ S.crosses shape.old }
+    ensures shape { KeepsShape (S.has shape.old) (S.has shape.new) (S.crosses shape.old) (S.crosses shape.new) }
     ensures reading { ReadsCached F.told (Contains (ids_of segments.now)) (F.files folder.old) (F.files folder.new)
         cache.old cache.new (F.faults folder.old) (F.faults folder.new) result }
     // What a damage says.
@@ -69,12 +74,13 @@ pub fn visit<const D: usize, S: Shape<D>, F: Pages>(
         → AreRead D (F.files folder.old) c segments.now → NotDamaged result }
 {
     let mut hits = Vec::new(alloc);
-    visit_segments(alloc, segments, cache, folder, shape, &mut hits)?;
+    let cost = visit_segments(alloc, segments, cache, folder, shape, &mut hits)?;
     visit_buffer(buffer, shape, &mut hits)?;
-    Ok(ascending(alloc, hits)?)
+    let docs = ascending(alloc, hits)?;
+    Ok(Visit { docs, cost })
 }
 
-/// Appends the numbers of the live entries of the segments that the shape has.
+/// Appends the numbers of the live entries of the segments that the shape has, and sums what the walks count.
 fn visit_segments<const D: usize, S: Shape<D>, F: Pages>(
     alloc: Global,
     segments: &Segments<D>,
@@ -82,7 +88,7 @@ fn visit_segments<const D: usize, S: Shape<D>, F: Pages>(
     folder: &mut F,
     shape: &mut S,
     hits: &mut Vec<u32>,
-) -> Result<(), PageFault>
+) -> Result<Cost, PageFault>
     ensures found { IsTrue F.told → Agrees (F.files folder.old) cache.old → (c : Contents)
         → AreRead D (F.files folder.old) c segments.now
         → OnOk result
@@ -94,6 +100,9 @@ fn visit_segments<const D: usize, S: Shape<D>, F: Pages>(
         → F.reads folder.new ≤ F.reads folder.old + n }
     ensures kept { AreTouchedKept D cache.old (S.has shape.old) (S.crosses shape.old) segments.now
         → ReadsNothing (F.reads folder.old) (F.reads folder.new) cache.old cache.new result }
+    ensures tested { IfOk result (λ n. AreTested D (S.crosses shape.old) (heads_of segments.now) n.tested) }
+    ensures touched { IfOk result
+        (λ n. AreTouched D (S.has shape.old) (S.crosses shape.old) (heads_of segments.now) n.touched) }
     ensures has { S.has shape.new ≡ S.has shape.old }
     ensures crosses { S.crosses shape.new ≡ S.crosses shape.old }
     ensures marks { MarksGo cache.old cache.new }
@@ -105,14 +114,23 @@ fn visit_segments<const D: usize, S: Shape<D>, F: Pages>(
     ensures whole { IsTrue F.told → Agrees (F.files folder.old) cache.old → (c : Contents)
         → AreRead D (F.files folder.old) c segments.now → NotDamaged result }
 {
+    let mut all = Cost {
+        tested: 0,
+        touched: 0,
+    };
     for i in 0..segments.len() {
         let (head, live) = segments.part(i);
-        visit_one(alloc, head, live, cache, folder, shape, hits)?;
+        let one = visit_one(alloc, head, live, cache, folder, shape, hits)?;
+        all = Cost {
+            tested: all.tested + one.tested,
+            touched: all.touched + one.touched,
+        };
     }
-    Ok(())
+    Ok(all)
 }
 
-/// Appends the numbers of the live entries of a segment that the shape has.
+/// Appends the numbers of the live entries of a segment that the shape has, and answers what the walk counts. Where no
+/// number is live nothing is read, and what a walk would count is surveyed.
 fn visit_one<const D: usize, S: Shape<D>, F: Pages>(
     alloc: Global,
     head: &SegmentHead<D>,
@@ -121,7 +139,7 @@ fn visit_one<const D: usize, S: Shape<D>, F: Pages>(
     folder: &mut F,
     shape: &mut S,
     hits: &mut Vec<u32>,
-) -> Result<(), PageFault>
+) -> Result<Cost, PageFault>
     ensures found { IsTrue F.told → Agrees (F.files folder.old) cache.old → (c : Contents)
         → IsRead D (F.files folder.old) c (live_segment head.now live.now)
         → OnOk result
@@ -135,6 +153,11 @@ fn visit_one<const D: usize, S: Shape<D>, F: Pages>(
     ensures kept { (root : Region) (t : IndexTree) → HasTree D head.now.index root t
         → AreKept cache.old head.now (IsTouched (S.has shape.old) (S.crosses shape.old)) front t
         → ReadsNothing (F.reads folder.old) (F.reads folder.new) cache.old cache.new result }
+    ensures tested { IfOk result (λ n. AreTested D (S.crosses shape.old) (head.now ∷ []) n.tested) }
+    ensures touched { IfOk result
+        (λ n. AreTouched D (S.has shape.old) (S.crosses shape.old) (head.now ∷ []) n.touched) }
+    ensures few_tested { IfOk result (λ n. n.tested ≤ 4000 * 8388608) }
+    ensures few_touched { IfOk result (λ n. n.touched ≤ 8388608) }
     ensures has { S.has shape.new ≡ S.has shape.old }
     ensures crosses { S.crosses shape.new ≡ S.crosses shape.old }
     ensures marks { MarksGo cache.old cache.new }
@@ -146,10 +169,14 @@ fn visit_one<const D: usize, S: Shape<D>, F: Pages>(
     ensures whole { IsTrue F.told → Agrees (F.files folder.old) cache.old → (c : Contents)
         → IsRead D (F.files folder.old) c (live_segment head.now live.now) → NotDamaged result }
 {
-    if live.live_count() == 0 {
-        return Ok(());
-    }
     head.index().is_spelled();
+    if live.live_count() == 0 {
+        let tally = survey(head, shape);
+        return Ok(Cost {
+            tested: tally.tested,
+            touched: tally.touched,
+        });
+    }
     intersect(alloc, head, cache, folder, shape, live, hits)
 }
 

@@ -12,6 +12,10 @@ invariant-loop-i g l = record {
   calm : IsCalm g.F.Pages.told (g.F.Pages.files l.initial.folder) (g.F.Pages.files l.folder) l.initial.cache l.cache (ids_of l.segments);
   marks : MarksGo l.initial.cache l.cache;
   faults : g.F.Pages.faults l.folder ≡ g.F.Pages.faults l.initial.folder;
+  tested : AreTested g.row.D (g.S.Shape.crosses l.initial.shape) (heads_of (take l.i l.segments)) l.all.tested;
+  touched : AreTouched g.row.D (g.S.Shape.has l.initial.shape) (g.S.Shape.crosses l.initial.shape) (heads_of (take l.i l.segments)) l.all.touched;
+  few_tested : l.all.tested ≤ l.i * (4000 * 8388608);
+  few_touched : l.all.touched ≤ l.i * 8388608;
   has : g.S.Shape.has l.shape ≡ g.S.Shape.has l.initial.shape;
   crosses : g.S.Shape.crosses l.shape ≡ g.S.Shape.crosses l.initial.shape;
   tests : (n : ℕ) → AreTested g.row.D (g.S.Shape.crosses l.initial.shape) (heads_of (take l.i l.segments)) n
