@@ -216,7 +216,7 @@ fn tell_shape<const D: usize, S: Shape<D>, F: Folder>(
         }) result }
 {
     let found = set.visit(alloc, folder, &View::Now, shape)?;
-    put_shape(reply, &found.tally, found.docs.len())?;
+    put_shape(reply, &found.cost, found.docs.len())?;
     Ok(false)
 }
 

@@ -3,20 +3,20 @@
 ghost use Rattle.std.specs.Prelude.{◌≡◌, ◌++◌, OnOk};
 ghost use Rattle.explain_queries.specs.Explained.{near_text, shape_text};
 
-use bkd_reader::Tally;
+use bkd_reader::Cost;
 use itoa::Buffer;
 use std::alloc::AllocError;
 
 /// Appends what a box or a polygon tests and touches, and how many documents it hits.
 #[tactic(auto, unfolding(crate::specs::Explained::shape_text))]
-pub fn put_shape(reply: &mut Vec<u8>, tally: &Tally, hits: usize) -> Result<(), AllocError>
-    ensures { OnOk result (reply.new.items ≡ reply.old.items ++ shape_text tally.now.tested tally.now.touched hits) }
+pub fn put_shape(reply: &mut Vec<u8>, cost: &Cost, hits: usize) -> Result<(), AllocError>
+    ensures { OnOk result (reply.new.items ≡ reply.old.items ++ shape_text cost.now.tested cost.now.touched hits) }
 {
     let mut digits = Buffer::new();
     reply.extend_from_slice(b"tested ")?;
-    reply.extend_from_slice(digits.format(tally.tested).as_bytes())?;
+    reply.extend_from_slice(digits.format(cost.tested).as_bytes())?;
     reply.extend_from_slice(b" touched ")?;
-    reply.extend_from_slice(digits.format(tally.touched).as_bytes())?;
+    reply.extend_from_slice(digits.format(cost.touched).as_bytes())?;
     reply.extend_from_slice(b" hits ")?;
     reply.extend_from_slice(digits.format(hits).as_bytes())?;
     reply.push(b'\n')?;

@@ -13,7 +13,7 @@ ghost use Rattle.nearest_query.specs.Segments.{AreNearLeaves, bound_of};
 ghost use Rattle.script_lang.specs.Seen.{view_name};
 ghost use Rattle.index_model.specs.State.{Index, viewed_docs};
 ghost use Rattle.segment_view.specs.LiveSegments.{Contents, heads_of};
-ghost use Rattle.segment_view.specs.Costs.{AreTested, AreTouched, IsTallyOf, leaves_in};
+ghost use Rattle.segment_view.specs.Costs.{AreTested, AreTouched, IsCostOf, leaves_in};
 
 use crate::buffer::Buffer;
 use crate::set::SegmentSet;
@@ -46,8 +46,8 @@ impl<const D: usize> SegmentSet<D> {
         ensures found { IsTrue F.told → (i : Index) → Sees D (F.files folder.old) self.old i → (docs : List Document)
             → viewed_docs (view_name view.now) i ≡ Some docs
             → IfOk result (λ v. v.docs.items ≡ hits (S.has shape.old) docs) }
-        ensures counts { IfOk result (λ v. IsTallyOf D (S.has shape.old) (S.crosses shape.old)
-            (heads_of (viewed_parts (view_name view.now) self.old)) v.tally) }
+        ensures counts { IfOk result (λ v. IsCostOf D (S.has shape.old) (S.crosses shape.old)
+            (heads_of (viewed_parts (view_name view.now) self.old)) v.cost) }
         // what stays
         ensures seen { IsTrue F.told → (i : Index) → Sees D (F.files folder.old) self.old i
             → Sees D (F.files folder.new) self.new i }

@@ -46,7 +46,7 @@ returns g c =
       faithful = c.visit.ensures.faithful;
       evident = c.in_ok-found.ensures.damaged.evident;
     })
-    (λ told s e. shape_told g.row.D _ _ _ _ c.in_ok-found.found.tally.tested c.in_ok-found.found.tally.touched c.len.result _ _ s e
+    (λ told s e. shape_told g.row.D _ _ _ _ c.in_ok-found.found.cost.tested c.in_ok-found.found.cost.touched c.len.result _ _ s e
     c.in_ok-found.ensures.counts.0 c.in_ok-found.ensures.counts.1
     (c.len.ensures ∙ c.in_ok-found.found.docs.ok.0 ∙ ap length (c.in_ok-found.ensures.found told e.index e.seen e.index.docs refl))
     c.in_ok-put_shape.ensures)

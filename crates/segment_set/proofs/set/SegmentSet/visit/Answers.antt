@@ -6,7 +6,7 @@ use Rattle.page_cache.specs.Cache.{Agrees}
 use Rattle.page_cache.specs.Evidence.{OnDamage}
 use Rattle.script_lang.specs.Seen.{view_name}
 use Rattle.segment_view.specs.LiveSegments.{LiveSegment, heads_of, ids_of}
-use Rattle.segment_view.specs.Costs.{AreTested, AreTouched, IsTallyOf, leaves_in}
+use Rattle.segment_view.specs.Costs.{AreTested, AreTouched, IsCostOf, leaves_in}
 use Rattle.segment_view.specs.Calm.{IsCalm}
 use Rattle.segment_view.specs.Damages.{IsPartDamage}
 use Rattle.segment_view.proofs.Reading.{calm_cached}
@@ -91,7 +91,7 @@ returns-clause-rest g c = record { is = same g c ∙ (λ i. record (c.self.view_
 pub returns-clause-counts : goal.returns-clause-counts
 returns-clause-counts g c =
     subst (λ (ps : List LiveSegment).
-    IfOk c.visit.result (λ v. IsTallyOf g.row.D (g.S.Shape.has c.args.shape.now) (g.S.Shape.crosses c.args.shape.now) (heads_of ps) v.tally)) (parts_are g c)
+    IfOk c.visit.result (λ v. IsCostOf g.row.D (g.S.Shape.has c.args.shape.now) (g.S.Shape.crosses c.args.shape.now) (heads_of ps) v.cost)) (parts_are g c)
     c.visit.ensures.counts
 
 pub returns-clause-tests : goal.returns-clause-tests
