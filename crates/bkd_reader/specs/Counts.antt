@@ -5,7 +5,7 @@ use Rattle.point_codec.specs.Cells.{left_of, right_of}
 use Rattle.cell_relate.specs.Relations.{is_outside}
 use Rattle.inner_pack.specs.Trees.{IndexTree, Leaf, Split, leaf_count}
 use Rattle.segment_file.specs.Heads.{Head, count_of}
-use Rattle.bkd_reader.specs.declared.costs.Cost.{Cost}
+use Rattle.bkd_reader.specs.declared.walk.Cost.{Cost}
 
 -- how many entries, live or dead, are in leaves whose own cell the shape crosses; the subtree's first leaf has this
 -- number

@@ -14,15 +14,6 @@ use cell_relate::{Relation, Shape};
 use inner_pack::NodeAt;
 use segment_file::SegmentHead;
 
-/// What a walk meets.
-#[derive(Clone, Copy, PartialEq, Eq, Debug)]
-pub struct Cost {
-    /// The entries, live or dead, of leaves whose own cell is crossed.
-    pub tested: u64,
-    /// The leaves whose own cell is not outside.
-    pub touched: u64,
-}
-
 /// What a walk would meet, and of how many leaves.
 #[derive(Clone, Copy, PartialEq, Eq, Debug)]
 pub struct Tally {

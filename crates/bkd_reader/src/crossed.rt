@@ -18,7 +18,8 @@ ghost use Rattle.bkd_reader.specs.Counts.{tested_entries};
 ghost use Rattle.bkd_reader.specs.Hits.{AreHits, Appends, Begins, hits_in};
 ghost use Rattle.bkd_reader.specs.Unread.{ReadsLeaf};
 
-use crate::costs::{Cost, entries_of};
+use crate::costs::entries_of;
+use crate::walk::Cost;
 use cell_relate::Shape;
 use inner_pack::NodeAt;
 use leaf_codec::LeafView;

@@ -10,5 +10,5 @@ mod crossed;
 mod inside;
 mod walk;
 
-pub use costs::{Cost, Tally, survey};
-pub use walk::intersect;
+pub use costs::{Tally, survey};
+pub use walk::{Cost, intersect};

@@ -20,7 +20,7 @@ ghost use Rattle.bkd_reader.specs.Counts.{tested_entries, touched_leaves, IsCost
 ghost use Rattle.bkd_reader.specs.Hits.{AreHits, Appends, Begins, hits_in};
 ghost use Rattle.bkd_reader.specs.Unread.{AreKept, IsAny, IsTouched, ReadsLeaves};
 
-use crate::costs::{Cost, leaves_below};
+use crate::costs::leaves_below;
 use crate::crossed::test_leaf;
 use crate::inside::collect_leaf;
 use cell_relate::{Relation, Shape};
@@ -30,6 +30,15 @@ use outer_io::Pages;
 use page_cache::{PageCache, PageFault};
 use segment_file::SegmentHead;
 use std::alloc::Global;
+
+/// What a walk meets.
+#[derive(Clone, Copy, PartialEq, Eq, Debug)]
+pub struct Cost {
+    /// The entries, live or dead, of leaves whose own cell is crossed.
+    pub tested: u64,
+    /// The leaves whose own cell is not outside.
+    pub touched: u64,
+}
 
 /// Appends the numbers of the live entries of the segment that the shape has, in the order of the leaves, and answers
 /// what the walk counts.

@@ -7,7 +7,7 @@ use Rattle.inner_pack.specs.Bodies.{Body, HasTree, IsSpelled}
 use Rattle.page_cache.specs.declared.faults.PageFault.{PageFault}
 use Rattle.segment_file.specs.Heads.{Head, HasRanges, count_of}
 use Rattle.bkd_reader.specs.Counts.{IsCost, tested_entries, touched_leaves}
-use Rattle.bkd_reader.specs.declared.costs.Cost.{Cost}
+use Rattle.bkd_reader.specs.declared.walk.Cost.{Cost}
 use Rattle.bkd_reader.proofs.Trees.{tree_count}
 use Rattle.segment_view.specs.Costs.{AreTested, AreTouched}
 use Rattle.segment_view.proofs.Counting.{counted_one, count-le, le_by_tree, tested-le, touched-le}

@@ -9,7 +9,7 @@ use Rattle.page_cache.specs.declared.faults.PageFault.{PageFault}
 use Rattle.page_cache.specs.Reading.{ReadsNothing}
 use Rattle.segment_file.specs.Heads.{Head, count_of}
 use Rattle.bkd_reader.specs.Counts.{tested_entries, touched_leaves}
-use Rattle.bkd_reader.specs.declared.costs.Cost.{Cost}
+use Rattle.bkd_reader.specs.declared.walk.Cost.{Cost}
 use Rattle.bkd_reader.specs.Unread.{AreKept, IsTouched}
 use Rattle.segment_view.specs.LiveSegments.{LiveSegment, heads_of}
 

@@ -15,7 +15,7 @@ use Rattle.segment_file.specs.Heads.{count_of}
 use Rattle.segment_file.proofs.Subtrees.{some_leaf}
 use Rattle.bkd_reader.specs.Below.{IsRoot}
 use Rattle.bkd_reader.specs.Counts.{touched_leaves}
-use Rattle.bkd_reader.specs.declared.costs.Cost.{Cost}
+use Rattle.bkd_reader.specs.declared.walk.Cost.{Cost}
 use Rattle.bkd_reader.specs.Hits.{AreHits, Appends}
 use Rattle.bkd_reader.proofs.Cells.{touched_all}
 use Rattle.bkd_reader.proofs.HitLemmas.{begins_on}

@@ -6,7 +6,7 @@ use Rattle.inner_pack.specs.Trees.{IndexTree}
 use Rattle.inner_pack.specs.Bodies.{HasTree}
 use Rattle.segment_file.specs.Heads.{Head, count_of}
 use Rattle.bkd_reader.specs.Counts.{IsCost, tested_entries, touched_leaves}
-use Rattle.bkd_reader.specs.declared.costs.Cost.{Cost}
+use Rattle.bkd_reader.specs.declared.walk.Cost.{Cost}
 use Rattle.bkd_reader.proofs.Trees.{tree_count}
 use Rattle.bkd_reader.proofs.Uncrossed.{asked_most}
 use Rattle.documents.specs.Entries.{numbers_found}
