@@ -91,7 +91,7 @@ pub returns-clause-kept : goal.returns-clause-kept
 returns-clause-kept g c = λ root t has kept. (c.intersect.ensures.reads root t has).none kept
 
 -- what the survey tells, as a cost
-surveyed : (g : given.Over) (c : goal.After-survey-tally g) → Cost
+abbrev surveyed : (g : given.Over) (c : goal.After-survey-tally g) → Cost
 surveyed g c = record { tested = c.survey-tally.result.tested; touched = c.survey-tally.result.touched }
 
 told_survey : (g : given.Over) (c : goal.After-survey-tally g) → (root : Region) (t : IndexTree) → HasTree g.row.D c.args.head.now.index root t
