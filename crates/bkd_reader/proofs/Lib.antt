@@ -1,7 +1,7 @@
 pub mod HitLemmas
 pub mod Cells
 pub mod Trees
-pub mod Beyond
+pub mod OutOfReach
 pub mod Unread
 pub mod Uncrossed
 pub mod Sums

@@ -127,7 +127,7 @@ damage_left D head first s d x l r (damage.Leaf file number offset len bytes) h 
 damage_left D head first s d x l r (damage.Body file bytes) h = h
 damage_left D head first s d x l r (damage.Missing file) h = h
 damage_left D head first s d x l r (damage.Unequal file said found) h = h
-damage_left D head first s d x l r (damage.Beyond doc next) h = h
+damage_left D head first s d x l r (damage.NotGiven doc next) h = h
 damage_left D head first s d x l r (damage.Doubled doc) h = h
 
 pub damage_right : (D : ℕ) (head : Head) (first : ℕ) (s : Spot) (d : ℕ) (x : ℤ) (l r : IndexTree) (e : Damage)
@@ -142,7 +142,7 @@ damage_right D head first s d x l r (damage.Leaf file number offset len bytes) h
 damage_right D head first s d x l r (damage.Body file bytes) h = h
 damage_right D head first s d x l r (damage.Missing file) h = h
 damage_right D head first s d x l r (damage.Unequal file said found) h = h
-damage_right D head first s d x l r (damage.Beyond doc next) h = h
+damage_right D head first s d x l r (damage.NotGiven doc next) h = h
 damage_right D head first s d x l r (damage.Doubled doc) h = h
 
 -- a fault that is handed on shows what it showed

@@ -22,14 +22,14 @@ use Rattle.bkd_top.specs.Checking.{Checks}
 use Rattle.bkd_top.specs.Commands.{ReadsFew}
 
 -- words of no command are told as that, unless memory was wanting, and no others are
-pub record TellsUsage (asked : Option Task) (s : Status) : Type 0 where
-  pub only : s ≡ status.Usage → asked ≡ None
-  pub told : asked ≡ None → (s ≡ status.Usage) ⊎ (s ≡ status.Memory)
+pub record TellsUsage (task : Option Task) (s : Status) : Type 0 where
+  pub only : s ≡ status.Usage → task ≡ None
+  pub told : task ≡ None → (s ≡ status.Usage) ⊎ (s ≡ status.Memory)
 
 -- where a command is asked for, this holds of it
 abbrev pub OnTask : (Task → Type 0) → Option Task → Type 0
 OnTask P None = Unit {0}
-OnTask P (Some asked) = P asked
+OnTask P (Some task) = P task
 
 -- ---- the input
 

@@ -51,12 +51,12 @@ is_session _ = false
 -- the whole input is read first
 abbrev pub reads_whole : Task → Bool
 reads_whole (Session cache forks) = false
-reads_whole asked = reads_input asked
+reads_whole task = reads_input task
 
 -- something is asked, and it is so
 abbrev pub does : (Task → Bool) → Option Task → Bool
 does test None = false
-does test (Some asked) = test asked
+does test (Some task) = test task
 
 -- ---- the place before
 

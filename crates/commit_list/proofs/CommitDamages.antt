@@ -9,7 +9,7 @@ use Rattle.page_cache.specs.Evidence.{FaultShows, IsCut, IsShort, SizeNeeds, Siz
 use Rattle.page_cache.specs.FirstPages.{first_name, first_payload, first_size, IsFirstPage}
 use Rattle.page_cache.specs.declared.first_page.FirstPage.{FirstPage}
 use Rattle.page_cache.specs.declared.faults.Damage.{Damage}
-use Rattle.page_cache.specs.declared.faults.Damage.TheVariants.{Page, Leaf, Body, Missing, Size, Unequal, Beyond, Doubled}
+use Rattle.page_cache.specs.declared.faults.Damage.TheVariants.{Page, Leaf, Body, Missing, Size, Unequal, NotGiven, Doubled}
 use Rattle.page_cache.specs.declared.faults.PageFault.{PageFault}
 use Rattle.page_cache.specs.declared.faults.PageFault.TheVariants.{Failed, Damaged, Memory}
 use Rattle.page_cache.proofs.Damages.{other_size, short_of_cut, not_cut}
@@ -27,7 +27,7 @@ commit_damage_of files needs (Body file bytes) there cut named within h = absurd
 commit_damage_of files needs (Missing file) there cut named within h = absurd (there (subst (λ (name : FileName). files name ≡ None) named h))
 commit_damage_of files needs (Size file size needed) there cut named within h = inl (cut file size needed named.0 within h)
 commit_damage_of files needs (Unequal file said found) there cut named within h = absurd h
-commit_damage_of files needs (Beyond doc next) there cut named within h = absurd h
+commit_damage_of files needs (NotGiven doc next) there cut named within h = absurd h
 commit_damage_of files needs (Doubled doc) there cut named within h = absurd h
 
 commit_fault_of : (files : Files) (needs : Damage → Type 0) (f : PageFault) → (files Commit ≡ None → FaultShows (λ _. ⊥) f)
@@ -69,5 +69,5 @@ commit_size_of files p len pages (Missing file) first begins e h = absurd h
 commit_size_of files p len pages (Size file size needed) first begins e h =
     other_size AsksCommit files p pages file size needed first (record { len = len; begins = begins; pages_are = e }) h
 commit_size_of files p len pages (Unequal file said found) first begins e h = absurd h
-commit_size_of files p len pages (Beyond doc next) first begins e h = absurd h
+commit_size_of files p len pages (NotGiven doc next) first begins e h = absurd h
 commit_size_of files p len pages (Doubled doc) first begins e h = absurd h

@@ -3,7 +3,7 @@ use Rattle.std.specs.Prelude.{List, ℕ, ◌++◌, codes, decimal}
 use Rattle.outer_io.specs.Names.{name_text}
 use Rattle.outer_io.specs.declared.file_name.FileName.{FileName}
 use Rattle.page_cache.specs.declared.faults.Damage.{Damage}
-use Rattle.page_cache.specs.declared.faults.Damage.TheVariants.{Page, Leaf, Body, Missing, Size, Unequal, Beyond}
+use Rattle.page_cache.specs.declared.faults.Damage.TheVariants.{Page, Leaf, Body, Missing, Size, Unequal, NotGiven}
 use Rattle.page_cache.specs.declared.faults.Damage.TheVariants.{Doubled}
 
 -- how long a file is, and how long it must be
@@ -21,5 +21,5 @@ damage_text (Missing file) = name_text file ++ codes " missing"
 damage_text (Size file size needed) = size_text file size needed
 damage_text (Unequal file said found) =
     name_text file ++ codes " says " ++ decimal said ++ codes ", found " ++ decimal found
-damage_text (Beyond doc next) = codes "document " ++ decimal doc ++ codes " beyond " ++ decimal next
+damage_text (NotGiven doc next) = codes "document " ++ decimal doc ++ codes " beyond " ++ decimal next
 damage_text (Doubled doc) = codes "document " ++ decimal doc ++ codes " twice"

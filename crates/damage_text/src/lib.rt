@@ -30,7 +30,7 @@ pub fn put_damage(text: &mut String, damage: &Damage) -> Result<(), Memory>
         Damage::Missing { file } => write!(text, "{file} missing"),
         Damage::Size { file, size, needed } => put_size(text, file, *size, *needed),
         Damage::Unequal { file, said, found } => write!(text, "{file} says {said}, found {found}"),
-        Damage::Beyond { doc, next } => write!(text, "document {doc} beyond {next}"),
+        Damage::NotGiven { doc, next } => write!(text, "document {doc} beyond {next}"),
         Damage::Doubled { doc } => write!(text, "document {doc} twice"),
     }
 }

@@ -67,24 +67,24 @@ counted_one sets next limit n marks h lt = subst (λ (m : ℕ). m ≤ 1) (h.coun
     one false = omega arith
 
 -- from next on none is live below the limit; the limit is, if it isn't the end of all numbers
-pub record IsBeyond (sets : List LiveSet) (next limit : ℕ) : Type 0 where
+pub record IsLeastNotGiven (sets : List LiveSet) (next limit : ℕ) : Type 0 where
   pub within : limit ≤ 2 ^ 24
   pub before : (n : ℕ) → next ≤ n → n < limit → places n sets ≡ 0
   pub found : limit < 2 ^ 24 → (next ≤ limit) × (1 ≤ places limit sets)
   pub above : (n : ℕ) → 2 ^ 24 ≤ n → places n sets ≡ 0
 
-pub beyond_none : (next : ℕ) → IsBeyond [] next (2 ^ 24)
-beyond_none next = record {
+pub not_given_none : (next : ℕ) → IsLeastNotGiven [] next (2 ^ 24)
+not_given_none next = record {
   within = omega arith;
   before = λ n le lt. refl;
   found = λ lt. absurd (omega (arith, lt));
   above = λ n le. refl;
 }
 
-pub beyond_more : (sets : List LiveSet) (i next limit r : ℕ) (s : LiveSet) → i < length sets → s ≡ get_or sets i s → IsBeyond (take i sets) next limit
+pub not_given_more : (sets : List LiveSet) (i next limit r : ℕ) (s : LiveSet) → i < length sets → s ≡ get_or sets i s → IsLeastNotGiven (take i sets) next limit
     → r ≤ limit → AreDead s next r → (r < limit → (next ≤ r) × (is_live s r ≡ true)) → ((n : ℕ) → 2 ^ 24 ≤ n → is_live s n ≡ false)
-    → IsBeyond (take (i + 1) sets) next r
-beyond_more sets i next limit r s lt is h le none found above = record {
+    → IsLeastNotGiven (take (i + 1) sets) next r
+not_given_more sets i next limit r s lt is h le none found above = record {
   within = let within = h.within in omega arith;
   before = λ n high low. places_more n sets i s lt is ∙ (λ j. h.before n high (omega arith) j + cond (none n high low j) 1 0);
   found = λ under. elim (cases_lt r limit) [

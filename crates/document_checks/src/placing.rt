@@ -14,7 +14,7 @@ use point_codec::MOST_POINTS;
 use std::alloc::Global;
 
 /// The least live number that isn't below `next` or is live in two of the sets, if there is one. A number of which
-/// both hold is told as Beyond. The sets are gone through once, a word of their bits at a time, and the call takes
+/// both hold is told as NotGiven. The sets are gone through once, a word of their bits at a time, and the call takes
 /// memory of a bit for each number below `next`.
 pub fn misplaced(alloc: Global, lives: &[LiveBits], next: u32) -> Result<Option<Misplaced>, Memory>
     requires { next ≤ 2 ^ 24 }
@@ -28,7 +28,7 @@ pub fn misplaced(alloc: Global, lives: &[LiveBits], next: u32) -> Result<Option<
     }
     let beyond = least_beyond(lives, next);
     if beyond < MOST_POINTS {
-        return Ok(Some(Misplaced::Beyond(beyond)));
+        return Ok(Some(Misplaced::NotGiven(beyond)));
     }
     Ok(None)
 }

@@ -4,7 +4,7 @@
 #[derive(Clone, Copy, PartialEq, Eq, Debug)]
 pub enum Misplaced {
     /// It is not below the next number.
-    Beyond(u32),
+    NotGiven(u32),
     /// It is live in two segments.
     Doubled(u32),
 }

@@ -5,7 +5,7 @@ use Rattle.std.proofs.lemmas.List.Elements.{All-cons, All-nil}
 use Rattle.outer_io.specs.declared.file_name.FileName.TheVariants.{Commit}
 use Rattle.outer_io.specs.Files.{Files, bytes_of}
 use Rattle.page_cache.specs.declared.faults.Damage.{Damage}
-use Rattle.page_cache.specs.declared.faults.Damage.TheVariants.{Page, Leaf, Body, Missing, Size, Unequal, Beyond, Doubled}
+use Rattle.page_cache.specs.declared.faults.Damage.TheVariants.{Page, Leaf, Body, Missing, Size, Unequal, NotGiven, Doubled}
 use Rattle.page_cache.specs.declared.faults.PageFault.{PageFault}
 use Rattle.page_cache.specs.Evidence.{FaultShows, OnDamage}
 use Rattle.page_cache.proofs.Damages.{fault_weaker, on_damage_weaker}
@@ -72,7 +72,7 @@ of_commit (Size file size needed) h = h.0
 of_commit (Body file bytes) h = h.0
 of_commit (Leaf file number offset len bytes) h = absurd h
 of_commit (Unequal file said found) h = absurd h
-of_commit (Beyond doc next) h = absurd h
+of_commit (NotGiven doc next) h = absurd h
 of_commit (Doubled doc) h = absurd h
 
 pub commit_is_first : (T : Type 0) (files : Files) (f : PageFault) → FaultShows IsCommitDamage f → FaultShows (IsFirst T files) f

@@ -31,7 +31,7 @@ use Rattle.document_checks.specs.Crowded.{AreFew, IsLeastCrowded}
 use Rattle.document_checks.proofs.Once.{never_crowded, pairs_from}
 use Rattle.index_opening.specs.Opened.{IsOpened}
 use Rattle.folder_check.specs.declared.findings.Finding.{Finding}
-use Rattle.folder_check.specs.Found.{AreFine, IsFinding, Beyond, Crowding, HasAll, IsBeyondGiven, IsCrowding, IsLacking, IsWrong, Lacking, all_entries}
+use Rattle.folder_check.specs.Found.{AreFine, IsFinding, TooMany, Crowding, HasAll, IsMoreThanGiven, IsCrowding, IsLacking, IsWrong, Lacking, all_entries}
 use Rattle.folder_check.proofs.Entries.{number_live, one_fails}
 use Rattle.folder_check.proofs.Gathered.{HoldsBut, IsFoundIn, IsTalliedIn, all_held, all_tallied, entries_found, gathered, gathered_found}
 use Rattle.folder_check.proofs.Gathered.{gathered_holds, gathered_lives}
@@ -158,15 +158,15 @@ module _ (files : Files) (c : CommitData) (held : List SegmentData) (findings : 
         (λ docs are few. never_crowded c.next number (live_entries e) crowded.crowded
         (All-contains (λ (d : SegmentData). MakeDocs c.next (live_entries d)) held e (each_of_docs c.next held docs are) at.1))
 
-    beyond_undefined : AllZip HasAll c.listed findings → (d : Damage) → IsBeyondGiven c.points_given findings d → IsUndefined files
-    beyond_undefined all d b =
+    too_many_undefined : AllZip HasAll c.listed findings → (d : Damage) → IsMoreThanGiven c.points_given findings d → IsUndefined files
+    too_many_undefined all d b =
         no_documents once files c held g.says (all_held files c c.listed held findings g.but g.found all)
         (λ docs are few. omega (arith, few, b.more, b.is (entries_fit all), entries_found held findings (tallied all)))
 
     pub wrong_undefined : (d : Damage) → IsWrong c.listed c.points_given findings d → IsUndefined files
     wrong_undefined d (Lacking l) = lacking_undefined d l
     wrong_undefined d (Crowding all crowd) = crowding_undefined all d crowd
-    wrong_undefined d (Beyond all none b) = beyond_undefined all d b
+    wrong_undefined d (TooMany all none b) = too_many_undefined all d b
 
 -- it is known where all segments are opened and their leaves are read
 pub gather_all : (T : Type 0) (D : ℕ) (files : Files) (c : CommitData) (parts : List LiveSegment) (findings : List Finding) → T → c.dims ≡ D

@@ -20,7 +20,7 @@ use Rattle.document_checks.specs.Crowded.{IsLeastCrowded}
 use Rattle.index_opening.specs.Evidence.{HasNoBody, HoldsEntries, InSegment, IsEvident, IsHeadIn, IsTrueOf, IsTwice, LacksLeaf}
 use Rattle.index_opening.specs.Evidence.{InCommit, InLive, IsFilePair, IsFound, NamesLooked, OfFiles}
 use Rattle.folder_check.specs.declared.findings.Finding.{Finding}
-use Rattle.folder_check.specs.Found.{Beyond, Crowding, HasAll, IsBeyondGiven, IsCrowding, IsLacking, IsWrong, Lacking}
+use Rattle.folder_check.specs.Found.{TooMany, Crowding, HasAll, IsMoreThanGiven, IsCrowding, IsLacking, IsWrong, Lacking}
 use Rattle.folder_check.proofs.Gathered.{HoldsBut, IsFoundIn, IsTalliedIn, all_held, all_tallied, entries_found}
 use Rattle.folder_check.proofs.Judged.{AreGathered, entries_fit}
 use Rattle.folder_check.proofs.Pairs.{get_in, zip_at, zip_over}
@@ -29,7 +29,7 @@ wrong_shows : (P : ℕ → Head → Type 0) (listed : List Listed) (points_given
     → IsShown (LacksLeaf P) HasNoBody d
 wrong_shows P listed points_given findings d (Lacking l) = subst (IsShown (LacksLeaf P) HasNoBody) (sym l.tells) l.apart
 wrong_shows P listed points_given findings d (Crowding all (number, tells, least)) = subst (IsShown (LacksLeaf P) HasNoBody) (sym tells) tt
-wrong_shows P listed points_given findings d (Beyond all none b) =
+wrong_shows P listed points_given findings d (TooMany all none b) =
     subst (IsShown (LacksLeaf P) HasNoBody) (sym b.tells) (let more = b.more in let apart : points_given ≢ b.found = omega arith in apart)
 
 module _ (files : Files) (c : CommitData) (held : List SegmentData) (findings : List Finding) (g : AreGathered files c held findings) where
@@ -58,7 +58,7 @@ module _ (files : Files) (c : CommitData) (held : List SegmentData) (findings : 
         crowded = crowded.crowded;
       }))
 
-  given_pair : AllZip HasAll c.listed findings → (d : Damage) (b : IsBeyondGiven c.points_given findings d) → IsFilePair files Commit c.points_given b.found
+  given_pair : AllZip HasAll c.listed findings → (d : Damage) (b : IsMoreThanGiven c.points_given findings d) → IsFilePair files Commit c.points_given b.found
   given_pair all d b =
       InCommit c g.says held (all_held files c c.listed held findings g.but g.found all) refl refl
       (b.is (entries_fit files c held findings g all) ∙ entries_found held findings (tallied all))
@@ -66,12 +66,12 @@ module _ (files : Files) (c : CommitData) (held : List SegmentData) (findings : 
   wrong_carried : (d : Damage) → IsWrong c.listed c.points_given findings d → IsTrueOf (IsTwice files) files d
   wrong_carried d (Lacking l) = subst (IsTrueOf (IsTwice files) files) (sym l.tells) (OfFiles (lacking_pair d l))
   wrong_carried d (Crowding all crowd) = crowding_carried all d crowd
-  wrong_carried d (Beyond all none b) = subst (IsTrueOf (IsTwice files) files) (sym b.tells) (OfFiles (given_pair all d b))
+  wrong_carried d (TooMany all none b) = subst (IsTrueOf (IsTwice files) files) (sym b.tells) (OfFiles (given_pair all d b))
 
   wrong_named : (d : Damage) → IsWrong c.listed c.points_given findings d → NamesLooked files d
   wrong_named d (Lacking l) = subst (NamesLooked files) (sym l.tells) (lacking_pair d l)
   wrong_named d (Crowding all (number, tells, least)) = subst (NamesLooked files) (sym tells) tt
-  wrong_named d (Beyond all none b) = subst (NamesLooked files) (sym b.tells) (given_pair all d b)
+  wrong_named d (TooMany all none b) = subst (NamesLooked files) (sym b.tells) (given_pair all d b)
 
 wrong_evident : (T : Type 0) (files : Files) (c : CommitData) (findings : List Finding) (d : Damage)
     → (T → (held : List SegmentData) × AreGathered files c held findings) → IsWrong c.listed c.points_given findings d → IsEvident T files d

@@ -81,7 +81,7 @@ abbrev pub all_entries : List Finding → ℕ
 all_entries findings = sum_by (λ f. f.entries) findings
 
 -- the damage is that they are more than the points given
-pub record IsBeyondGiven (points_given : ℕ) (findings : List Finding) (d : Damage) : Type 0 where
+pub record IsMoreThanGiven (points_given : ℕ) (findings : List Finding) (d : Damage) : Type 0 where
   pub found : ℕ
   pub more : points_given < found
   pub is : all_entries findings < 2 ^ 64 → found ≡ all_entries findings
@@ -97,5 +97,5 @@ pub record AreFine (listed : List Listed) (points_given : ℕ) (findings : List 
 pub data IsWrong (listed : List Listed) (points_given : ℕ) (findings : List Finding) (d : Damage) : Type 0 where
   Lacking : IsLacking listed findings d → IsWrong listed points_given findings d
   Crowding : AllZip HasAll listed findings → IsCrowding findings d → IsWrong listed points_given findings d
-  Beyond : AllZip HasAll listed findings → All (λ f. f.crowded ≡ None) findings → IsBeyondGiven points_given findings d
-      → IsWrong listed points_given findings d
+  TooMany : AllZip HasAll listed findings → All (λ f. f.crowded ≡ None) findings
+      → IsMoreThanGiven points_given findings d → IsWrong listed points_given findings d

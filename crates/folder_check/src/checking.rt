@@ -32,7 +32,7 @@ use std::alloc::Global;
 ///
 /// - that of the Commit file;
 /// - of the segments in order of id, that of the head and the index, and then of the live bits;
-/// - the least live number that isn't below the next number (Beyond) or is live in two segments (Doubled);
+/// - the least live number that isn't below the next number (NotGiven) or is live in two segments (Doubled);
 /// - the first page or leaf of the segments in order;
 /// - the first segment in which a live number has no entry (Unequal, its file of live bits);
 /// - the least live number that has one point twice or more than 16 entries (Doubled);

@@ -5,7 +5,7 @@ ghost use Rattle.std.specs.List.{AllZip};
 ghost use Rattle.page_cache.specs.declared.faults.Damage.TheVariants as damage;
 ghost use Rattle.page_cache.specs.declared.faults.PageFault.TheVariants as page;
 ghost use Rattle.page_cache.specs.Evidence.{OnDamage};
-ghost use Rattle.folder_check.specs.Found.{AreFine, HasAll, IsWrong, IsLacking, IsCrowding, IsLeastOf, IsBeyondGiven};
+ghost use Rattle.folder_check.specs.Found.{AreFine, HasAll, IsWrong, IsLacking, IsCrowding, IsLeastOf, IsMoreThanGiven};
 ghost use Rattle.folder_check.specs.Found.{all_entries, lesser};
 
 use commit_list::Listed;
@@ -107,7 +107,7 @@ fn lesser(a: Option<u32>, b: Option<u32>) -> Option<u32>
 /// named.
 fn check_given(points_given: u32, findings: &[Finding]) -> Result<(), PageFault>
     ensures few { OnOk result (all_entries findings.now ≤ points_given) }
-    ensures more { OnDamage result (IsBeyondGiven points_given findings.now) }
+    ensures more { OnDamage result (IsMoreThanGiven points_given findings.now) }
     ensures no_fault { IsErrOf result page.Failed → ⊥ }
 {
     let entries = live_entries(findings);

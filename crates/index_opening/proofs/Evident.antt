@@ -11,7 +11,7 @@ use Rattle.point_codec.specs.Points.{Region}
 use Rattle.live_bits.specs.LiveSet.{LiveSet}
 use Rattle.page_cache.specs.Evidence.{OnDamage, NotDamaged, IsCut, IsShown, IsSizeOf}
 use Rattle.page_cache.specs.declared.faults.Damage.{Damage}
-use Rattle.page_cache.specs.declared.faults.Damage.TheVariants.{Page, Leaf, Body, Missing, Size, Unequal, Beyond, Doubled}
+use Rattle.page_cache.specs.declared.faults.Damage.TheVariants.{Page, Leaf, Body, Missing, Size, Unequal, NotGiven, Doubled}
 use Rattle.page_cache.specs.declared.faults.PageFault.{PageFault}
 use Rattle.page_cache.specs.declared.faults.PageFault.TheVariants.{Failed, Damaged, Memory}
 use Rattle.page_cache.proofs.Damages.{on_damage_weaker}
@@ -80,7 +80,7 @@ evident_twice V W S T files d back more h = record {
     merely_carried t (Missing file) c = merely c
     merely_carried t (Size file size needed) c = merely c
     merely_carried t (Unequal file said found) c = merely c
-    merely_carried t (Beyond doc next) c = merely c
+    merely_carried t (NotGiven doc next) c = merely c
 
 pub on_evident_twice : {X : Type 0} (V W : ℕ → Type 0) (S T : Type 0) (files : Files) (r : Result X PageFault) → (T → S) → (T → (doc : ℕ) → V doc → ∥ W doc ∥₁)
     → OnDamage r (IsEvidentWith V S files)
@@ -111,7 +111,7 @@ leaf_shows P D head root tree is has (Size file size needed) h = let short : siz
 leaf_shows P D head root tree is has (Body file bytes) h = absurd h
 leaf_shows P D head root tree is has (Missing file) h = absurd h
 leaf_shows P D head root tree is has (Unequal file said found) h = absurd h
-leaf_shows P D head root tree is has (Beyond doc next) h = absurd h
+leaf_shows P D head root tree is has (NotGiven doc next) h = absurd h
 leaf_shows P D head root tree is has (Doubled doc) h = absurd h
 
 -- the head is that of its file, which has the pages of all leaves then
@@ -125,7 +125,7 @@ leaf_carried W D files head root tree is has (Size file size needed) shown h =
 leaf_carried W D files head root tree is has (Body file bytes) shown h = absurd h
 leaf_carried W D files head root tree is has (Missing file) shown h = absurd h
 leaf_carried W D files head root tree is has (Unequal file said found) shown h = absurd h
-leaf_carried W D files head root tree is has (Beyond doc next) shown h = absurd h
+leaf_carried W D files head root tree is has (NotGiven doc next) shown h = absurd h
 leaf_carried W D files head root tree is has (Doubled doc) shown h = absurd h
 
 -- of a segment that is read, whose head is that of its file
@@ -161,9 +161,9 @@ pages_asked : (files : Files) (file : FileName) (size needed : ℕ) → IsSizeOf
 pages_asked files (Segment id) size needed h = h
 pages_asked files (Live segment generation) size needed h = h
 pages_asked files Commit size needed (inl h) = inl h
-pages_asked files Commit size needed (inr h) = absurd h.asked
+pages_asked files Commit size needed (inr h) = absurd h.first_asks
 pages_asked files CommitNew size needed (inl h) = inl h
-pages_asked files CommitNew size needed (inr h) = absurd h.asked
+pages_asked files CommitNew size needed (inr h) = absurd h.first_asks
 
 head_carried : (files : Files) (c : CommitData) → IsCommitFile (bytes_of (files Commit)) c → (s : Listed) → Contains c.listed s
     → (d : Damage) → IsHeadDamage s.segment d → IsHeadDamageOf c.dims files d
@@ -175,7 +175,7 @@ head_carried files c says s there (Size file size needed) named h =
 head_carried files c says s there (Body file bytes) named h = (h, inr (segment_listed files c s file says there named.0))
 head_carried files c says s there (Unequal file said found) named h = OfFiles (InHead c says s there named.0 h)
 head_carried files c says s there (Leaf file number offset len bytes) named h = absurd h
-head_carried files c says s there (Beyond doc next) named h = absurd h
+head_carried files c says s there (NotGiven doc next) named h = absurd h
 head_carried files c says s there (Doubled doc) named h = absurd h
 
 live_carried : (files : Files) (c : CommitData) → IsCommitFile (bytes_of (files Commit)) c → (s : Listed) → Contains c.listed s
@@ -188,7 +188,7 @@ live_carried files c says s there (Size file size needed) named h =
 live_carried files c says s there (Body file bytes) named h = (h, inr (live_listed files c s file says there named.0))
 live_carried files c says s there (Unequal file said found) named h = absurd h
 live_carried files c says s there (Leaf file number offset len bytes) named h = absurd h
-live_carried files c says s there (Beyond doc next) named h = absurd h
+live_carried files c says s there (NotGiven doc next) named h = absurd h
 live_carried files c says s there (Doubled doc) named h = absurd h
 
 unequal_carried : (files : Files) (c : CommitData) → IsCommitFile (bytes_of (files Commit)) c → (s : Listed) → Contains c.listed s → (d : Damage)
@@ -199,12 +199,12 @@ unequal_carried files c says s there (Leaf file number offset len bytes) h = abs
 unequal_carried files c says s there (Body file bytes) h = absurd h
 unequal_carried files c says s there (Missing file) h = absurd h
 unequal_carried files c says s there (Size file size needed) h = absurd h
-unequal_carried files c says s there (Beyond doc next) h = absurd h
+unequal_carried files c says s there (NotGiven doc next) h = absurd h
 unequal_carried files c says s there (Doubled doc) h = absurd h
 
 misplaced_carried : (files : Files) (c : CommitData) → IsCommitFile (bytes_of (files Commit)) c → (sets : List LiveSet) → HaveLive files c sets → (d : Damage)
     → IsMisplaced (λ doc. 1 ≤ places doc sets) (λ doc. 2 ≤ places doc sets) c.next d → IsTrueOf (IsTwice files) files d
-misplaced_carried files c says sets live (Beyond doc next) h = record { commit = c; says = says; next_is = h.0; sets = sets; live = live; there = h.2 }
+misplaced_carried files c says sets live (NotGiven doc next) h = record { commit = c; says = says; next_is = h.0; sets = sets; live = live; there = h.2 }
 misplaced_carried files c says sets live (Doubled doc) h = InSets c says sets live h
 misplaced_carried files c says sets live (Page file number bytes) h = absurd h
 misplaced_carried files c says sets live (Leaf file number offset len bytes) h = absurd h
@@ -242,7 +242,7 @@ commit_shows P (Size file size needed) h = h.1
 commit_shows P (Body file bytes) h = subst (λ (name : FileName). HasNoBody name bytes) (sym h.0) h.1
 commit_shows P (Leaf file number offset len bytes) h = absurd h
 commit_shows P (Unequal file said found) h = absurd h
-commit_shows P (Beyond doc next) h = absurd h
+commit_shows P (NotGiven doc next) h = absurd h
 commit_shows P (Doubled doc) h = absurd h
 
 commit_carried : (files : Files) (d : Damage) → IsCommitDamage d → IsCommitDamageOf files d → IsTrueOf (IsTwice files) files d
@@ -255,7 +255,7 @@ commit_carried files (Size file size needed) shown h = (
 commit_carried files (Body file bytes) shown h = (h, inl shown.0)
 commit_carried files (Leaf file number offset len bytes) shown h = absurd h
 commit_carried files (Unequal file said found) shown h = absurd h
-commit_carried files (Beyond doc next) shown h = absurd h
+commit_carried files (NotGiven doc next) shown h = absurd h
 commit_carried files (Doubled doc) shown h = absurd h
 
 pub commit_evident : (T : Type 0) (files : Files) (d : Damage) → (T → IsCommitDamageOf files d) → IsCommitDamage d → IsEvident T files d

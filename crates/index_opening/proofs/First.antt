@@ -6,7 +6,7 @@ use Rattle.outer_io.specs.declared.file_name.FileName.{FileName}
 use Rattle.outer_io.specs.declared.file_name.FileName.TheVariants.{Segment, Live}
 use Rattle.outer_io.specs.Files.{Files}
 use Rattle.page_cache.specs.declared.faults.Damage.{Damage}
-use Rattle.page_cache.specs.declared.faults.Damage.TheVariants.{Page, Leaf, Body, Missing, Size, Unequal, Beyond, Doubled}
+use Rattle.page_cache.specs.declared.faults.Damage.TheVariants.{Page, Leaf, Body, Missing, Size, Unequal, NotGiven, Doubled}
 use Rattle.page_cache.specs.declared.faults.PageFault.{PageFault}
 use Rattle.page_cache.specs.Evidence.{FaultShows}
 use Rattle.page_cache.proofs.Damages.{fault_weaker}
@@ -25,7 +25,7 @@ of_head id (Body file bytes) h = h.0
 of_head id (Missing file) h = h
 of_head id (Size file size needed) h = h.0
 of_head id (Unequal file said found) h = h.0
-of_head id (Beyond doc next) h = absurd h
+of_head id (NotGiven doc next) h = absurd h
 of_head id (Doubled doc) h = absurd h
 
 of_live : (segment generation : ℕ) (d : Damage) → IsLiveDamage segment generation d → IsOfFile (Live segment generation) d
@@ -35,7 +35,7 @@ of_live segment generation (Body file bytes) h = h.0
 of_live segment generation (Missing file) h = h
 of_live segment generation (Size file size needed) h = h.0
 of_live segment generation (Unequal file said found) h = absurd h
-of_live segment generation (Beyond doc next) h = absurd h
+of_live segment generation (NotGiven doc next) h = absurd h
 of_live segment generation (Doubled doc) h = absurd h
 
 of_pair : (name : FileName) (m n : ℕ) (d : Damage) → IsPairDamage name m n d × (m ≢ n) → IsOfFile name d
@@ -45,7 +45,7 @@ of_pair name m n (Body file bytes) h = absurd h.0
 of_pair name m n (Missing file) h = absurd h.0
 of_pair name m n (Size file size needed) h = absurd h.0
 of_pair name m n (Unequal file said found) h = h.0.0
-of_pair name m n (Beyond doc next) h = absurd h.0
+of_pair name m n (NotGiven doc next) h = absurd h.0
 of_pair name m n (Doubled doc) h = absurd h.0
 
 pub head_of : (id : ℕ) (f : PageFault) → FaultShows (IsHeadDamage id) f → FaultShows (IsOfFile (Segment id)) f

@@ -7,7 +7,7 @@ use Rattle.outer_io.specs.Files.{Files, bytes_of}
 use Rattle.live_bits.specs.LiveSet.{LiveSet, is_live}
 use Rattle.documents.specs.Documents.{Document}
 use Rattle.page_cache.specs.declared.faults.Damage.{Damage}
-use Rattle.page_cache.specs.declared.faults.Damage.TheVariants.{Page, Leaf, Body, Missing, Size, Unequal, Beyond, Doubled}
+use Rattle.page_cache.specs.declared.faults.Damage.TheVariants.{Page, Leaf, Body, Missing, Size, Unequal, NotGiven, Doubled}
 use Rattle.page_cache.specs.declared.faults.PageFault.{PageFault}
 use Rattle.page_cache.specs.declared.faults.PageFault.TheVariants as page
 use Rattle.page_cache.specs.Evidence.{FaultShows}
@@ -44,7 +44,7 @@ unequal_shown s name m n here (Leaf file number offset len bytes) (pair, apart) 
 unequal_shown s name m n here (Body file bytes) (pair, apart) = absurd pair
 unequal_shown s name m n here (Missing file) (pair, apart) = absurd pair
 unequal_shown s name m n here (Size file size needed) (pair, apart) = absurd pair
-unequal_shown s name m n here (Beyond doc next) (pair, apart) = absurd pair
+unequal_shown s name m n here (NotGiven doc next) (pair, apart) = absurd pair
 unequal_shown s name m n here (Doubled doc) (pair, apart) = absurd pair
 
 pub unequal_of : (files : Files) (c : CommitData) (s : Listed) (name : FileName) (m n : ℕ) → IsPair files c s name m n → (d : Damage)
@@ -57,7 +57,7 @@ unequal_of files c s name m n is (Leaf file number offset len bytes) (pair, apar
 unequal_of files c s name m n is (Body file bytes) (pair, apart) = absurd pair
 unequal_of files c s name m n is (Missing file) (pair, apart) = absurd pair
 unequal_of files c s name m n is (Size file size needed) (pair, apart) = absurd pair
-unequal_of files c s name m n is (Beyond doc next) (pair, apart) = absurd pair
+unequal_of files c s name m n is (NotGiven doc next) (pair, apart) = absurd pair
 unequal_of files c s name m n is (Doubled doc) (pair, apart) = absurd pair
 
 pub leaf_pair : (files : Files) (c : CommitData) (s : Listed) (head : Head) (m n : ℕ) → HasHead c.dims files s head → m ≡ c.leaf_size → n ≡ head.leaf_size
@@ -123,7 +123,7 @@ pub listed_of : (files : Files) (c : CommitData) (d : Damage) → (s : Listed) �
 listed_of files c d (s, there, true_of) = inl (s, there, true_of)
 
 pub misplaced_shown : (P Q : ℕ → Type 0) (c : CommitData) (d : Damage) → IsMisplaced P Q c.next d → IsAttachDamage c d
-misplaced_shown P Q c (Beyond doc next) h = inr (h.0, h.1, tt)
+misplaced_shown P Q c (NotGiven doc next) h = inr (h.0, h.1, tt)
 misplaced_shown P Q c (Doubled doc) h = inr tt
 misplaced_shown P Q c (Page file number bytes) h = absurd h
 misplaced_shown P Q c (Leaf file number offset len bytes) h = absurd h
@@ -134,7 +134,7 @@ misplaced_shown P Q c (Unequal file said found) h = absurd h
 
 pub placed_right : (sets : List LiveSet) (n : ℕ) → ((number : ℕ) → places number sets ≤ 1) → ((number : ℕ) → n ≤ number → places number sets ≡ 0)
     → (d : Damage) → IsMisplaced (λ doc. 1 ≤ places doc sets) (λ doc. 2 ≤ places doc sets) n d → ⊥
-placed_right sets n alone below (Beyond doc next) h = omega (arith, h.2, below doc h.1)
+placed_right sets n alone below (NotGiven doc next) h = omega (arith, h.2, below doc h.1)
 placed_right sets n alone below (Doubled doc) h = omega (arith, h, alone doc)
 placed_right sets n alone below (Page file number bytes) h = h
 placed_right sets n alone below (Leaf file number offset len bytes) h = h

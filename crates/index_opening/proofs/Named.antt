@@ -9,7 +9,7 @@ use Rattle.outer_io.specs.Files.{Files, bytes_of}
 use Rattle.point_codec.specs.Points.{Region}
 use Rattle.page_cache.specs.Evidence.{FaultShows}
 use Rattle.page_cache.specs.declared.faults.Damage.{Damage}
-use Rattle.page_cache.specs.declared.faults.Damage.TheVariants.{Page, Leaf, Body, Missing, Size, Unequal, Beyond, Doubled}
+use Rattle.page_cache.specs.declared.faults.Damage.TheVariants.{Page, Leaf, Body, Missing, Size, Unequal, NotGiven, Doubled}
 use Rattle.page_cache.specs.declared.faults.PageFault.{PageFault}
 use Rattle.page_cache.proofs.Damages.{fault_both, fault_weaker}
 use Rattle.inner_pack.specs.Places.{front}
@@ -36,7 +36,7 @@ leaf_named D files head root tree listed (Size file size needed) h = inr (subst 
 leaf_named D files head root tree listed (Body file bytes) h = absurd h
 leaf_named D files head root tree listed (Missing file) h = absurd h
 leaf_named D files head root tree listed (Unequal file said found) h = absurd h
-leaf_named D files head root tree listed (Beyond doc next) h = absurd h
+leaf_named D files head root tree listed (NotGiven doc next) h = absurd h
 leaf_named D files head root tree listed (Doubled doc) h = absurd h
 
 pub part_found : (D : ℕ) (files : Files) (parts : List LiveSegment) (f : PageFault)
@@ -57,7 +57,7 @@ head_named files c says s there (Size file size needed) named h = inr (segment_l
 head_named files c says s there (Body file bytes) named h = inr (segment_listed files c s file says there named.0)
 head_named files c says s there (Unequal file said found) named h = InHead c says s there named.0 h
 head_named files c says s there (Leaf file number offset len bytes) named h = absurd h
-head_named files c says s there (Beyond doc next) named h = absurd h
+head_named files c says s there (NotGiven doc next) named h = absurd h
 head_named files c says s there (Doubled doc) named h = absurd h
 
 live_named : (files : Files) (c : CommitData) → IsCommitFile (bytes_of (files Commit)) c → (s : Listed) → Contains c.listed s
@@ -68,7 +68,7 @@ live_named files c says s there (Size file size needed) named = inr (live_listed
 live_named files c says s there (Body file bytes) named = inr (live_listed files c s file says there named.0)
 live_named files c says s there (Unequal file said found) named = absurd named
 live_named files c says s there (Leaf file number offset len bytes) named = absurd named
-live_named files c says s there (Beyond doc next) named = absurd named
+live_named files c says s there (NotGiven doc next) named = absurd named
 live_named files c says s there (Doubled doc) named = absurd named
 
 unequal_named : (files : Files) (c : CommitData) → IsCommitFile (bytes_of (files Commit)) c → (s : Listed) → Contains c.listed s
@@ -79,11 +79,11 @@ unequal_named files c says s there (Leaf file number offset len bytes) h = absur
 unequal_named files c says s there (Body file bytes) h = absurd h
 unequal_named files c says s there (Missing file) h = absurd h
 unequal_named files c says s there (Size file size needed) h = absurd h
-unequal_named files c says s there (Beyond doc next) h = absurd h
+unequal_named files c says s there (NotGiven doc next) h = absurd h
 unequal_named files c says s there (Doubled doc) h = absurd h
 
 misplaced_named : (files : Files) (beyond doubled : ℕ → Type 0) (n : ℕ) (d : Damage) → IsMisplaced beyond doubled n d → NamesLooked files d
-misplaced_named files beyond doubled n (Beyond doc next) h = tt
+misplaced_named files beyond doubled n (NotGiven doc next) h = tt
 misplaced_named files beyond doubled n (Doubled doc) h = tt
 misplaced_named files beyond doubled n (Page file number bytes) h = absurd h
 misplaced_named files beyond doubled n (Leaf file number offset len bytes) h = absurd h
@@ -111,7 +111,7 @@ commit_named files (Size file size needed) shown h = inl shown.0
 commit_named files (Body file bytes) shown h = inl shown.0
 commit_named files (Leaf file number offset len bytes) shown h = absurd h
 commit_named files (Unequal file said found) shown h = absurd h
-commit_named files (Beyond doc next) shown h = absurd h
+commit_named files (NotGiven doc next) shown h = absurd h
 commit_named files (Doubled doc) shown h = absurd h
 
 pub commit_found : (files : Files) (f : PageFault) → FaultShows IsCommitDamage f → FaultShows (IsCommitDamageOf files) f → FaultShows (IsFound files) f

@@ -5,7 +5,7 @@ use Rattle.outer_io.specs.declared.file_name.FileName.TheVariants.{Segment, Live
 use Rattle.outer_io.specs.Files.{Files}
 use Rattle.live_bits.specs.LiveSet.{LiveSet}
 use Rattle.page_cache.specs.declared.faults.Damage.{Damage}
-use Rattle.page_cache.specs.declared.faults.Damage.TheVariants.{Unequal, Beyond, Doubled}
+use Rattle.page_cache.specs.declared.faults.Damage.TheVariants.{Unequal, NotGiven, Doubled}
 use Rattle.commit_list.specs.declared.listed.Listed.{Listed}
 use Rattle.commit_list.specs.Commits.{CommitData}
 use Rattle.segment_file.specs.Heads.{Head}
@@ -21,7 +21,7 @@ IsUnequal s _ = ⊥
 
 -- a number is live that isn't below the next one, or is live in two segments
 abbrev pub IsMisplaced : (beyond doubled : ℕ → Type 0) → (next : ℕ) → Damage → Type 0
-IsMisplaced beyond doubled n (Beyond doc next) = (next ≡ n) × (n ≤ doc) × beyond doc
+IsMisplaced beyond doubled n (NotGiven doc next) = (next ≡ n) × (n ≤ doc) × beyond doc
 IsMisplaced beyond doubled n (Doubled doc) = doubled doc
 IsMisplaced beyond doubled n _ = ⊥
 

@@ -12,7 +12,7 @@ use Rattle.inner_pack.specs.Bodies.{HasTree}
 use Rattle.documents.specs.Entries.{has_entry}
 use Rattle.page_cache.specs.Evidence.{IsShown, IsPageOf, ArePayloadsOf, IsSizeOf}
 use Rattle.page_cache.specs.declared.faults.Damage.{Damage}
-use Rattle.page_cache.specs.declared.faults.Damage.TheVariants.{Page, Leaf, Body, Missing, Size, Unequal, Beyond}
+use Rattle.page_cache.specs.declared.faults.Damage.TheVariants.{Page, Leaf, Body, Missing, Size, Unequal, NotGiven}
 use Rattle.page_cache.specs.declared.faults.Damage.TheVariants.{Doubled}
 use Rattle.commit_list.specs.declared.listed.Listed.{Listed}
 use Rattle.commit_list.specs.Commits.{CommitData}
@@ -113,7 +113,7 @@ NamesLooked files (Body file bytes) = IsLookedAt files file
 NamesLooked files (Missing file) = IsOfListed files file
 NamesLooked files (Size file size needed) = IsLookedAt files file
 NamesLooked files (Unequal file said found) = IsFilePair files file said found
-NamesLooked files (Beyond doc next) = Unit {0}
+NamesLooked files (NotGiven doc next) = Unit {0}
 NamesLooked files (Doubled doc) = Unit {0}
 
 -- so it is with each damage that looking at the files finds
@@ -121,7 +121,7 @@ abbrev pub IsFound : Files → Damage → Type 0
 IsFound files d = ∥ NamesLooked files d ∥₁
 
 -- the number is live in a listed segment, and this is the commit's next one
-pub record IsLiveBeyond (files : Files) (doc next : ℕ) : Type 0 where
+pub record IsLiveNotGiven (files : Files) (doc next : ℕ) : Type 0 where
   pub commit : CommitData
   pub says : IsCommitFile (bytes_of (files Commit)) commit
   pub next_is : next ≡ commit.next
@@ -162,7 +162,7 @@ IsTrueOf twice files (Body file bytes) = ArePayloadsOf files file bytes × IsLoo
 IsTrueOf twice files (Missing file) = (files file ≡ None) × IsOfListed files file
 IsTrueOf twice files (Size file size needed) = IsSizeOf (AsksPages file) files file size needed × IsLookedAt files file
 IsTrueOf twice files (Unequal file said found) = ArePair files file said found
-IsTrueOf twice files (Beyond doc next) = IsLiveBeyond files doc next
+IsTrueOf twice files (NotGiven doc next) = IsLiveNotGiven files doc next
 IsTrueOf twice files (Doubled doc) = twice doc
 
 -- The damage is true of the files: what it carries is theirs, and a leaf that isn't spelled is one that the head of its

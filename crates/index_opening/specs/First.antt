@@ -8,7 +8,7 @@ use Rattle.outer_io.specs.Files.{Files}
 use Rattle.live_bits.specs.LiveSet.{LiveSet}
 use Rattle.page_cache.specs.declared.faults.Damage.{Damage}
 use Rattle.page_cache.specs.declared.faults.Damage.TheVariants.{Page, Leaf, Body, Missing}
-use Rattle.page_cache.specs.declared.faults.Damage.TheVariants.{Size, Unequal, Beyond, Doubled}
+use Rattle.page_cache.specs.declared.faults.Damage.TheVariants.{Size, Unequal, NotGiven, Doubled}
 use Rattle.commit_list.specs.declared.listed.Listed.{Listed}
 use Rattle.commit_list.specs.Commits.{CommitData}
 use Rattle.segment_file.specs.Heads.{Head}
@@ -26,12 +26,12 @@ IsOfFile name (Body file bytes) = file ≡ name
 IsOfFile name (Missing file) = file ≡ name
 IsOfFile name (Size file size needed) = file ≡ name
 IsOfFile name (Unequal file said found) = file ≡ name
-IsOfFile name (Beyond doc next) = ⊥
+IsOfFile name (NotGiven doc next) = ⊥
 IsOfFile name (Doubled doc) = ⊥
 
 -- the damage is that of the least number that is live where it may not be
 abbrev pub IsOfLeast : (next : ℕ) → List LiveSet → Damage → Type 0
-IsOfLeast n sets (Beyond doc next) = (next ≡ n) × IsLeastMisplaced n sets (misplaced.Beyond doc)
+IsOfLeast n sets (NotGiven doc next) = (next ≡ n) × IsLeastMisplaced n sets (misplaced.NotGiven doc)
 IsOfLeast n sets (Doubled doc) = IsLeastMisplaced n sets (misplaced.Doubled doc)
 IsOfLeast n sets _ = ⊥
 

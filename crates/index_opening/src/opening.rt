@@ -162,7 +162,7 @@ pub fn check_numbers(alloc: Global, lives: &[LiveBits], next: u32) -> Result<(),
 {
     match misplaced(alloc, lives, next)? {
         None => Ok(()),
-        Some(Misplaced::Beyond(doc)) => Err(PageFault::Damaged(Damage::Beyond { doc, next })),
+        Some(Misplaced::NotGiven(doc)) => Err(PageFault::Damaged(Damage::NotGiven { doc, next })),
         Some(Misplaced::Doubled(doc)) => Err(PageFault::Damaged(Damage::Doubled { doc })),
     }
 }

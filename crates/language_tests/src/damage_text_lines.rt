@@ -93,7 +93,7 @@ fn damages_of_documents(rt: HostRuntime) -> Result<(), Fail> {
     check(
         &rt,
         alloc,
-        &Damage::Beyond { doc: 7, next: 7 },
+        &Damage::NotGiven { doc: 7, next: 7 },
         "document 7 beyond 7",
     )?;
     check(&rt, alloc, &Damage::Doubled { doc: 7 }, "document 7 twice")

@@ -5,7 +5,7 @@ use Rattle.std.proofs.lemmas.List.Elements.{All-cons, All-weaker}
 use Rattle.std.specs.List.{All}
 use Rattle.page_cache.specs.Evidence.{OnDamage}
 use Rattle.page_cache.specs.declared.faults.Damage.{Damage}
-use Rattle.page_cache.specs.declared.faults.Damage.TheVariants.{Page, Leaf, Body, Missing, Size, Unequal, Beyond, Doubled}
+use Rattle.page_cache.specs.declared.faults.Damage.TheVariants.{Page, Leaf, Body, Missing, Size, Unequal, NotGiven, Doubled}
 use Rattle.page_cache.specs.declared.faults.PageFault.{PageFault}
 use Rattle.page_cache.specs.declared.faults.PageFault.TheVariants.{Failed, Damaged, Memory}
 use Rattle.point_codec.specs.Points.{Region}
@@ -53,7 +53,7 @@ of_whole D head first s t root part (Leaf file number offset len bytes) h =
 of_whole D head first s t root part (Body file bytes) h = h
 of_whole D head first s t root part (Missing file) h = h
 of_whole D head first s t root part (Unequal file said found) h = h
-of_whole D head first s t root part (Beyond doc next) h = h
+of_whole D head first s t root part (NotGiven doc next) h = h
 of_whole D head first s t root part (Doubled doc) h = h
 
 pub parts_put : {D : ℕ} (heads : List Head) (trees : ℕ → IndexTree) (at : List ℤ) (seg : ℕ) (node : NodeAt D) (old new : Front D) (first : ℕ) (s : Spot)

@@ -3,7 +3,7 @@ use Rattle.std.proofs.Common.{◌≡◌, ◌≢◌, ℕ, ◌+◌, ◌*◌, ◌�
 use Rattle.outer_io.specs.declared.file_name.FileName.{FileName}
 use Rattle.outer_io.specs.Files.{Files, bytes_of}
 use Rattle.page_cache.specs.declared.faults.Damage.{Damage}
-use Rattle.page_cache.specs.declared.faults.Damage.TheVariants.{Page, Leaf, Body, Missing, Size, Unequal, Beyond, Doubled}
+use Rattle.page_cache.specs.declared.faults.Damage.TheVariants.{Page, Leaf, Body, Missing, Size, Unequal, NotGiven, Doubled}
 use Rattle.page_cache.specs.declared.faults.PageFault.{PageFault}
 use Rattle.page_cache.specs.declared.faults.PageFault.TheVariants.{Failed, Damaged, Memory}
 use Rattle.page_cache.specs.FirstPages.{first_name, first_payload, first_size, IsFirstPage}
@@ -37,7 +37,7 @@ file_from_page name n (Leaf file number offset len bytes) h = h
 file_from_page name n (Body file bytes) h = h
 file_from_page name n (Missing file) h = absurd h
 file_from_page name n (Unequal file said found) h = h
-file_from_page name n (Beyond doc next) h = h
+file_from_page name n (NotGiven doc next) h = h
 file_from_page name n (Doubled doc) h = h
 
 pub file_from_page_of : (files : Files) (name : FileName) (n : ℕ) (d : Damage) → (n ≡ 0 → files name ≢ None) → IsPageDamage name n d → IsPageDamageOf files n d
@@ -54,7 +54,7 @@ file_from_page_of files name n (Leaf file number offset len bytes) there h k = k
 file_from_page_of files name n (Body file bytes) there h k = k
 file_from_page_of files name n (Missing file) there h k = absurd k
 file_from_page_of files name n (Unequal file said found) there h k = k
-file_from_page_of files name n (Beyond doc next) there h k = k
+file_from_page_of files name n (NotGiven doc next) there h k = k
 file_from_page_of files name n (Doubled doc) there h k = k
 
 -- no page before the last of so many needs more
@@ -65,7 +65,7 @@ within_page name n most (Leaf file number offset len bytes) few h = tt
 within_page name n most (Body file bytes) few h = tt
 within_page name n most (Missing file) few h = tt
 within_page name n most (Unequal file said found) few h = tt
-within_page name n most (Beyond doc next) few h = tt
+within_page name n most (NotGiven doc next) few h = tt
 within_page name n most (Doubled doc) few h = tt
 
 -- a file of whole pages is not cut within them
@@ -89,7 +89,13 @@ pub other_size : (asks : List ℕ → ℕ → Type 0) (files : Files) (p : First
     → (file ≡ first_name p) × (size ≡ first_size p) × (needed ≡ 4096 * pages) → IsSizeOf asks files file size needed
 other_size asks files p pages file size needed first asked e =
     subst (λ (name : FileName). IsSizeOf asks files name size needed) (sym e.0)
-    (inr (record { has = e.1 ∙ first.size; first = first.page; pages = pages; asked = subst (λ (l : List ℕ). asks l pages) first.payload asked; needs = e.2 }))
+    (inr (record {
+      has = e.1 ∙ first.size;
+      first = first.page;
+      pages = pages;
+      needs = e.2;
+      first_asks = subst (λ (l : List ℕ). asks l pages) first.payload asked;
+    }))
 
 -- an answer with the damage of a page has that of its file
 pub on_file_from_page : {T : Type 0} (r : Result T PageFault) (name : FileName) (n : ℕ) → OnDamage r (IsPageDamage name n) → OnDamage r (IsFileDamage name)

@@ -6,7 +6,7 @@ use Rattle.outer_io.specs.Files.{Files, bytes_of}
 use Rattle.page_file.specs.Page.{IsPage, payload_of}
 use Rattle.page_cache.specs.FilePages.{kind_of, number_of, page_at, IsFilePage, ArePages, payloads_of}
 use Rattle.page_cache.specs.declared.faults.Damage.{Damage}
-use Rattle.page_cache.specs.declared.faults.Damage.TheVariants.{Page, Leaf, Body, Missing, Size, Unequal, Beyond}
+use Rattle.page_cache.specs.declared.faults.Damage.TheVariants.{Page, Leaf, Body, Missing, Size, Unequal, NotGiven}
 use Rattle.page_cache.specs.declared.faults.Damage.TheVariants.{Doubled}
 use Rattle.page_cache.specs.declared.faults.PageFault.{PageFault}
 use Rattle.page_cache.specs.declared.faults.PageFault.TheVariants.{Failed, Damaged, Memory}
@@ -40,7 +40,7 @@ IsShown leaf body (Body file bytes) = body file bytes
 IsShown leaf body (Missing file) = Unit {0}
 IsShown leaf body (Size file size needed) = size ≢ needed
 IsShown leaf body (Unequal file said found) = said ≢ found
-IsShown leaf body (Beyond doc next) = next ≤ doc
+IsShown leaf body (NotGiven doc next) = next ≤ doc
 IsShown leaf body (Doubled doc) = Unit {0}
 
 -- these are the bytes of that page of the file
@@ -80,7 +80,7 @@ pub record HasOtherSize (asks : List ℕ → ℕ → Type 0) (files : Files) (fi
   pub has : size ≡ length (bytes_of (files file))
   pub first : IsFilePage file (bytes_of (files file)) 0
   pub pages : ℕ
-  pub asked : asks (payload_of (page_at (bytes_of (files file)) 0)) pages
+  pub first_asks : asks (payload_of (page_at (bytes_of (files file)) 0)) pages
   pub needs : needed ≡ 4096 * pages
 
 -- the file is too short for a page, or has another size than its first page asks for

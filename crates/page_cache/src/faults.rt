@@ -60,7 +60,7 @@ pub enum Damage {
         found: u64,
     },
     /// A live document's number isn't below the next number.
-    Beyond {
+    NotGiven {
         doc: u32,
         next: u32,
     },

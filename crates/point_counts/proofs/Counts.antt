@@ -11,7 +11,7 @@ use Rattle.point_codec.specs.Seen.{items_of}
 use Rattle.point_codec.specs.declared.entries.Entry.{Entry}
 use Rattle.live_bits.specs.LiveSet.{LiveSet, is_live}
 use Rattle.cell_relate.specs.Relations.{AllAnswer}
-use Rattle.bkd_reader.proofs.Beyond.{HasNone}
+use Rattle.bkd_reader.proofs.OutOfReach.{HasNone}
 use Rattle.bkd_reader.proofs.HitLemmas.{no_item}
 use Rattle.point_counts.specs.Grids.{number_in}
 use Rattle.point_counts.specs.Tables.{is_at, all_at, live_at, HasCounts, AddsCounts}

@@ -73,8 +73,8 @@ read_delete_number (w ∷ v ∷ ws) = Fails line.Words
 unfoldable pub read_question : Question → ℕ → List (List ℕ) → RangeReading
 read_question question r words =
     from_part (query_of words) (λ query. from_part (box_of r query.place query.words) (λ ends.
-    let asked : Region = record { lo = ends.0; hi = ends.1 } in
-    if is_range asked then Ok (Finds question query.view asked) else Err fault.NotRange))
+    let region : Region = record { lo = ends.0; hi = ends.1 } in
+    if is_range region then Ok (Finds question query.view region) else Err fault.NotRange))
 
 -- a line that names no range
 unfoldable pub read_without_ranges : List ℕ → List (List ℕ) → Reading

@@ -45,16 +45,16 @@ const MISPLACED: [(&[&[u32]], u32, Option<Misplaced>); 13] = [
     (&[&[63, 64, 127, 128], &[62, 65, 126]], 129, None),
     // the least one comes last
     (&[&[10, 20], &[20], &[10]], 30, Some(Misplaced::Doubled(10))),
-    (&[&[3], &[9]], 9, Some(Misplaced::Beyond(9))),
-    (&[&[70], &[9, 300]], 9, Some(Misplaced::Beyond(9))),
+    (&[&[3], &[9]], 9, Some(Misplaced::NotGiven(9))),
+    (&[&[70], &[9, 300]], 9, Some(Misplaced::NotGiven(9))),
     // beyond, although it is doubled too
-    (&[&[9], &[9], &[3]], 9, Some(Misplaced::Beyond(9))),
+    (&[&[9], &[9], &[3]], 9, Some(Misplaced::NotGiven(9))),
     (&[&[9], &[9], &[3]], 10, Some(Misplaced::Doubled(9))),
     (&[&[3, 9], &[3]], 5, Some(Misplaced::Doubled(3))),
     (
         &[&[16_777_215]],
         16_777_215,
-        Some(Misplaced::Beyond(16_777_215)),
+        Some(Misplaced::NotGiven(16_777_215)),
     ),
     (&[&[16_777_215]], 16_777_216, None),
 ];

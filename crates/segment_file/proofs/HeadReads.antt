@@ -14,7 +14,7 @@ use Rattle.page_cache.specs.FilePages.{page_at, IsFilePage, ArePages, payloads_o
 use Rattle.page_cache.specs.Bodies.{pages_for, padded_body}
 use Rattle.page_cache.specs.Evidence.{FaultShows, ArePayloadsOf, IsFileDamage, IsFileDamageOf}
 use Rattle.page_cache.specs.declared.faults.Damage.{Damage}
-use Rattle.page_cache.specs.declared.faults.Damage.TheVariants.{Page, Leaf, Body, Missing, Size, Unequal, Beyond, Doubled}
+use Rattle.page_cache.specs.declared.faults.Damage.TheVariants.{Page, Leaf, Body, Missing, Size, Unequal, NotGiven, Doubled}
 use Rattle.page_cache.specs.declared.faults.PageFault.{PageFault}
 use Rattle.page_cache.specs.declared.faults.PageFault.TheVariants.{Failed, Damaged, Memory}
 use Rattle.page_cache.proofs.PageRuns.{payloads_join, payloads_of_one, pages_from_first}
@@ -92,7 +92,7 @@ head_file_of D files name known (Body file bytes) short named within h = absurd 
 head_file_of D files name known (Missing file) short named within h = h
 head_file_of D files name known (Size file size needed) short named within h = inl (short file size needed named.0 within h)
 head_file_of D files name known (Unequal file said found) short named within h = absurd h
-head_file_of D files name known (Beyond doc next) short named within h = absurd h
+head_file_of D files name known (NotGiven doc next) short named within h = absurd h
 head_file_of D files name known (Doubled doc) short named within h = absurd h
 
 pub head_fault_of : (D : ℕ) (files : Files) (name : FileName) (known : Damage → Type 0) (f : PageFault) → OnlyShort files name known
@@ -110,7 +110,7 @@ head_body_of D files name payloads (Leaf file number offset len bytes) are h = a
 head_body_of D files name payloads (Missing file) are h = absurd h
 head_body_of D files name payloads (Size file size needed) are h = absurd h
 head_body_of D files name payloads (Unequal file said found) are h = absurd h
-head_body_of D files name payloads (Beyond doc next) are h = absurd h
+head_body_of D files name payloads (NotGiven doc next) are h = absurd h
 head_body_of D files name payloads (Doubled doc) are h = absurd h
 
 pub head_pair_of : (D : ℕ) (files : Files) (name : FileName) (m n : ℕ) (d : Damage) → AreHeadPair D (bytes_of (files name)) m n → IsPairDamage name m n d
@@ -123,7 +123,7 @@ head_pair_of D files name m n (Page file number bytes) are h = absurd h
 head_pair_of D files name m n (Leaf file number offset len bytes) are h = absurd h
 head_pair_of D files name m n (Missing file) are h = absurd h
 head_pair_of D files name m n (Size file size needed) are h = absurd h
-head_pair_of D files name m n (Beyond doc next) are h = absurd h
+head_pair_of D files name m n (NotGiven doc next) are h = absurd h
 head_pair_of D files name m n (Doubled doc) are h = absurd h
 
 -- payloads that begin a head and its index are no damage
@@ -137,7 +137,7 @@ no_head_damage id dims said head payloads rest (Leaf file number offset len byte
 no_head_damage id dims said head payloads rest (Missing file) fits h e shown carried = carried
 no_head_damage id dims said head payloads rest (Size file size needed) fits h e shown carried = carried
 no_head_damage id dims said head payloads rest (Unequal file said' found) fits h e shown carried = carried
-no_head_damage id dims said head payloads rest (Beyond doc next) fits h e shown carried = carried
+no_head_damage id dims said head payloads rest (NotGiven doc next) fits h e shown carried = carried
 no_head_damage id dims said head payloads rest (Doubled doc) fits h e shown carried = carried
 
 -- ---- a file that has a head

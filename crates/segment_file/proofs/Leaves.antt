@@ -16,7 +16,7 @@ use Rattle.page_cache.specs.declared.cache.PageCache.{PageCache}
 use Rattle.page_cache.specs.Cache.{Keeps}
 use Rattle.page_cache.specs.Evidence.{IsPageDamage, IsPageDamageOf}
 use Rattle.page_cache.specs.declared.faults.Damage.{Damage}
-use Rattle.page_cache.specs.declared.faults.Damage.TheVariants.{Page, Leaf as LeafDamage, Body, Missing, Size, Unequal, Beyond, Doubled}
+use Rattle.page_cache.specs.declared.faults.Damage.TheVariants.{Page, Leaf as LeafDamage, Body, Missing, Size, Unequal, NotGiven, Doubled}
 use Rattle.segment_file.specs.Heads.{Head, page_of, count_of}
 use Rattle.segment_file.specs.Segments.{part_of, HoldsLeaf, IsLeafOf}
 use Rattle.segment_file.specs.Damages.{IsNoLeaf, IsLeafDamage, IsLeafDamageOf}
@@ -77,7 +77,7 @@ leaf_from_page_of files name n (LeafDamage file number offset len bytes) behind 
 leaf_from_page_of files name n (Body file bytes) behind h k = k
 leaf_from_page_of files name n (Missing file) behind h k = k
 leaf_from_page_of files name n (Unequal file said found) behind h k = k
-leaf_from_page_of files name n (Beyond doc next) behind h k = k
+leaf_from_page_of files name n (NotGiven doc next) behind h k = k
 leaf_from_page_of files name n (Doubled doc) behind h k = k
 
 -- and what it shows is shown of the leaf that stands there
@@ -101,5 +101,5 @@ leaf_from_page D head first s t place (LeafDamage file number offset len bytes) 
 leaf_from_page D head first s t place (Body file bytes) at h = h
 leaf_from_page D head first s t place (Missing file) at h = h
 leaf_from_page D head first s t place (Unequal file said found) at h = h
-leaf_from_page D head first s t place (Beyond doc next) at h = h
+leaf_from_page D head first s t place (NotGiven doc next) at h = h
 leaf_from_page D head first s t place (Doubled doc) at h = h

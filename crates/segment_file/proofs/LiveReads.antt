@@ -15,7 +15,7 @@ use Rattle.page_file.specs.Page.{payload_of}
 use Rattle.page_cache.proofs.PageRuns.{payloads_join, payloads_of_one}
 use Rattle.page_cache.proofs.Damages.{other_size}
 use Rattle.page_cache.specs.declared.faults.Damage.{Damage}
-use Rattle.page_cache.specs.declared.faults.Damage.TheVariants.{Page, Leaf, Body, Missing, Size, Unequal, Beyond, Doubled}
+use Rattle.page_cache.specs.declared.faults.Damage.TheVariants.{Page, Leaf, Body, Missing, Size, Unequal, NotGiven, Doubled}
 use Rattle.page_cache.specs.declared.faults.PageFault.{PageFault}
 use Rattle.page_cache.specs.declared.faults.PageFault.TheVariants.{Failed, Damaged, Memory}
 use Rattle.segment_file.specs.LiveFiles.{IsLiveFile, IsSetOf}
@@ -44,7 +44,7 @@ live_file_of files name known (Body file bytes) short named within h = absurd h
 live_file_of files name known (Missing file) short named within h = h
 live_file_of files name known (Size file size needed) short named within h = inl (short file size needed named.0 within h)
 live_file_of files name known (Unequal file said found) short named within h = absurd h
-live_file_of files name known (Beyond doc next) short named within h = absurd h
+live_file_of files name known (NotGiven doc next) short named within h = absurd h
 live_file_of files name known (Doubled doc) short named within h = absurd h
 
 pub live_fault_of : (files : Files) (name : FileName) (known : Damage → Type 0) (f : PageFault) → OnlyShort files name known
@@ -66,7 +66,7 @@ live_size_of files first segment generation len pages (Leaf file number offset l
 live_size_of files first segment generation len pages (Body file bytes) there name says count h = absurd h
 live_size_of files first segment generation len pages (Missing file) there name says count h = absurd h
 live_size_of files first segment generation len pages (Unequal file said found) there name says count h = absurd h
-live_size_of files first segment generation len pages (Beyond doc next) there name says count h = absurd h
+live_size_of files first segment generation len pages (NotGiven doc next) there name says count h = absurd h
 live_size_of files first segment generation len pages (Doubled doc) there name says count h = absurd h
 
 -- payloads of the file that are carried
@@ -79,7 +79,7 @@ body_damage_of files name payloads (Leaf file number offset len bytes) are h = a
 body_damage_of files name payloads (Missing file) are h = absurd h
 body_damage_of files name payloads (Size file size needed) are h = absurd h
 body_damage_of files name payloads (Unequal file said found) are h = absurd h
-body_damage_of files name payloads (Beyond doc next) are h = absurd h
+body_damage_of files name payloads (NotGiven doc next) are h = absurd h
 body_damage_of files name payloads (Doubled doc) are h = absurd h
 
 -- payloads that begin a body are no damage
@@ -93,7 +93,7 @@ no_live_damage segment generation s body payloads rest (Leaf file number offset 
 no_live_damage segment generation s body payloads rest (Missing file) set e shown carried = carried
 no_live_damage segment generation s body payloads rest (Size file size needed) set e shown carried = carried
 no_live_damage segment generation s body payloads rest (Unequal file said found) set e shown carried = carried
-no_live_damage segment generation s body payloads rest (Beyond doc next) set e shown carried = carried
+no_live_damage segment generation s body payloads rest (NotGiven doc next) set e shown carried = carried
 no_live_damage segment generation s body payloads rest (Doubled doc) set e shown carried = carried
 
 -- a file that is all read is that of the set whose body fills its payloads

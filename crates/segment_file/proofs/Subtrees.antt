@@ -54,7 +54,7 @@ left_damage D head first s l r k x (damage.Leaf file number offset len bytes) h 
 left_damage D head first s l r k x (damage.Body file bytes) h = h
 left_damage D head first s l r k x (damage.Missing file) h = h
 left_damage D head first s l r k x (damage.Unequal file said found) h = h
-left_damage D head first s l r k x (damage.Beyond doc next) h = h
+left_damage D head first s l r k x (damage.NotGiven doc next) h = h
 left_damage D head first s l r k x (damage.Doubled doc) h = h
 
 pub right_damage : (D : ℕ) (head : Head) (first : ℕ) (s : Spot) (l r : IndexTree) (k : ℕ) (x : ℤ) (d : Damage)
@@ -66,7 +66,7 @@ right_damage D head first s l r k x (damage.Leaf file number offset len bytes) h
 right_damage D head first s l r k x (damage.Body file bytes) h = h
 right_damage D head first s l r k x (damage.Missing file) h = h
 right_damage D head first s l r k x (damage.Unequal file said found) h = h
-right_damage D head first s l r k x (damage.Beyond doc next) h = h
+right_damage D head first s l r k x (damage.NotGiven doc next) h = h
 right_damage D head first s l r k x (damage.Doubled doc) h = h
 
 -- where what is said of entries holds of two lists joined, it is said of the leaves of both children

@@ -8,7 +8,7 @@ use Rattle.outer_io.specs.Files.{Files}
 use Rattle.point_codec.specs.Points.{Item}
 use Rattle.page_cache.specs.Evidence.{IsShown}
 use Rattle.page_cache.specs.declared.faults.Damage.{Damage}
-use Rattle.page_cache.specs.declared.faults.Damage.TheVariants.{Page, Leaf, Body, Missing, Size, Unequal, Beyond, Doubled}
+use Rattle.page_cache.specs.declared.faults.Damage.TheVariants.{Page, Leaf, Body, Missing, Size, Unequal, NotGiven, Doubled}
 use Rattle.segment_file.specs.Heads.{Head, HasRanges}
 use Rattle.segment_view.specs.LiveSegments.{LiveSegment, parts_among}
 use Rattle.segment_view.specs.Held.{HasOwnHead, AreHeld}
@@ -31,7 +31,7 @@ doubt_shows P points_given items (Leaf file number offset len bytes) h = absurd 
 doubt_shows P points_given items (Body file bytes) h = absurd h
 doubt_shows P points_given items (Missing file) h = absurd h
 doubt_shows P points_given items (Size file size needed) h = absurd h
-doubt_shows P points_given items (Beyond doc next) h = absurd h
+doubt_shows P points_given items (NotGiven doc next) h = absurd h
 
 -- what is known to be there of each is there of all
 all_merely : {A : Type 0} (P : A → Type 0) (xs : List A) → All (λ x. ∥ P x ∥₁) xs → ∥ All P xs ∥₁
@@ -57,7 +57,7 @@ doubt_carried D files points_given ids parts items alone held (Leaf file number 
 doubt_carried D files points_given ids parts items alone held (Body file bytes) h = absurd h
 doubt_carried D files points_given ids parts items alone held (Missing file) h = absurd h
 doubt_carried D files points_given ids parts items alone held (Size file size needed) h = absurd h
-doubt_carried D files points_given ids parts items alone held (Beyond doc next) h = absurd h
+doubt_carried D files points_given ids parts items alone held (NotGiven doc next) h = absurd h
 
 pub doubt_evident : (T : Type 0) (D : ℕ) (files : Files) (points_given : ℕ) (ids : List ℕ) (parts : List LiveSegment) (items : List Item) (d : Damage)
     → (T → AreAlone parts)

@@ -15,7 +15,7 @@ use Rattle.documents.specs.Entries.{SameTotals}
 use Rattle.leaf_codec.specs.LeafOrder.{item_of, same_item}
 use Rattle.page_cache.specs.declared.cache.PageCache.{PageCache}
 use Rattle.page_cache.specs.declared.faults.Damage.{Damage}
-use Rattle.page_cache.specs.declared.faults.Damage.TheVariants.{Page, Leaf, Body, Missing, Size, Unequal, Beyond, Doubled}
+use Rattle.page_cache.specs.declared.faults.Damage.TheVariants.{Page, Leaf, Body, Missing, Size, Unequal, NotGiven, Doubled}
 use Rattle.page_cache.specs.Cache.{Agrees, KeepsFile}
 use Rattle.page_cache.proofs.Agreement.{agrees_other}
 use Rattle.stored_index.proofs.Places.{entry_there}
@@ -145,7 +145,7 @@ doubt_more points_given xs ys long fewer (Leaf file number offset len bytes) h =
 doubt_more points_given xs ys long fewer (Body file bytes) h = h
 doubt_more points_given xs ys long fewer (Missing file) h = h
 doubt_more points_given xs ys long fewer (Size file size needed) h = h
-doubt_more points_given xs ys long fewer (Beyond doc next) h = h
+doubt_more points_given xs ys long fewer (NotGiven doc next) h = h
 
 -- and of segments with the same live entries
 pub doubt_same : (points_given : ℕ) (xs ys : List Item) → SameTotals xs ys → (d : Damage) → IsDoubt points_given ys d → IsDoubt points_given xs d

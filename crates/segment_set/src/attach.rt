@@ -34,7 +34,7 @@ impl<const D: usize> SegmentSet<D> {
     ghost use Rattle.segment_set.specs.Faithful.{IsFaithful};
 
     /// The set of a commit's segments. It reads their heads, indexes and live bits, no leaf, and answers Unequal,
-    /// Beyond or Doubled where these show it.
+    /// NotGiven or Doubled where these show it.
     pub fn attach<F: Folder>(
         alloc: Global,
         folder: &mut F,

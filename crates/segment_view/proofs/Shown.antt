@@ -76,7 +76,7 @@ id_named (damage.Body file bytes) = 0
 id_named (damage.Missing file) = 0
 id_named (damage.Size file size needed) = segment_of file
 id_named (damage.Unequal file said found) = 0
-id_named (damage.Beyond doc next) = 0
+id_named (damage.NotGiven doc next) = 0
 id_named (damage.Doubled doc) = 0
 
 leaf_names : (D : ℕ) (head : Head) (t : IndexTree) (d : Damage) → IsLeafDamage D head 0 front t d → id_named d ≡ head.id
@@ -87,7 +87,7 @@ leaf_names D head t (damage.Body file bytes) h = absurd h
 leaf_names D head t (damage.Missing file) h = absurd h
 leaf_names D head t (damage.Size file size needed) h = ap segment_of h.0
 leaf_names D head t (damage.Unequal file said found) h = absurd h
-leaf_names D head t (damage.Beyond doc next) h = absurd h
+leaf_names D head t (damage.NotGiven doc next) h = absurd h
 leaf_names D head t (damage.Doubled doc) h = absurd h
 
 read_names : (D : ℕ) (head : Head) (d : Damage) → IsReadDamage D head d → id_named d ≡ head.id

@@ -2,7 +2,7 @@ use Rattle.std.proofs.Common.{◌≡◌, ◌<◌, ◌++◌, ◌∷◌, [], ◌�
 use Rattle.std.proofs.lemmas.List.{append_assoc}
 use Rattle.bkd_reader.specs.Hits.{hits_in}
 use Rattle.bkd_reader.proofs.HitLemmas.{read_item, hit_more, dead_more, outside_more}
-use Rattle.bkd_reader.proofs.Beyond.{none_before, none_behind}
+use Rattle.bkd_reader.proofs.OutOfReach.{none_before, none_behind}
 use Rattle.bkd_reader.proofs.crossed.push_tested.Goals as goal
 
 pub loop-i-init : goal.loop-i-init

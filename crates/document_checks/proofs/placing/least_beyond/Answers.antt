@@ -2,13 +2,13 @@ use Rattle.std.proofs.Common.{◌≡◌, ℕ, List, take, ap, subst, ◌∙◌, 
 use Rattle.std.proofs.lemmas.List.{take_all}
 use Rattle.live_bits.specs.LiveSet.{LiveSet}
 use Rattle.stored_index.specs.Segments.{places}
-use Rattle.document_checks.proofs.MarkedSets.{IsBeyond, beyond_more}
+use Rattle.document_checks.proofs.MarkedSets.{IsLeastNotGiven, not_given_more}
 use Rattle.document_checks.proofs.placing.least_beyond.Goals as goal
 
 pub loop-live-preserved : goal.loop-live-preserved
 loop-live-preserved c =
     let told = c.first_live-limit.ensures in
-    beyond_more c.args.lives.now c.loop-live.live-index c.args.next c.loop-live.limit c.first_live-limit.result c.live-item.result c.loop-live-test.true
+    not_given_more c.args.lives.now c.loop-live.live-index c.args.next c.loop-live.limit c.first_live-limit.result c.live-item.result c.loop-live-test.true
     c.live-item.is
     c.loop-live.invariant told.within told.before told.found told.above
 

@@ -6,7 +6,7 @@ use Rattle.std.proofs.lemmas.Int.{to_z-of_z}
 use Rattle.point_codec.specs.Points.{Item, in_box}
 use Rattle.leaf_codec.specs.Ascending.{coordinate}
 use Rattle.live_bits.specs.LiveSet.{is_live}
-use Rattle.bkd_reader.proofs.Beyond.{none_below, none_above, none_from}
+use Rattle.bkd_reader.proofs.OutOfReach.{none_below, none_above, none_from}
 use Rattle.bkd_reader.proofs.HitLemmas.{read_item}
 use Rattle.point_counts.specs.Tables.{live_at}
 use Rattle.point_counts.proofs.Counts.{adds_none, adds_as, adds_then, dead_more, outside_more, one_more, none_placed, none_more}
