@@ -1,9 +1,12 @@
 -- What a walk over an index costs at most, leaf by leaf; each leaf is judged by its own cell (Apache Lucene's points).
-use Rattle.std.specs.Prelude.{ℕ, ◌+◌, ◌≡◌, Bool, if◌then◌else◌, List, ℤ}
+use Rattle.std.specs.Prelude.{ℕ, ◌+◌, ◌*◌, ◌≡◌, ◌≤◌, Bool, if◌then◌else◌, List, ℤ}
 use Rattle.point_codec.specs.Points.{Region}
 use Rattle.point_codec.specs.Cells.{left_of, right_of}
 use Rattle.cell_relate.specs.Relations.{is_outside}
+use Rattle.inner_pack.specs.Places.{Spot}
 use Rattle.inner_pack.specs.Trees.{IndexTree, Leaf, Split, leaf_count}
+use Rattle.inner_pack.specs.Nodes.{IsAt}
+use Rattle.inner_pack.specs.declared.node.NodeAt.{NodeAt}
 use Rattle.segment_file.specs.Heads.{Head, count_of}
 use Rattle.bkd_reader.specs.declared.walk.Cost.{Cost}
 
@@ -31,3 +34,10 @@ asked_cells crosses path (Split d x l r) =
 abbrev pub IsCost : (head : Head) (has : List ℤ → Bool) (crosses : Region → Bool) → IndexTree → Cost → Type 0
 IsCost head has crosses t cost =
     (cost.tested ≡ tested_entries crosses (count_of head) 0 t) × (cost.touched ≡ touched_leaves has crosses t)
+
+-- one leaf, and its entries; a leaf has at most 65,535
+pub record CountsLeaf {D : ℕ} (head : Head) (node : NodeAt D) (cost : Cost) : Type 0 where
+  pub tested : (first : ℕ) (s : Spot) (path : Region) (t : IndexTree) → IsAt node first s path t
+      → cost.tested ≡ count_of head first
+  pub touched : cost.touched ≡ 1
+  pub few : (cost.tested ≤ 65535 * node.leaves) × (cost.touched ≤ node.leaves)

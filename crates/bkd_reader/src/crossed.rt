@@ -8,13 +8,14 @@ ghost use Rattle.point_codec.specs.Points.{Item, Region};
 ghost use Rattle.inner_pack.specs.Places.{Spot};
 ghost use Rattle.inner_pack.specs.Trees.{IndexTree, cell_of};
 ghost use Rattle.inner_pack.specs.Nodes.{IsAt};
+ghost use Rattle.cell_relate.specs.Relations.{KeepsShape};
 ghost use Rattle.page_cache.specs.Cache.{Agrees};
 ghost use Rattle.page_cache.specs.Evidence.{OnDamage, NotDamaged};
 ghost use Rattle.page_cache.specs.Reading.{ReadsCached};
 ghost use Rattle.segment_file.specs.Heads.{count_of};
 ghost use Rattle.segment_file.specs.Segments.{HoldsTree};
 ghost use Rattle.segment_file.specs.Damages.{IsLeafDamage, IsLeafDamageOf};
-ghost use Rattle.bkd_reader.specs.Counts.{tested_entries};
+ghost use Rattle.bkd_reader.specs.Counts.{CountsLeaf, tested_entries};
 ghost use Rattle.bkd_reader.specs.Hits.{AreHits, Appends, Begins, hits_in};
 ghost use Rattle.bkd_reader.specs.Unread.{ReadsLeaf};
 
@@ -52,15 +53,10 @@ pub fn test_leaf<const D: usize, S: Shape<D>, F: Pages>(
     ensures tests { (first : ℕ) (s : Spot) (path : Region) (t : IndexTree) → IsAt node.now first s path t
         → S.crosses shape.old (cell_of path t) ≡ true
         → S.tests shape.new ≤ S.tests shape.old + tested_entries (S.crosses shape.old) (count_of head.now) first t }
-    ensures tested { (first : ℕ) (s : Spot) (path : Region) (t : IndexTree) → IsAt node.now first s path t
-        → IfOk result (λ n. n.tested ≡ count_of head.now first) }
-    ensures touched { IfOk result (λ n. n.touched ≡ 1) }
-    ensures few_tested { IfOk result (λ n. n.tested ≤ 65535 * node.now.leaves) }
-    ensures few_touched { IfOk result (λ n. n.touched ≤ node.now.leaves) }
+    ensures counts { IfOk result (CountsLeaf head.now node.now) }
     ensures compares { S.compares shape.new ≡ S.compares shape.old }
     ensures reads { ReadsLeaf head.now node.now (F.reads folder.old) (F.reads folder.new) cache.old cache.new result }
-    ensures has { S.has shape.new ≡ S.has shape.old }
-    ensures crosses { S.crosses shape.new ≡ S.crosses shape.old }
+    ensures shape { KeepsShape (S.has shape.old) (S.has shape.new) (S.crosses shape.old) (S.crosses shape.new) }
     ensures reading { ReadsCached F.told (λ i. i ≡ head.now.id) (F.files folder.old) (F.files folder.new)
         cache.old cache.new (F.faults folder.old) (F.faults folder.new) result }
     ensures shown { (first : ℕ) (s : Spot) (path : Region) (t : IndexTree) → IsAt node.now first s path t

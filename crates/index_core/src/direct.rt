@@ -8,6 +8,9 @@ ghost use Rattle.page_cache.specs.Evidence.{NotDamaged, OnDamage};
 ghost use Rattle.documents.specs.Documents.{docs_without, hits, is_live};
 ghost use Rattle.documents.specs.Nearest.{found_of, nearest};
 ghost use Rattle.index_model.specs.State.{Index};
+ghost use Rattle.nearest_query.specs.Segments.{AreNearLeaves, bound_of};
+ghost use Rattle.segment_view.specs.LiveSegments.{heads_of};
+ghost use Rattle.segment_view.specs.Costs.{IsCostOf};
 ghost use Rattle.segment_set.specs.Seen.{Sees};
 ghost use Rattle.index_opening.specs.Evidence.{IsEvident};
 ghost use Rattle.segment_set.specs.Faithful.{IsFaithful};
@@ -165,7 +168,8 @@ impl<const D: usize> Session<D> {
         self.set.delete(doc)
     }
 
-    /// The numbers of the live documents that the shape has, ascending.
+    /// The numbers of the live documents that the shape has, ascending, and what was met of the segments: the entries
+    /// of leaves whose own cell the shape crosses, and the leaves whose own cell is not outside.
     pub fn hits_of<S: Shape<D>, F: Folder>(
         &mut self,
         alloc: Global,
@@ -174,6 +178,8 @@ impl<const D: usize> Session<D> {
     ) -> Result<Visit, PageFault>
         ensures found { IsTrue F.told → (i : Index) → Sees D (F.files folder.old) self.old.set i
             → IfOk result (λ v. v.docs.items ≡ hits (S.has shape.old) i.docs) }
+        ensures counts { IfOk result
+            (λ v. IsCostOf D (S.has shape.old) (S.crosses shape.old) (heads_of self.old.set.parts) v.cost) }
         ensures seen { IsTrue F.told → (i : Index) → Sees D (F.files folder.old) self.old.set i
             → Sees D (F.files folder.new) self.new.set i }
         ensures guards { IsTrue F.told → Guards D (F.files folder.old) self.old
@@ -190,7 +196,9 @@ impl<const D: usize> Session<D> {
         self.set.visit(alloc, folder, &View::Now, shape)
     }
 
-    /// The `k` nearest live documents, the nearest first.
+    /// The `k` nearest live documents, the nearest first, each with the least squared distance of its points: all,
+    /// where there are fewer than `k`. Beside them stands how many leaves have a cell as near as the last of them. `k`
+    /// is 1 to 10,000.
     pub fn nearest_to<F: Folder>(
         &mut self,
         alloc: Global,
@@ -202,6 +210,9 @@ impl<const D: usize> Session<D> {
         requires few { k ≤ 10000 }
         ensures found { IsTrue F.told → (i : Index) → Sees D (F.files folder.old) self.old.set i
             → IfOk result (λ v. found_of v.docs.items ≡ nearest k at.now.c i.docs) }
+        ensures touches { IsTrue F.told → (i : Index) → Sees D (F.files folder.old) self.old.set i
+            → IfOk result
+            (λ v. AreNearLeaves D at.now.c (bound_of k v.docs.items) (heads_of self.old.set.parts) v.touched) }
         ensures seen { IsTrue F.told → (i : Index) → Sees D (F.files folder.old) self.old.set i
             → Sees D (F.files folder.new) self.new.set i }
         ensures guards { IsTrue F.told → Guards D (F.files folder.old) self.old

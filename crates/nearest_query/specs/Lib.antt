@@ -4,3 +4,4 @@ pub mod Fronts
 pub mod Search
 pub mod Dead
 pub mod Parted
+pub mod Found

@@ -16,6 +16,7 @@ ghost use Rattle.documents.specs.NearestEntries.{IsNearest, nears_of};
 ghost use Rattle.nearest_query.specs.Dead.{MayPass, MarksDead};
 ghost use Rattle.nearest_query.specs.Segments.{AreLeavesKept, AreSegments, AreNearLeaves, HasId, HaveTrees};
 ghost use Rattle.nearest_query.specs.Segments.{IsSegmentDamage, bound_of, live_in};
+ghost use Rattle.nearest_query.specs.Found.{IsFound};
 ghost use Rattle.nearest_query.specs.Fronts.{Front, leaf_sum, sum_below};
 ghost use Rattle.nearest_query.specs.Search.{World, AreInside, IsOver, IsNodeBelow, IsNode, HasRoots, head_at, live_at};
 ghost use Rattle.nearest_query.specs.Search.{sum_of_live};
@@ -63,18 +64,14 @@ pub fn nearest<const D: usize, F: Pages>(
     ensures marks { MarksDead D watched heads.now lives.now cache.old cache.new }
     ensures answer { IsTrue F.told → Agrees (F.files folder.old) cache.old → (contents : ℕ → List Item)
         → AreSegments D (F.files folder.old) contents heads.now
-        → IfOk result (λ v. IsNearest k
-        (nears_of at.now.c (live_in contents heads.now lives.now ++ items_of buffer.now)) v.docs.items) }
+        → IfOk result (IsFound D k at.now.c heads.now
+        (live_in contents heads.now lives.now ++ items_of buffer.now)) }
     ensures reads { IsTrue F.told → Agrees (F.files folder.old) cache.old → (contents : ℕ → List Item)
         → AreSegments D (F.files folder.old) contents heads.now
         → (found : List Near)
         → IsNearest k (nears_of at.now.c (live_in contents heads.now lives.now ++ items_of buffer.now)) found
         → (leaves : ℕ) → AreNearLeaves D at.now.c (bound_of k found) heads.now leaves
         → F.reads folder.new ≤ F.reads folder.old + leaves }
-    // known dead leaves and segments without a live number count too
-    ensures touches { IsTrue F.told → Agrees (F.files folder.old) cache.old → (contents : ℕ → List Item)
-        → AreSegments D (F.files folder.old) contents heads.now
-        → IfOk result (λ v. AreNearLeaves D at.now.c (bound_of k v.docs.items) heads.now v.touched) }
     // where the page of each leaf is kept nothing is read
     ensures kept { (trees : ℕ → IndexTree) → HaveTrees D heads.now trees → AreLeavesKept cache.old heads.now trees
         → ReadsNothing (F.reads folder.old) (F.reads folder.new) cache.old cache.new result }

@@ -13,7 +13,7 @@ ghost use Rattle.nearest_query.specs.Segments.{AreNearLeaves, bound_of};
 ghost use Rattle.script_lang.specs.Seen.{view_name};
 ghost use Rattle.index_model.specs.State.{Index, viewed_docs};
 ghost use Rattle.segment_view.specs.LiveSegments.{Contents, heads_of};
-ghost use Rattle.segment_view.specs.Costs.{AreTested, AreTouched, IsCostOf, leaves_in};
+ghost use Rattle.segment_view.specs.Costs.{AreTested, AreTouched, AsksAtMost, IsCostOf, leaves_in};
 
 use crate::buffer::Buffer;
 use crate::set::SegmentSet;
@@ -33,8 +33,9 @@ impl<const D: usize> SegmentSet<D> {
     ghost use Rattle.segment_set.specs.Kept.{StaysButCache};
     ghost use Rattle.segment_set.specs.Faithful.{IsFaithful};
 
-    /// The numbers of the view's documents that the shape has, ascending. Only leaves whose own cell is not outside
-    /// are read, and only entries of the buffer and of leaves whose own cell the shape crosses are tested.
+    /// The numbers of the view's documents that the shape has, ascending, and what was met of its segments: the entries
+    /// of leaves whose own cell the shape crosses, and the leaves whose own cell is not outside. Only these leaves are
+    /// read, and only these entries and those of the buffer are tested.
     pub fn visit<S: Shape<D>, F: Folder>(
         &mut self,
         alloc: Global,
@@ -58,11 +59,9 @@ impl<const D: usize> SegmentSet<D> {
         ensures shape { KeepsShape (S.has shape.old) (S.has shape.new)
             (S.crosses shape.old) (S.crosses shape.new) }
         // what it costs, over every folder
-        ensures tests { (n : ℕ)
-            → AreTested D (S.crosses shape.old) (heads_of (viewed_parts (view_name view.now) self.old)) n
-            → S.tests shape.new ≤ S.tests shape.old + n + length (viewed_buffer (view_name view.now) self.old) }
-        ensures compares { S.compares shape.new ≤ S.compares shape.old + 2 * leaves_in
-            (heads_of (viewed_parts (view_name view.now) self.old)) }
+        ensures asks { AsksAtMost D (S.crosses shape.old) (heads_of (viewed_parts (view_name view.now) self.old))
+            (length (viewed_buffer (view_name view.now) self.old))
+            (S.tests shape.old) (S.tests shape.new) (S.compares shape.old) (S.compares shape.new) }
         ensures reads { (n : ℕ) → AreTouched D (S.has shape.old) (S.crosses shape.old)
             (heads_of (viewed_parts (view_name view.now) self.old)) n
             → F.reads folder.new ≤ F.reads folder.old + n }
@@ -82,8 +81,9 @@ impl<const D: usize> SegmentSet<D> {
     }
 
     /// The `k` nearest documents of the view, the nearest first, each with the least squared distance of its points:
-    /// all, where there are fewer than `k`. Of equally near ones the one with the smaller number comes first. Only
-    /// leaves whose cell is as near as the last document found are read. `k` is 1 to 10,000.
+    /// all, where there are fewer than `k`. Of equally near ones the one with the smaller number comes first. Beside
+    /// them stands how many leaves have a cell as near as the last document found; only such leaves are read. `k` is
+    /// 1 to 10,000.
     pub fn nearest<F: Folder>(
         &mut self,
         alloc: Global,

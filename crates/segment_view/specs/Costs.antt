@@ -1,5 +1,5 @@
 -- What reading of segments costs: sums over the trees of their indexes.
-use Rattle.std.specs.Prelude.{ℕ, ◌+◌, ◌≡◌, ◌≤◌, Bool, List, [], ◌∷◌, Result, sum_by, All, ℤ}
+use Rattle.std.specs.Prelude.{ℕ, ◌+◌, ◌*◌, ◌≡◌, ◌≤◌, Bool, List, [], ◌∷◌, Result, sum_by, All, ℤ}
 use Rattle.point_codec.specs.Points.{Region}
 use Rattle.inner_pack.specs.Places.{front}
 use Rattle.inner_pack.specs.Trees.{IndexTree}
@@ -52,3 +52,10 @@ pub record ReadsTouched {T : Type 0} (D : ℕ) (has : List ℤ → Bool) (crosse
     (cache new_cache : PageCache) (before now : ℕ) (result : Result T PageFault) : Type 0 where
   pub most : (n : ℕ) → AreTouched D has crosses (heads_of parts) n → now ≤ before + n
   pub none : AreTouchedKept D cache has crosses parts → ReadsNothing before now cache new_cache result
+
+-- How often a visit asks its shape: it tests the entries of leaves whose own cell is crossed, and those that wait in
+-- the buffer, and compares at most two cells for each leaf.
+pub record AsksAtMost (D : ℕ) (crosses : Region → Bool) (heads : List Head) (waiting : ℕ)
+    (tests tests_now compares compares_now : ℕ) : Type 0 where
+  pub tests : (n : ℕ) → AreTested D crosses heads n → tests_now ≤ tests + n + waiting
+  pub compares : compares_now ≤ compares + 2 * leaves_in heads

@@ -11,6 +11,7 @@ ghost use Rattle.segment_file.specs.Heads.{IsHead};
 ghost use Rattle.segment_file.specs.Damages.{IsLeafDamageOf};
 ghost use Rattle.documents.specs.NearestEntries.{IsNearest, nears_of};
 ghost use Rattle.nearest_query.specs.Segments.{AreLeavesKept, AreNearLeaves, HaveTrees, bound_of};
+ghost use Rattle.nearest_query.specs.Found.{IsFound};
 ghost use Rattle.segment_view.specs.LiveSegments.{Contents, AreRead, heads_of, ids_of, live_in_parts};
 ghost use Rattle.segment_view.specs.Unhidden.{HidesNoneOf, MarksDeadOf};
 ghost use Rattle.segment_view.specs.Damages.{IsPartDamage};
@@ -50,18 +51,14 @@ pub fn nearest<const D: usize, F: Pages>(
     ensures marks { MarksDeadOf D watched segments.now cache.old cache.new }
     ensures answer { IsTrue F.told → Agrees (F.files folder.old) cache.old → (c : Contents)
         → AreRead D (F.files folder.old) c segments.now
-        → IfOk result
-        (λ v. IsNearest k (nears_of at.now.c (live_in_parts c segments.now ++ items_of buffer.now)) v.docs.items) }
+        → IfOk result (IsFound D k at.now.c (heads_of segments.now)
+        (live_in_parts c segments.now ++ items_of buffer.now)) }
     ensures reads { IsTrue F.told → Agrees (F.files folder.old) cache.old → (c : Contents)
         → AreRead D (F.files folder.old) c segments.now
         → (found : List Near)
         → IsNearest k (nears_of at.now.c (live_in_parts c segments.now ++ items_of buffer.now)) found
         → (leaves : ℕ) → AreNearLeaves D at.now.c (bound_of k found) (heads_of segments.now) leaves
         → F.reads folder.new ≤ F.reads folder.old + leaves }
-    // known dead leaves and segments without a live number count too
-    ensures touches { IsTrue F.told → Agrees (F.files folder.old) cache.old → (c : Contents)
-        → AreRead D (F.files folder.old) c segments.now → IfOk result
-        (λ v. AreNearLeaves D at.now.c (bound_of k v.docs.items) (heads_of segments.now) v.touched) }
     // where the page of each leaf is kept nothing is read
     ensures kept { (trees : ℕ → IndexTree) → HaveTrees D (heads_of segments.now) trees
         → AreLeavesKept cache.old (heads_of segments.now) trees

@@ -17,7 +17,8 @@ ghost use Rattle.bkd_reader.specs.Unread.{AreKept, IsTouched};
 ghost use Rattle.documents.specs.Entries.{numbers_found};
 ghost use Rattle.segment_view.specs.LiveSegments.{Contents, IsRead, AreRead, live_segment, heads_of, ids_of};
 ghost use Rattle.segment_view.specs.LiveSegments.{live_in_parts};
-ghost use Rattle.segment_view.specs.Costs.{leaves_in, AreTested, AreTouched, AreTouchedKept, IsCostOf, ReadsTouched};
+ghost use Rattle.segment_view.specs.Costs.{leaves_in, AreTested, AreTouched, AreTouchedKept, AsksAtMost, IsCostOf};
+ghost use Rattle.segment_view.specs.Costs.{ReadsTouched};
 ghost use Rattle.segment_view.specs.Found.{AreFound};
 ghost use Rattle.segment_view.specs.Calm.{IsCalm};
 ghost use Rattle.segment_view.specs.Damages.{IsPartDamage, IsReadDamage};
@@ -55,9 +56,8 @@ pub fn visit<const D: usize, S: Shape<D>, F: Pages>(
         (λ v. AreFound (S.has shape.old) (live_in_parts c segments.now ++ items_of buffer.now) v.docs.items) }
     ensures rises { IfOk result (λ v. IsStrictlyIncreasing v.docs.items) }
     // What it costs, over every folder.
-    ensures tests { (n : ℕ) → AreTested D (S.crosses shape.old) (heads_of segments.now) n
-        → S.tests shape.new ≤ S.tests shape.old + n + length buffer.now }
-    ensures compares { S.compares shape.new ≤ S.compares shape.old + 2 * leaves_in (heads_of segments.now) }
+    ensures asks { AsksAtMost D (S.crosses shape.old) (heads_of segments.now) (length buffer.now)
+        (S.tests shape.old) (S.tests shape.new) (S.compares shape.old) (S.compares shape.new) }
     ensures reads { ReadsTouched D (S.has shape.old) (S.crosses shape.old) segments.now cache.old cache.new
         (F.reads folder.old) (F.reads folder.new) result }
     ensures counts { IfOk result

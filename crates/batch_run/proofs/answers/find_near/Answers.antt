@@ -23,7 +23,7 @@ pub returns-clause-reply : goal.returns-clause-reply
 returns-clause-reply g c = λ docs h.
     let live : List Item = live_in_parts h.contents c.args.segments.now in
     let found : IsNearest c.args.k (nears_of c.args.at.now.c (live ++ [])) c.in_ok-found.found.docs.items =
-    rw c.in_ok-found.ensures at (c.nearest-found.ensures.answer refl c.requires.agrees h.contents h.read) in
+    (rw c.in_ok-found.ensures at (c.nearest-found.ensures.answer refl c.requires.agrees h.contents h.read)).docs in
     let are : AreDocs h.next (live ++ []) docs = subst (λ (xs : List Item). AreDocs h.next xs docs) (sym (append-nil live)) h.are_docs in
     let same = c.docs_nearest.ensures h.next c.args.k (live ++ []) docs c.args.at.now.c c.in_ok-found.found.docs.items are found in
     ap (λ (nears : List Near). reply.Near nears)

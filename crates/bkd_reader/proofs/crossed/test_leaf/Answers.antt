@@ -1,4 +1,4 @@
-use Rattle.std.proofs.Common.{arith}
+use Rattle.std.proofs.Common.{refl, arith}
 use Rattle.std.proofs.lemmas.Result.{err_from_is_err_and}
 use Rattle.outer_io.specs.Files.{bytes_of}
 use Rattle.outer_io.specs.declared.file_name.FileName.TheVariants.{Segment}
@@ -90,14 +90,12 @@ returns-clause-reads g c = record {
 
 -- ---- what is counted
 
-pub returns-clause-tested : goal.returns-clause-tested
-returns-clause-tested g c = λ first s path t is. c.entries_of.ensures.count first s path t is
-
-pub returns-clause-few_tested : goal.returns-clause-few_tested
-returns-clause-few_tested g c =
+pub returns-clause-counts : goal.returns-clause-counts
+returns-clause-counts g c =
     let one = c.requires.leaf in
     let few = c.entries_of.ensures.few in
-    omega (arith, one, few)
-
-pub returns-clause-few_touched : goal.returns-clause-few_touched
-returns-clause-few_touched g c = let one = c.requires.leaf in omega (arith, one)
+    record {
+      tested = c.entries_of.ensures.count;
+      touched = refl;
+      few = (omega (arith, one, few), omega (arith, one));
+    }

@@ -281,11 +281,23 @@ returns-in-None-clause-tested g t c = λ first s path t' root.
     let all = leaf_tested c.args.node.now (g.S.Shape.has c.args.shape.now) (g.S.Shape.crosses c.args.shape.now) (count_of c.args.head.now) first s path t'
     root.is (search rules) _
     (c.cell.ensures first s path t' root.is) c.in-Crosses.ensures.answer in
-    IfOk-weaker c.test_leaf.result _ _ (λ n is. is ∙ all) (c.test_leaf.ensures.tested first s path t' root.is)
+    IfOk-weaker c.test_leaf.result _ _ (λ n is. is.tested first s path t' root.is ∙ all) c.test_leaf.ensures.counts
 
 pub returns-in-None-clause-touched : goal.returns-in-None-clause-touched
 returns-in-None-clause-touched g t c = λ first s path t' root.
     let all = leaf_touched c.args.node.now (g.S.Shape.has c.args.shape.now) (g.S.Shape.crosses c.args.shape.now) (count_of c.args.head.now) first s path t'
     root.is (search rules) _
     (c.cell.ensures first s path t' root.is) c.in-Crosses.ensures.answer in
-    IfOk-weaker c.test_leaf.result _ _ (λ n is. is ∙ all) c.test_leaf.ensures.touched
+    IfOk-weaker c.test_leaf.result _ _ (λ n is. is.touched ∙ all) c.test_leaf.ensures.counts
+
+pub returns-in-None-clause-few_tested : goal.returns-in-None-clause-few_tested
+returns-in-None-clause-few_tested g t c = IfOk-weaker c.test_leaf.result _ _ (λ n is. is.few.0) c.test_leaf.ensures.counts
+
+pub returns-in-None-clause-few_touched : goal.returns-in-None-clause-few_touched
+returns-in-None-clause-few_touched g t c = IfOk-weaker c.test_leaf.result _ _ (λ n is. is.few.1) c.test_leaf.ensures.counts
+
+pub returns-in-None-clause-has : goal.returns-in-None-clause-has
+returns-in-None-clause-has g t c = c.test_leaf.ensures.shape.points ∙ c.compare.ensures.has
+
+pub returns-in-None-clause-crosses : goal.returns-in-None-clause-crosses
+returns-in-None-clause-crosses g t c = c.test_leaf.ensures.shape.cells ∙ c.compare.ensures.crosses

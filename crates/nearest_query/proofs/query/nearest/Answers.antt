@@ -22,20 +22,6 @@ returns-clause-answer g c = λ told agrees contents segments.
     c.requires.lives (c.in_ok-offer_all.ensures.found [] c.new-found.ensures.best) (c.in_ok-push_roots.ensures.nodes w rs refl refl)
     (c.in_ok-push_roots.ensures.totals w rs refl refl) in
     let answer = c.in_ok-taken.ensures.answer told agrees w _ (record { at_is = refl; heads_are = refl; lives_are = refl; files_are = refl }) sought in
-    subst (λ xs. IsNearest c.args.k (nears_of c.args.at.now.c (live_in contents c.args.heads.now c.args.lives.now ++ items_of c.args.buffer.now)) xs)
-    (sym c.in_ok-docs.ensures)
-    (subst (λ k. IsNearest k (nears_of c.args.at.now.c (live_in contents c.args.heads.now c.args.lives.now ++ items_of c.args.buffer.now))
-    (found_of c.search.new.found)) room answer)
-
-pub returns-clause-touches : goal.returns-clause-touches
-returns-clause-touches g c = λ told agrees contents segments.
-    let w = world g.row.D c.args.at.now.c c.args.heads.now c.args.lives.now (g.F.Pages.files c.args.folder.now) contents segments in
-    let rs = roots g.row.D c.args.at.now.c c.args.heads.now c.args.lives.now (g.F.Pages.files c.args.folder.now) contents segments in
-    let room = c.in_ok-offer_all.ensures.room ∙ c.new-found.ensures.room ∙ c.from.ensures in
-    let sought = start g.row.D c.args.at.now.c c.args.heads.now c.args.lives.now (g.F.Pages.files c.args.folder.now) contents segments
-    (items_of c.args.buffer.now) c.push_roots.new.frontier.waiting c.push_roots.new.frontier.nodes c.offer_all.new.found
-    c.requires.lives (c.in_ok-offer_all.ensures.found [] c.new-found.ensures.best) (c.in_ok-push_roots.ensures.nodes w rs refl refl)
-    (c.in_ok-push_roots.ensures.totals w rs refl refl) in
     let docs = c.in_ok-docs.docs.items in
     let taken = c.in_ok-taken.ensures.touched told agrees w _ (record { at_is = refl; heads_are = refl; lives_are = refl; files_are = refl }) sought in
     let bounds = ap (λ k. sum_by (sum_below (one_within w (bound_of k (found_of c.search.new.found)))) c.push_roots.new.frontier.waiting) room
@@ -44,8 +30,14 @@ returns-clause-touches g c = λ told agrees contents segments.
     let reached : c.reach.result ≡ bound_of c.args.k docs = c.reach.ensures ∙ ap (bound_of c.args.k) c.as_slice.ensures.value in
     let all = c.in_ok-touched.ensures w rs refl refl refl
     ∙ ap (λ b. c.in_ok-taken.taken + sum_of_dead w (one_within w b) (length c.args.heads.now)) reached in
-    all_near g.row.D c.args.at.now.c c.args.heads.now c.args.lives.now (g.F.Pages.files c.args.folder.now) contents segments
-    (bound_of c.args.k docs) c.in_ok-touched.touched (omega (arith, taken, bounds, live, all))
+    record {
+      docs = subst (λ xs. IsNearest c.args.k (nears_of c.args.at.now.c (live_in contents c.args.heads.now c.args.lives.now ++ items_of c.args.buffer.now)) xs)
+          (sym c.in_ok-docs.ensures)
+          (subst (λ k. IsNearest k (nears_of c.args.at.now.c (live_in contents c.args.heads.now c.args.lives.now ++ items_of c.args.buffer.now))
+          (found_of c.search.new.found)) room answer);
+      touched = all_near g.row.D c.args.at.now.c c.args.heads.now c.args.lives.now (g.F.Pages.files c.args.folder.now) contents segments
+          (bound_of c.args.k docs) c.in_ok-touched.touched (omega (arith, taken, bounds, live, all));
+    }
 
 pub returns-clause-reads : goal.returns-clause-reads
 returns-clause-reads g c = λ told agrees contents segments nearest is leaves near.

@@ -8,7 +8,8 @@ use Rattle.page_cache.specs.Evidence.{OnDamage}
 use Rattle.segment_file.specs.Heads.{Head, IsHead}
 use Rattle.documents.specs.NearestEntries.{IsNearest, nears_of}
 use Rattle.nearest_query.specs.Segments.{AreLeavesKept, AreNearLeaves, AreSegments, HasId, HaveTrees, IsSegmentDamage, bound_of, live_in}
-use Rattle.segment_view.specs.LiveSegments.{heads_of}
+use Rattle.nearest_query.specs.Found.{IsFound}
+use Rattle.segment_view.specs.LiveSegments.{heads_of, live_in_parts}
 use Rattle.segment_view.proofs.Listing.{hide_these, these_hide, ids_of_these, lives_beside}
 use Rattle.segment_view.proofs.Living.{live_listed, read_segments}
 use Rattle.segment_view.proofs.Reading.{id_of}
@@ -22,8 +23,10 @@ returns-clause-answer g c = λ told agrees es read.
     let at = c.args.at.now.c in
     let live = ap (λ (hs : List Head). live_in es hs c.lives.result.now) c.heads-2.ensures.value
     ∙ ap (λ (ls : List LiveSet). live_in es (heads_of parts) ls) c.lives.ensures ∙ live_listed es parts in
-    subst (λ (xs : List Item). IfOk c.nearest.result (λ v. IsNearest c.args.k (nears_of at (xs ++ items_of c.args.buffer.now)) v.docs.items)) live
-    (c.nearest.ensures.answer told agrees es (subst (AreSegments g.row.D files es) (sym c.heads-2.ensures.value) (read_segments g.row.D files es parts read)))
+    subst (λ (hs : List Head). IfOk c.nearest.result (IsFound g.row.D c.args.k at hs (live_in_parts es parts ++ items_of c.args.buffer.now)))
+    c.heads-2.ensures.value
+    (subst (λ (xs : List Item). IfOk c.nearest.result (IsFound g.row.D c.args.k at c.heads-2.result.now (xs ++ items_of c.args.buffer.now))) live
+    (c.nearest.ensures.answer told agrees es (subst (AreSegments g.row.D files es) (sym c.heads-2.ensures.value) (read_segments g.row.D files es parts read))))
 
 pub returns-clause-reads : goal.returns-clause-reads
 returns-clause-reads g c = λ told agrees es read found is leaves near.
@@ -36,15 +39,6 @@ returns-clause-reads g c = λ told agrees es read found is leaves near.
     found
     (subst (λ (xs : List Item). IsNearest c.args.k (nears_of at (xs ++ items_of c.args.buffer.now)) found) (sym live) is) leaves
     (subst (λ (hs : List Head). AreNearLeaves g.row.D at (bound_of c.args.k found) hs leaves) (sym c.heads-2.ensures.value) near)
-
-pub returns-clause-touches : goal.returns-clause-touches
-returns-clause-touches g c = λ told agrees es read.
-    let files = g.F.Pages.files c.args.folder.now in
-    subst
-    (λ (hs : List Head). IfOk c.nearest.result (λ v. AreNearLeaves g.row.D c.args.at.now.c (bound_of c.args.k v.docs.items) hs v.touched))
-    c.heads-2.ensures.value
-    (c.nearest.ensures.touches told agrees es
-    (subst (AreSegments g.row.D files es) (sym c.heads-2.ensures.value) (read_segments g.row.D files es c.args.segments.now read)))
 
 pub nearest-requires : goal.nearest-requires
 nearest-requires g c = (

@@ -1,5 +1,7 @@
 -- What is live is found.
-use Rattle.std.proofs.Common.{refl, sym, ap, subst, ◌∙◌}
+use Rattle.std.proofs.Common.{IfOk, refl, sym, ap, subst, ◌∙◌}
+use Rattle.segment_view.specs.LiveSegments.{heads_of}
+use Rattle.segment_view.specs.Costs.{IsCostOf}
 use Rattle.segment_set.specs.Sets.{SetData}
 use Rattle.segment_set.specs.Seen.{Sees}
 use Rattle.segment_set.proofs.Sizes.{set_fits}
@@ -13,6 +15,12 @@ visit-requires g c = (set_fits g.row.D c.self.invariant.few, tt)
 pub returns-clause-found : goal.returns-clause-found
 returns-clause-found g c told i seen =
     c.visit.ensures.found told i (subst (λ (u : SessionData). Sees g.row.D (g.F.Pages.files c.args.folder.now) u.set i) (sym c.self.view_is) seen) i.docs refl
+
+pub returns-clause-counts : goal.returns-clause-counts
+returns-clause-counts g c =
+    subst (λ (u : SessionData).
+    IfOk c.visit.result (λ v. IsCostOf g.row.D (g.S.Shape.has c.args.shape.now) (g.S.Shape.crosses c.args.shape.now) (heads_of u.set.parts) v.cost))
+    c.self.view_is c.visit.ensures.counts
 
 pub returns-clause-seen : goal.returns-clause-seen
 returns-clause-seen g c told i seen =

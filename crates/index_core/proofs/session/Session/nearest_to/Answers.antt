@@ -1,5 +1,7 @@
 -- What is live is found.
-use Rattle.std.proofs.Common.{refl, sym, ap, subst, ◌∙◌}
+use Rattle.std.proofs.Common.{IfOk, refl, sym, ap, subst, ◌∙◌}
+use Rattle.nearest_query.specs.Segments.{AreNearLeaves, bound_of}
+use Rattle.segment_view.specs.LiveSegments.{heads_of}
 use Rattle.segment_set.specs.Sets.{SetData}
 use Rattle.segment_set.specs.Seen.{Sees}
 use Rattle.segment_set.proofs.Sizes.{point_fits, set_fits}
@@ -13,6 +15,12 @@ nearest-requires g c = let dims = c.self.invariant.few in (set_fits g.row.D dims
 pub returns-clause-found : goal.returns-clause-found
 returns-clause-found g c told i seen =
     c.nearest.ensures.found told i (subst (λ (u : SessionData). Sees g.row.D (g.F.Pages.files c.args.folder.now) u.set i) (sym c.self.view_is) seen) i.docs refl
+
+pub returns-clause-touches : goal.returns-clause-touches
+returns-clause-touches g c told i seen =
+    subst (λ (u : SessionData).
+    IfOk c.nearest.result (λ v. AreNearLeaves g.row.D c.args.at.now.c (bound_of c.args.k v.docs.items) (heads_of u.set.parts) v.touched)) c.self.view_is
+    (c.nearest.ensures.touches told i (subst (λ (u : SessionData). Sees g.row.D (g.F.Pages.files c.args.folder.now) u.set i) (sym c.self.view_is) seen))
 
 pub returns-clause-seen : goal.returns-clause-seen
 returns-clause-seen g c told i seen =

@@ -1,4 +1,5 @@
 -- What is found are the nearest documents that the view shows.
+use Rattle.std.proofs.lemmas.Result.{IfOk-weaker}
 use Rattle.std.proofs.Common.{◌≡◌, List, IfOk, sym, ap, subst, ◌∙◌, lit<}
 use Rattle.point_codec.specs.Points.{Item}
 use Rattle.point_codec.specs.Seen.{items_of}
@@ -105,13 +106,15 @@ nearest-requires g c =
 pub returns-clause-found : goal.returns-clause-found
 returns-clause-found g c told i seen docs is =
     looked_nearest (λ v. v.docs.items) _ _ _ i (view_name c.args.view.now) _ _ _ _ docs (parts_are g c) (buffer_is g c) seen is _
-    (c.nearest.ensures.answer told (agreed g c i seen) seen.contents (looked_read _ _ _ i _ _ (parts_are g c) seen))
+    (IfOk-weaker c.nearest.result _ _ (λ v h. h.docs)
+    (c.nearest.ensures.answer told (agreed g c i seen) seen.contents (looked_read _ _ _ i _ _ (parts_are g c) seen)))
 
 pub returns-clause-touches : goal.returns-clause-touches
 returns-clause-touches g c told i seen =
     subst (λ (ps : List LiveSegment).
     IfOk c.nearest.result (λ v. AreNearLeaves g.row.D c.args.at.now.c (bound_of c.args.k v.docs.items) (heads_of ps) v.touched)) (parts_are g c)
-    (c.nearest.ensures.touches told (agreed g c i seen) seen.contents (looked_read _ _ _ i _ _ (parts_are g c) seen))
+    (IfOk-weaker c.nearest.result _ _ (λ v h. h.touched)
+    (c.nearest.ensures.answer told (agreed g c i seen) seen.contents (looked_read _ _ _ i _ _ (parts_are g c) seen)))
 
 pub returns-clause-seen : goal.returns-clause-seen
 returns-clause-seen g c told i seen =

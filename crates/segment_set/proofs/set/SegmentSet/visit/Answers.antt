@@ -1,12 +1,12 @@
 -- What is found are the documents that the view shows.
-use Rattle.std.proofs.Common.{◌≡◌, ◌+◌, ◌*◌, ◌≤◌, List, length, IfOk, sym, ap, subst, ◌∙◌, arith}
+use Rattle.std.proofs.Common.{◌≡◌, List, length, IfOk, sym, ap, subst, ◌∙◌}
 use Rattle.std.proofs.lemmas.List.{length-map}
 use Rattle.point_codec.specs.Seen.{items_of}
 use Rattle.page_cache.specs.Cache.{Agrees}
 use Rattle.page_cache.specs.Evidence.{OnDamage}
 use Rattle.script_lang.specs.Seen.{view_name}
 use Rattle.segment_view.specs.LiveSegments.{LiveSegment, heads_of, ids_of}
-use Rattle.segment_view.specs.Costs.{AreTested, AreTouched, IsCostOf, leaves_in}
+use Rattle.segment_view.specs.Costs.{AreTouched, AsksAtMost, IsCostOf}
 use Rattle.segment_view.specs.Calm.{IsCalm}
 use Rattle.segment_view.specs.Damages.{IsPartDamage}
 use Rattle.segment_view.proofs.Reading.{calm_cached}
@@ -94,18 +94,15 @@ returns-clause-counts g c =
     IfOk c.visit.result (λ v. IsCostOf g.row.D (g.S.Shape.has c.args.shape.now) (g.S.Shape.crosses c.args.shape.now) (heads_of ps) v.cost)) (parts_are g c)
     c.visit.ensures.counts
 
-pub returns-clause-tests : goal.returns-clause-tests
-returns-clause-tests g c n are =
-    let most = c.visit.ensures.tests n
-    (subst (λ (ps : List LiveSegment). AreTested g.row.D (g.S.Shape.crosses c.args.shape.now) (heads_of ps) n) (sym (parts_are g c)) are) in
-    let long : length (viewed_buffer (view_name c.args.view.now) c.args.self.now) ≡ length c.view_of.result.1.now =
-    ap length (sym (buffer_is g c)) ∙ length-map c.view_of.result.1.now _ in
-    omega (arith, most, long)
-
-pub returns-clause-compares : goal.returns-clause-compares
-returns-clause-compares g c =
-    subst (λ (ps : List LiveSegment). g.S.Shape.compares c.visit.new.shape ≤ g.S.Shape.compares c.args.shape.now + 2 * leaves_in (heads_of ps)) (parts_are g c)
-    c.visit.ensures.compares
+pub returns-clause-asks : goal.returns-clause-asks
+returns-clause-asks g c =
+    let long : length c.view_of.result.1.now ≡ length (viewed_buffer (view_name c.args.view.now) c.args.self.now) =
+    sym (length-map c.view_of.result.1.now _) ∙ ap length (buffer_is g c) in
+    subst (λ n. AsksAtMost g.row.D (g.S.Shape.crosses c.args.shape.now) (heads_of (viewed_parts (view_name c.args.view.now) c.args.self.now)) n
+    (g.S.Shape.tests c.args.shape.now) (g.S.Shape.tests c.visit.new.shape) (g.S.Shape.compares c.args.shape.now) (g.S.Shape.compares c.visit.new.shape)) long
+    (subst (λ (ps : List LiveSegment). AsksAtMost g.row.D (g.S.Shape.crosses c.args.shape.now) (heads_of ps) (length c.view_of.result.1.now)
+    (g.S.Shape.tests c.args.shape.now) (g.S.Shape.tests c.visit.new.shape) (g.S.Shape.compares c.args.shape.now) (g.S.Shape.compares c.visit.new.shape))
+    (parts_are g c) c.visit.ensures.asks)
 
 pub returns-clause-reads : goal.returns-clause-reads
 returns-clause-reads g c n are =
