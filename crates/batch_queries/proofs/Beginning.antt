@@ -111,13 +111,13 @@ module _ (D : ℕ) (told : Type 0) (r : Resident D) where
     -- the merge of the positions below the count is begun
     pub begins_done : {T : Type 0} (x : Applied) (y : T) → positions ≡ below merged_count
         → Applies D told (λ i. step_on i (asks.MergeBegin positions)) false a b (Ok x)
-        → OnDone (Ok x) (HasBegun positions a.session.set b.session.set) → BeginsMerge D told r (moment_of a) (moment_of b) (Ok y)
+        → OnDone (Ok x) (HasBegun D told a.files positions a.session.set b.session.set) → BeginsMerge D told r (moment_of a) (moment_of b) (Ok y)
     begins_done x y first begins leaves = record {
       begun = λ t o i h.
           let does = begun_is D b.files i b.session.set a.text b.text positions x (ap (λ (j : Index). j.begun) h.is)
           (begins.does t i (o.seen i h) (λ e. o.trusts.guards)) in
-          let has : HasBegun positions a.session.set b.session.set =
-          subst (λ (z : Applied). OnDone (Ok z) (HasBegun positions a.session.set b.session.set)) does.0 leaves in
+          let has : HasBegun D told a.files positions a.session.set b.session.set =
+          subst (λ (z : Applied). OnDone (Ok z) (HasBegun D told a.files positions a.session.set b.session.set)) does.0 leaves in
           record {
             seen = does.1;
             trusts = record {

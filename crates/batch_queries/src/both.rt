@@ -50,7 +50,8 @@ pub fn beside<const D: usize, R: Threads + Sync, F: Folder, G: Gate>(
           text = text.new.items;
           faults = F.faults folder.new;
         }) result.1 }
-    ensures leaves { OnDone result.1 (HasBegun which session.old.set session.new.set) }
+    ensures leaves { OnDone result.1
+        (HasBegun D (IsTrue F.told) (F.files folder.old) which session.old.set session.new.set) }
 {
     let rt = work.rt;
     let alloc = work.alloc;

@@ -17,7 +17,7 @@ use Rattle.segment_set.specs.declared.faults.BeginFault.TheVariants as begin
 use Rattle.segment_set.specs.declared.faults.EndFault.{EndFault}
 use Rattle.segment_set.specs.declared.faults.EndFault.TheVariants as end
 use Rattle.segment_set.specs.Sets.{BegunMerge, IsWell, SetData, inputs_of}
-use Rattle.segment_set.specs.Merges.{Swaps, Replaces, living}
+use Rattle.segment_set.specs.Merges.{Collects, Swaps, Replaces, living}
 use Rattle.segment_set.proofs.Carried.{placed_cases}
 use Rattle.segment_set.proofs.Standing.{ids_named}
 use Rattle.segment_set.specs.Kept.{AreCanonical, StaysButMerge}
@@ -28,14 +28,15 @@ use Rattle.index_model.specs.declared.session.Applied.TheVariants as applied
 use Rattle.index_core.specs.Replies.{begin_answer, end_answer}
 use Rattle.index_core.specs.Effects.{HasBegun, HasEnded, OnDone}
 
-pub begin_leaves : {T : Type 0} (positions : List ℕ) (s t : SetData) (r : Result T BeginFault)
-    → OnOk r ((b : BegunMerge) × (t.begun ≡ Some b) × (b.inputs ≡ chosen_ids positions (ids_of s.parts))) → StaysButMerge s t
-    → OnDone (begin_answer r) (HasBegun positions s t)
-begin_leaves positions s t (Ok x) inputs rest = record { inputs = inputs; rest = rest }
-begin_leaves positions s t (Err begin.Begun) inputs rest = tt
-begin_leaves positions s t (Err begin.Failed) inputs rest = tt
-begin_leaves positions s t (Err (begin.Damaged d)) inputs rest = tt
-begin_leaves positions s t (Err begin.Memory) inputs rest = tt
+pub begin_leaves : {T : Type 0} (D : ℕ) (told : Type 0) (files : Files) (positions : List ℕ) (s t : SetData) (r : Result T BeginFault)
+    → OnOk r ((b : BegunMerge) × (t.begun ≡ Some b) × (b.inputs ≡ chosen_ids positions (ids_of s.parts)))
+    → OnOk r ((b : BegunMerge) → t.begun ≡ Some b → Collects D s.leaf_size told files s.parts b) → StaysButMerge s t
+    → OnDone (begin_answer r) (HasBegun D told files positions s t)
+begin_leaves D told files positions s t (Ok x) inputs built rest = record { inputs = inputs; built = built; rest = rest }
+begin_leaves D told files positions s t (Err begin.Begun) inputs built rest = tt
+begin_leaves D told files positions s t (Err begin.Failed) inputs built rest = tt
+begin_leaves D told files positions s t (Err (begin.Damaged d)) inputs built rest = tt
+begin_leaves D told files positions s t (Err begin.Memory) inputs built rest = tt
 
 -- what went is gone: the one that came has a name that was free, and those that went are named
 not_again : (names : NameList) (ids : List ℕ) (id : ℕ) → ((n : ℕ) → Contains ids n → is_named names.names (Segment n) ≡ true)

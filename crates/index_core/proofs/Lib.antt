@@ -22,3 +22,4 @@ pub mod Undone
 pub mod Closing
 pub mod Brought
 pub mod Owned
+pub mod Arranging

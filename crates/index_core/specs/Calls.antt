@@ -1,5 +1,6 @@
 -- What calls on a session leave of its folder and of it, whatever they answer, and what a fault of theirs says.
 use Rattle.std.specs.Prelude.{◌≡◌, ◌≤◌, ◌+◌, ℕ, Contains, Result, None, Some, true, length, IfOk, IsOk, OnOk}
+use Rattle.std.specs.Prelude.{OnErr}
 use Rattle.outer_io.specs.declared.file_name.FileName.{FileName}
 use Rattle.outer_io.specs.declared.file_name.FileName.TheVariants.{Commit, Segment}
 use Rattle.outer_io.specs.Files.{Files, bytes_of}
@@ -18,6 +19,7 @@ use Rattle.segment_view.specs.LiveSegments.{LiveSegment}
 use Rattle.segment_set.specs.Seen.{Sees}
 use Rattle.segment_set.specs.Faithful.{IsFaithful}
 use Rattle.segment_set.specs.Kept.{IsNeeded}
+use Rattle.index_core.specs.Arranged.{FaultLeaves}
 use Rattle.index_core.specs.Brought.{KeepsCommit, KeepsOwn}
 use Rattle.index_core.specs.Closed.{IsTracked, NamesOnlyListed}
 use Rattle.index_core.specs.Costs.{ReadsAtMost}
@@ -89,7 +91,7 @@ pub record SweepsAway {T : Type 0} (told : Type 0) (old new : Files) (s t : Sess
 
 -- What a request doesn't do. It reads no more than this, and nothing where it is refused. Blank lines, queries and what
 -- is refused leave all but the kept pages; where no segment has to be written the files and segments stay. Where the
--- set alone says that it is refused there is no fault.
+-- set alone says that it is refused there is no fault. A fault leaves the set, but that segments may be arranged anew.
 pub record Spares (D : ℕ) (told : Type 0) (r : Request) (old new : Files) (s t : SessionData) (before now : ℕ)
     (result : Result Applied PageFault) : Type 0 where
   pub reads : ReadsAtMost D told r old s before now
@@ -98,3 +100,4 @@ pub record Spares (D : ℕ) (told : Type 0) (r : Request) (old new : Files) (s t
   pub light : is_light r ≡ true → length s.set.buffer + points_in r ≤ 16384
       → StaysLight told (points_in r) old new s t
   pub barred : IsBarred r s.set → IsOk result
+  pub left : OnErr result (FaultLeaves D told r old new s.set t.set)

@@ -16,12 +16,14 @@ use Rattle.index_model.specs.declared.session.Applied.{Applied}
 use Rattle.index_model.specs.declared.session.Applied.TheVariants as applied
 use Rattle.segment_view.specs.LiveSegments.{Contents, LiveSegment, ids_of}
 use Rattle.file_names.specs.Names.{is_named}
-use Rattle.segment_set.specs.Sets.{BegunMerge, SetData, pins_of, sizes_of}
+use Rattle.segment_set.specs.Sets.{BegunMerge, SetData, pins_of, set_but, sizes_of}
 use Rattle.segment_set.specs.Seen.{Sees, StandsOver}
 use Rattle.segment_set.specs.Kept.{AreCanonical, HasCanonical, StaysButMerge}
 use Rattle.segment_set.specs.Merged.{IsEnded, IsTidy, chosen_ids, free_ids, free_parts}
-use Rattle.segment_set.specs.Settles.{MergesParts, moment}
+use Rattle.segment_set.specs.Merges.{Collects}
+use Rattle.segment_set.specs.Settles.{Flushes, MergesParts, moment}
 use Rattle.index_core.specs.Sessions.{IsStill, SessionData}
+use Rattle.index_core.specs.Arranged.{HasAdded, IsArranged, StaysButSnapshots}
 
 -- P holds where the command is done
 abbrev pub OnDone : Result Applied PageFault → Type 0 → Type 0
@@ -50,13 +52,14 @@ KeepsStill told (asks.Snapshot name) old new s t result = OnRefused result (IsSt
 KeepsStill told (asks.Release name) old new s t result = OnRefused result (IsStill told old new s t)
 KeepsStill told _ old new s t result = Unit {0}
 
--- nothing waits, no level has more than ten segments that are no inputs of the begun merge, and each segment of a new
--- name is canonical
-pub record IsFlushed (D : ℕ) (told : Type 0) (files : Files) (s t : SetData) : Type 0 where
+-- Choices of the policy were merged, and what waited went to a segment. No level has more than ten segments that are
+-- no inputs of the begun merge, and each segment of a new name is canonical.
+pub record IsFlushed (D : ℕ) (told : Type 0) (files new_files : Files) (s t : SetData) : Type 0 where
+  pub flushes : Flushes D told (moment files s) (moment new_files t)
   pub emptied : t.buffer ≡ []
   pub levels : (level : ℕ) → free_count level (sizes_of t.parts) (pins_of t.begun t.parts) ≤ 10
   pub begun : t.begun ≡ s.begun
-  pub canon : told → AreCanonical D files s.names t.parts
+  pub canon : told → AreCanonical D new_files s.names t.parts
 
 -- Of the segments that are no inputs of a begun merge one is left at most, of index form 3, and each of its entries
 -- is live. Where it was so already the set stays, and else just these were merged.
@@ -70,9 +73,11 @@ pub record IsMergedAll (D : ℕ) (told : Type 0) (files new_files : Files) (s t 
   pub merged : IsTidy s ⊎ MergesParts D told (free_ids s) (moment files s) (moment new_files t)
   pub canon : told → AreCanonical D new_files s.names t.parts
 
--- a merge is begun of the segments at these positions, and all else is as before
-pub record HasBegun (positions : List ℕ) (s t : SetData) : Type 0 where
+-- A merge is begun of the segments at these positions, and all else is as before. What is built of them has no dead
+-- entry, and no document is lost.
+pub record HasBegun (D : ℕ) (told : Type 0) (files : Files) (positions : List ℕ) (s t : SetData) : Type 0 where
   pub inputs : (b : BegunMerge) × (t.begun ≡ Some b) × (b.inputs ≡ chosen_ids positions (ids_of s.parts))
+  pub built : (b : BegunMerge) → t.begun ≡ Some b → Collects D s.leaf_size told files s.parts b
   pub rest : StaysButMerge s t
 
 -- What the begun merge had built took the place of its inputs: no segment of now has the id of one. What was named is
@@ -101,8 +106,13 @@ BringsCanonical D old new before now = (p : LiveSegment) → Contains now p → 
 
 -- what the request leaves of the set, once it is done
 abbrev pub Leaves : (D : ℕ) (told : Type 0) → Request → (files new_files : Files) → (s t : SetData) → Type 0
-Leaves D told asks.Flush files new_files s t = IsFlushed D told new_files s t
+Leaves D told (asks.Add points) files new_files s t = HasAdded D told points files s t
+Leaves D told (asks.Delete doc) files new_files s t = t ≡ set_but doc s
+Leaves D told asks.Flush files new_files s t = IsFlushed D told files new_files s t
 Leaves D told asks.Merge files new_files s t = IsMergedAll D told files new_files s t
-Leaves D told (asks.MergeBegin positions) files new_files s t = HasBegun positions s t
+Leaves D told (asks.MergeBegin positions) files new_files s t = HasBegun D told files positions s t
 Leaves D told asks.MergeEnd files new_files s t = HasEnded D told new_files s t
+Leaves D told (asks.Snapshot name) files new_files s t = StaysButSnapshots s t
+Leaves D told (asks.Release name) files new_files s t = StaysButSnapshots s t
+Leaves D told asks.Commit files new_files s t = IsArranged D told files s t
 Leaves D told _ files new_files s t = Unit {0}

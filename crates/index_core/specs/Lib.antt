@@ -1,6 +1,7 @@
 pub mod Sessions
 pub mod Steps
 pub mod Replies
+pub mod Arranged
 pub mod Effects
 pub mod Whole
 pub mod Costs

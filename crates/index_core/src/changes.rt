@@ -1,6 +1,7 @@
 //! Commands that change the documents, the segments or the snapshots.
 
-ghost use Rattle.std.specs.Prelude.{◌≡◌, ◌≤◌, ◌<◌, ◌+◌, ◌^◌, ℕ, false, nat_lt, length, All, IsTrue, IsOk};
+ghost use Rattle.std.specs.Prelude.{◌≡◌, ◌≤◌, ◌<◌, ◌+◌, ◌^◌, ◌⊎◌, ℕ, false, nat_lt, length, All, IsTrue, IsOk};
+ghost use Rattle.std.specs.Prelude.{OnErr};
 ghost use Rattle.outer_io.specs.Files.{Files};
 ghost use Rattle.script_lang.specs.Requests as asks;
 ghost use Rattle.index_model.specs.Step.{step_on};
@@ -8,9 +9,11 @@ ghost use Rattle.index_core.specs.Steps.{Applies};
 ghost use Rattle.page_cache.specs.Evidence.{NotDamaged};
 ghost use Rattle.index_core.specs.Costs.{ReadsAtMost};
 ghost use Rattle.index_core.specs.Damages.{ShowsDamage};
-ghost use Rattle.segment_set.specs.Sets.{IsNamed};
+ghost use Rattle.segment_set.specs.Sets.{IsNamed, is_live_in, set_but};
+ghost use Rattle.segment_set.specs.Kept.{StaysButCache};
 ghost use Rattle.index_core.specs.Sessions.{IsStill};
 ghost use Rattle.index_core.specs.Light.{StaysLight};
+ghost use Rattle.index_core.specs.Arranged.{HasAdded, IsArranged, StaysButSnapshots};
 ghost use Rattle.index_core.specs.Effects.{IsFlushed, KeepsStill, OnDone, OnRefused};
 
 use crate::replies::{add_answer, snap_answer, take_back};
@@ -63,6 +66,9 @@ impl<const D: usize> Session<D> {
             (F.files folder.new) self.old self.new }
         ensures unread { OnRefused result (F.reads folder.new ≡ F.reads folder.old) }
         ensures barred { 2 ^ 24 < self.old.set.points_given + length points.now → IsOk result }
+        ensures leaves { OnDone result
+            (HasAdded D (IsTrue F.told) points.now (F.files folder.old) self.old.set self.new.set) }
+        ensures left { OnErr result (IsArranged D (IsTrue F.told) (F.files folder.old) self.old.set self.new.set) }
     {
         if self.is_full(points) {
             return Ok(Applied::Refused(Refusal::Full));
@@ -87,6 +93,10 @@ impl<const D: usize> Session<D> {
             (record { files = files; session = self.new; text = out.new.items; faults = faults }) result }
         ensures damage { NotDamaged result }
         ensures light { (files : Files) → StaysLight (Unit {0}) 0 files files self.old self.new }
+        ensures leaves { OnDone result (self.new.set ≡ set_but doc self.old.set) }
+        ensures left { OnErr result
+            ((self.new ≡ self.old)
+            ⊎ ((is_live_in self.old.set doc ≡ false) × (self.new.set ≡ set_but doc self.old.set))) }
     {
         let before = out.len();
         put_deleted(out, 1)?;
@@ -125,6 +135,7 @@ impl<const D: usize> Session<D> {
         ensures damage { ShowsDamage D (IsTrue F.told) (asks.DeleteBox lo.now.c hi.now.c) (F.files folder.old)
             (F.files folder.new) self.old self.new result }
         ensures unread { OnRefused result (F.reads folder.new ≡ F.reads folder.old) }
+        ensures left { OnErr result (StaysButCache self.old.set self.new.set) }
     {
         let mut shape = BoxShape::new(*lo, *hi);
         let hits = self.set.visit(alloc, folder, &View::Now, &mut shape)?;
@@ -160,7 +171,9 @@ impl<const D: usize> Session<D> {
               text = out.new.items;
               faults = F.faults folder.new;
             }) result }
-        ensures leaves { OnDone result (IsFlushed D (IsTrue F.told) (F.files folder.new) self.old.set self.new.set) }
+        ensures leaves { OnDone result
+            (IsFlushed D (IsTrue F.told) (F.files folder.old) (F.files folder.new) self.old.set self.new.set) }
+        ensures left { OnErr result (IsArranged D (IsTrue F.told) (F.files folder.old) self.old.set self.new.set) }
         ensures reads { ReadsAtMost D (IsTrue F.told) asks.Flush (F.files folder.old) self.old (F.reads folder.old)
             (F.reads folder.new) }
         ensures damage { ShowsDamage D (IsTrue F.told) asks.Flush (F.files folder.old)
@@ -188,6 +201,8 @@ impl<const D: usize> Session<D> {
         ensures damage { NotDamaged result }
         ensures light { (files : Files) → StaysLight (Unit {0}) 0 files files self.old self.new }
         ensures still { (files : Files) → OnRefused result (IsStill (Unit {0}) files files self.old self.new) }
+        ensures leaves { OnDone result (StaysButSnapshots self.old.set self.new.set) }
+        ensures left { OnErr result (self.new ≡ self.old) }
     {
         let before = out.len();
         put_ok(out)?;
@@ -205,6 +220,8 @@ impl<const D: usize> Session<D> {
         ensures damage { NotDamaged result }
         ensures light { (files : Files) → StaysLight (Unit {0}) 0 files files self.old self.new }
         ensures still { (files : Files) → OnRefused result (IsStill (Unit {0}) files files self.old self.new) }
+        ensures leaves { OnDone result (StaysButSnapshots self.old.set self.new.set) }
+        ensures left { OnErr result (self.new ≡ self.old) }
     {
         if !self.set.has_snapshot(name) {
             return Ok(Applied::Refused(Refusal::UnknownSnapshot));

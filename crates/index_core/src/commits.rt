@@ -18,6 +18,7 @@ ghost use Rattle.segment_set.specs.Faithful.{IsFaithful};
 ghost use Rattle.segment_set.specs.Sets.{IsNamed, IsSettled};
 ghost use Rattle.segment_set.specs.Kept.{Follows, IsCommitOf, StaysButFiles};
 ghost use Rattle.index_core.specs.Sessions.{AreTraced, Guards, GuardsSet, IsSound, IsUnchanged, StaysTrue, last_lines};
+ghost use Rattle.index_core.specs.Arranged.{IsArranged};
 ghost use Rattle.index_core.specs.Calls.{HasNoDamage, IsCommitted, IsDurable, ShowsFault, SweepsAway};
 ghost use Rattle.index_core.specs.Closed.{IsSessionClosed, IsIdle};
 ghost use Rattle.index_core.specs.Costs.{ReadsAtMost};
@@ -66,6 +67,8 @@ impl<const D: usize> Session<D> {
         ensures canon { IsTrue F.told
             → BringsCanonical D (F.files folder.old) (F.files folder.new) self.old.set.parts self.new.set.parts }
         ensures follows { Follows self.old.set.names self.old.set.parts self.new.set.parts }
+        // whatever is answered, the set is as before, but that segments may be arranged anew
+        ensures arranged { IsArranged D (IsTrue F.told) (F.files folder.old) self.old.set self.new.set }
         ensures faults { ShowsFault D (IsTrue F.told) (F.files folder.old) (F.files folder.new) self.old
             (F.faults folder.old)
             (F.faults folder.new) result }
@@ -234,6 +237,7 @@ impl<const D: usize> Session<D> {
             (F.reads folder.new) }
         ensures damage { ShowsDamage D (IsTrue F.told) asks.Commit (F.files folder.old)
             (F.files folder.new) self.old self.new result }
+        ensures arranged { IsArranged D (IsTrue F.told) (F.files folder.old) self.old.set self.new.set }
         ensures unread { OnRefused result (F.reads folder.new ≡ F.reads folder.old) }
     {
         self.commit(rt, alloc, folder, gate)?;

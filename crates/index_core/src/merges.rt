@@ -1,8 +1,10 @@
 //! Merges that a line asks for.
 
-ghost use Rattle.std.specs.Prelude.{◌≡◌, ◌<◌, ◌+◌, None, false, IsTrue, IsOk};
+ghost use Rattle.std.specs.Prelude.{◌≡◌, ◌<◌, ◌+◌, None, false, IsTrue, IsOk, OnErr};
 ghost use Rattle.script_lang.specs.Requests as asks;
 ghost use Rattle.index_model.specs.Step.{step_on};
+ghost use Rattle.segment_set.specs.Kept.{IsAsBefore, StaysButCache};
+ghost use Rattle.index_core.specs.Arranged.{FaultLeaves};
 ghost use Rattle.index_core.specs.Steps.{Applies};
 ghost use Rattle.index_core.specs.Costs.{ReadsAtMost};
 ghost use Rattle.index_core.specs.Damages.{ShowsDamage};
@@ -46,6 +48,9 @@ impl<const D: usize> Session<D> {
             (IsMergedAll D (IsTrue F.told) (F.files folder.old) (F.files folder.new) self.old.set self.new.set) }
         ensures damage { ShowsDamage D (IsTrue F.told) asks.Merge (F.files folder.old)
             (F.files folder.new) self.old self.new result }
+        ensures left { OnErr result
+            (FaultLeaves D (IsTrue F.told) asks.Merge (F.files folder.old) (F.files folder.new) self.old.set
+            self.new.set) }
         ensures unread { OnRefused result (F.reads folder.new ≡ F.reads folder.old) }
     {
         // its segments are all named
@@ -78,7 +83,9 @@ impl<const D: usize> Session<D> {
               text = out.new.items;
               faults = F.faults folder.new;
             }) result }
-        ensures leaves { OnDone result (HasBegun which.now self.old.set self.new.set) }
+        ensures leaves { OnDone result
+            (HasBegun D (IsTrue F.told) (F.files folder.old) which.now self.old.set self.new.set) }
+        ensures left { OnErr result (StaysButCache self.old.set self.new.set) }
         ensures damage { ShowsDamage D (IsTrue F.told) (asks.MergeBegin which.now) (F.files folder.old)
             (F.files folder.new) self.old self.new result }
         ensures unread { OnRefused result (F.reads folder.new ≡ F.reads folder.old) }
@@ -113,6 +120,7 @@ impl<const D: usize> Session<D> {
               faults = F.faults folder.new;
             }) result }
         ensures leaves { OnDone result (HasEnded D (IsTrue F.told) (F.files folder.new) self.old.set self.new.set) }
+        ensures left { OnErr result (IsAsBefore self.old.set self.new.set) }
         ensures reads { ReadsAtMost D (IsTrue F.told) asks.MergeEnd (F.files folder.old) self.old (F.reads folder.old)
             (F.reads folder.new) }
         ensures damage { ShowsDamage D (IsTrue F.told) asks.MergeEnd (F.files folder.old)

@@ -1,7 +1,7 @@
 //! Sessions anew over a commit.
 
 ghost use Rattle.std.specs.Prelude.{◌≡◌, Some, true, false, IsTrue, IsSome};
-ghost use Rattle.std.specs.Prelude.{IfOk};
+ghost use Rattle.std.specs.Prelude.{IfOk, OnErr};
 ghost use Rattle.outer_io.specs.declared.file_name.FileName.{FileName};
 ghost use Rattle.page_cache.specs.Causes.{HasPageCause};
 ghost use Rattle.page_cache.specs.Evidence.{NotDamaged, OnDamage};
@@ -18,6 +18,7 @@ ghost use Rattle.index_opening.specs.Damages.{IsAttachDamage, IsAttachDamageOf};
 ghost use Rattle.file_names.specs.Names.{is_named};
 ghost use Rattle.segment_set.specs.Kept.{IsAsCommitted};
 ghost use Rattle.index_core.specs.Sessions.{AreTraced, Guards};
+ghost use Rattle.index_core.specs.Arranged.{IsArranged};
 ghost use Rattle.index_core.specs.Damages.{ShowsDamage};
 ghost use Rattle.index_core.specs.Effects.{OnRefused};
 ghost use Rattle.index_core.specs.Steps.{Applies};
@@ -59,6 +60,7 @@ impl<const D: usize> Session<D> {
             }) result }
         ensures damage { ShowsDamage D (IsTrue F.told) asks.Reopen (F.files folder.old)
             (F.files folder.new) self.old self.new result }
+        ensures left { OnErr result (IsArranged D (IsTrue F.told) (F.files folder.old) self.old.set self.new.set) }
         ensures unread { OnRefused result (F.reads folder.new ≡ F.reads folder.old) }
     {
         self.commit(rt, alloc, folder, gate)?;

@@ -22,6 +22,11 @@ use Rattle.index_core.proofs.Showing.{add_shows, damage_to, merge_none}
 use Rattle.index_core.proofs.Keeping.{add_keeps, answer_keeps, fault_keeps, still_same}
 use Rattle.index_core.proofs.Lightly.{light_added, light_same}
 use Rattle.std.proofs.lemmas.Bool.{both_ways, lt-ltb}
+use Rattle.std.proofs.Common.{OnErr, OnOk}
+use Rattle.std.proofs.lemmas.Result.{on_ok_weaker}
+use Rattle.index_core.specs.Arranged.{HasAdded, IsArranged}
+use Rattle.index_core.specs.Effects.{OnDone}
+use Rattle.index_core.proofs.Arranging.{add_done, add_left, arranged_left, arranged_same, arranged_seen, on_err_any, undone_any}
 use Rattle.index_core.proofs.session.Session.add.Goals as goal
 
 pub returns-then-is_full-clause-applies : goal.returns-then-is_full-clause-applies
@@ -152,3 +157,25 @@ pub returns-clause-barred : goal.returns-clause-barred
 returns-clause-barred g c over =
     absurd (both_ways (nat_lt (2 ^ 24) (c.args.self.now.set.points_given + length c.args.points.now)) (sym c.is_full.ensures.full ∙ c.if-is_full.false)
     (lt-ltb (2 ^ 24) (c.args.self.now.set.points_given + length c.args.points.now) over))
+
+pub returns-in_err-put_doc-clause-left : goal.returns-in_err-put_doc-clause-left
+returns-in_err-put_doc-clause-left g c = on_err_any _ c.from_residual.result (arranged_same _ _ _ _ _ refl)
+
+pub returns-in_err-put_doc-clause-leaves : goal.returns-in_err-put_doc-clause-leaves
+returns-in_err-put_doc-clause-leaves g c =
+    let p = err_from_is_err_and c.from_residual.result c.from_residual.ensures.1 in
+    undone_any _ _ _ (p.1 ∙ ap (λ (e : PageFault). Err e) p.2)
+
+pub returns-clause-left : goal.returns-clause-left
+returns-clause-left g c =
+    subst (λ r. OnErr r (IsArranged g.row.D (IsTrue g.F.Pages.told) (g.F.Pages.files c.args.folder.now) c.args.self.now.set c.add.new.self))
+    (sym c.add_answer.ensures)
+    (add_left _ _ c.add.result (λ left. arranged_seen _ _ _ _ _ _ c.self.view_is (arranged_left _ _ _ _ _ left)) c.add.ensures.left.left)
+
+pub returns-clause-leaves : goal.returns-clause-leaves
+returns-clause-leaves g c =
+    subst (λ r. OnDone r (HasAdded g.row.D (IsTrue g.F.Pages.told) c.args.points.now (g.F.Pages.files c.args.folder.now) c.args.self.now.set c.add.new.self))
+    (sym c.add_answer.ensures)
+    (add_done _ c.add.result (subst (λ (u : SessionData).
+    OnOk c.add.result (HasAdded g.row.D (IsTrue g.F.Pages.told) c.args.points.now (g.F.Pages.files c.args.folder.now) u.set c.add.new.self)) c.self.view_is
+    (on_ok_weaker c.add.result (λ added. record { at = added.0; flushes = added.1; is = added.2 }) c.add.ensures.added)))

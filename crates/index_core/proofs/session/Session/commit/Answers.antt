@@ -36,6 +36,7 @@ use Rattle.page_cache.specs.Evidence.{FaultShows}
 use Rattle.index_opening.specs.Evidence.{IsEvident}
 use Rattle.segment_set.specs.Faithful.{IsFaithful}
 use Rattle.index_opening.proofs.Evident.{none_evident}
+use Rattle.index_core.proofs.Arranging.{arranged_left, arranged_same, arranged_seen, arranged_swept, arranged_written}
 use Rattle.index_core.proofs.session.Session.commit.Goals as goal
 use Rattle.segment_set.proofs.Saving.{cause_after}
 
@@ -49,8 +50,7 @@ write-requires g c =
 pub sweep-requires : goal.sweep-requires
 sweep-requires g c = (session_fits g.row.D c.self.invariant.few, (ap is_some c.in_ok-write.ensures.written.0, c.in_ok-write.ensures.written.1))
 
--- ---- nothing was changed
-
+-- nothing was changed
 pub returns-then-not-is_changed : goal.returns-then-not-is_changed
 returns-then-not-is_changed g c =
     let unchanged = c.is_changed.ensures.unchanged.0 c.if-not-is_changed.true in
@@ -78,12 +78,12 @@ returns-then-not-is_changed g c =
       rested = λ settled. refl;
       canon = λ told. brings_same _ _ _ _ _ refl refl;
       follows = follows_none _ _;
+      arranged = arranged_same _ _ _ _ _ refl;
       faults = record { cause = no_cause _ tt; whole = λ told i seen. tt; evident = tt };
       damage = merge_none _ _ _ _ _ _ tt;
     }
 
--- ---- the set could not be saved
-
+-- the set could not be saved
 pub returns-in_err-commit : goal.returns-in_err-commit
 returns-in_err-commit g c =
     let p = err_from_is_err_and c.from_residual.result c.from_residual.ensures.1 in
@@ -119,6 +119,7 @@ returns-in_err-commit g c =
       canon = λ told. subst (λ (u : SessionData). BringsCanonical g.row.D old saved u.set.parts c.save.new.self.parts) c.self.view_is
           (brings_written _ _ _ _ _ _ _ _ told c.save.ensures.rewrites.kept c.save.ensures.rewrites.follows (c.save.ensures.rewrites.canon told));
       follows = subst (λ (u : SessionData). Follows u.set.names u.set.parts c.save.new.self.parts) c.self.view_is c.save.ensures.rewrites.follows;
+      arranged = arranged_seen _ _ _ _ _ _ c.self.view_is (arranged_left _ _ _ _ _ c.in_err-commit.ensures.left);
       faults = record {
         cause = fault_cause _ _ c.in_err-commit.field-0.0 _ error c.in_err-commit.ensures.cause;
         whole = λ told i seen.
@@ -134,8 +135,7 @@ returns-in_err-commit g c =
           (record { shown = damaged.shown; damage = damaged.damage; doubled = damaged.doubled }));
     }
 
--- ---- the commit could not be written
-
+-- the commit could not be written
 pub returns-in_err-write : goal.returns-in_err-write
 returns-in_err-write g c =
     let p = err_from_is_err_and c.from_residual-in_err-write.result c.from_residual-in_err-write.ensures.1 in
@@ -193,6 +193,7 @@ returns-in_err-write g c =
           (brings_two _ _ _ _ _ (c.write.ensures.others told) (ap (λ (u : SetData). u.parts) c.write.ensures.set)));
       follows = subst (λ (u : SessionData). Follows u.set.names u.set.parts c.write.new.self.set.parts) c.self.view_is
           (subst (λ (u : SetData). Follows c.self.inside.set.names c.self.inside.set.parts u.parts) (sym c.write.ensures.set) c.save.ensures.rewrites.follows);
+      arranged = arranged_written _ _ _ _ _ _ _ _ c.self.view_is c.write.ensures.set c.in_ok-commit.ensures.flushed;
       faults = record {
         cause =
             fault_cause _ _ fault _ error (cause_after {T = Unit {0}} _ _ _ (Err fault) c.in_ok-commit.ensures.cause.on_ok c.in_err-write.ensures.faults.cause);
@@ -202,8 +203,7 @@ returns-in_err-write g c =
       damage = merge_none _ _ _ _ _ _ (damage_to _ _ fault error c.in_err-write.ensures.faults.whole);
     }
 
--- ---- the commit is written, and what it doesn't need was swept away as far as the folder let
-
+-- the commit is written, and what it doesn't need was swept away as far as the folder let
 pub returns : goal.returns
 returns g c =
     let old = g.F.Pages.files c.args.folder.now in
@@ -290,6 +290,7 @@ returns g c =
       follows = subst (λ (u : SessionData). Follows u.set.names u.set.parts c.sweep.new.self.set.parts) c.self.view_is
           (subst (Follows c.self.inside.set.names c.self.inside.set.parts)
           (sym (ap (λ (u : SetData). u.parts) c.sweep.ensures.rest.is ∙ ap (λ (u : SetData). u.parts) c.write.ensures.set)) c.save.ensures.rewrites.follows);
+      arranged = arranged_swept _ _ _ _ _ _ _ _ _ c.self.view_is c.write.ensures.set c.sweep.ensures.rest c.in_ok-commit.ensures.flushed;
       faults = record {
         cause = cause_after _ _ _ c.sweep.result (c.in_ok-write.ensures.faults.cause.on_ok ∙ c.in_ok-commit.ensures.cause.on_ok) c.sweep.ensures.faults.cause;
         whole = λ told i seen. c.sweep.ensures.faults.whole;

@@ -126,3 +126,12 @@ returns-in_err-put_ok-clause-unread g c =
 
 pub returns-clause-unread : goal.returns-clause-unread
 returns-clause-unread g c = tt
+
+pub returns-in_err-commit-clause-arranged : goal.returns-in_err-commit-clause-arranged
+returns-in_err-commit-clause-arranged g c = c.commit.ensures.arranged
+
+pub returns-in_err-put_ok-clause-arranged : goal.returns-in_err-put_ok-clause-arranged
+returns-in_err-put_ok-clause-arranged g c = c.commit.ensures.arranged
+
+pub returns-clause-arranged : goal.returns-clause-arranged
+returns-clause-arranged g c = c.commit.ensures.arranged

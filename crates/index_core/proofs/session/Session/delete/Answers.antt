@@ -15,6 +15,10 @@ use Rattle.page_cache.specs.declared.faults.PageFault.TheVariants as page
 use Rattle.index_core.proofs.Showing.{damage_to}
 use Rattle.index_core.proofs.Lightly.{light_deleted, light_same}
 use Rattle.index_core.proofs.Guarding.{grows_same}
+use Rattle.std.proofs.Common.{false, subst, inl, inr}
+use Rattle.segment_set.specs.Sets.{is_live_in, set_but}
+use Rattle.index_core.specs.Sessions.{SessionData}
+use Rattle.index_core.proofs.Arranging.{on_err_any, undone_any}
 use Rattle.index_core.proofs.session.Session.delete.Goals as goal
 
 pub returns-in_err-put_deleted-clause-applies : goal.returns-in_err-put_deleted-clause-applies
@@ -92,3 +96,27 @@ returns-in_err-put_deleted-2-clause-light g c files = light_deleted _ _ _ _ _ c.
 
 pub returns-clause-light : goal.returns-clause-light
 returns-clause-light g c files = light_deleted _ _ _ _ _ c.self.view_is c.delete.ensures.rest
+
+pub returns-in_err-put_deleted-clause-left : goal.returns-in_err-put_deleted-clause-left
+returns-in_err-put_deleted-clause-left g c = on_err_any _ c.from_residual.result (inl refl)
+
+pub returns-in_err-put_deleted-2-clause-left : goal.returns-in_err-put_deleted-2-clause-left
+returns-in_err-put_deleted-2-clause-left g c = on_err_any _ c.from_residual-in_err-put_deleted-2.result
+    (inr (subst (λ (u : SessionData). (is_live_in u.set c.args.doc ≡ false) × (c.delete.new.self ≡ set_but c.args.doc u.set)) c.self.view_is
+    (sym c.delete.ensures.answer ∙ c.if-delete.false, c.delete.ensures.rest)))
+
+pub returns-in_err-put_deleted-clause-leaves : goal.returns-in_err-put_deleted-clause-leaves
+returns-in_err-put_deleted-clause-leaves g c =
+    let p = err_from_is_err_and c.from_residual.result c.from_residual.ensures.1 in
+    undone_any _ _ _ (p.1 ∙ ap (λ (e : PageFault). Err e) p.2)
+
+pub returns-in_err-put_deleted-2-clause-leaves : goal.returns-in_err-put_deleted-2-clause-leaves
+returns-in_err-put_deleted-2-clause-leaves g c =
+    let p = err_from_is_err_and c.from_residual-in_err-put_deleted-2.result c.from_residual-in_err-put_deleted-2.ensures.1 in
+    undone_any _ _ _ (p.1 ∙ ap (λ (e : PageFault). Err e) p.2)
+
+pub returns-then-delete-clause-leaves : goal.returns-then-delete-clause-leaves
+returns-then-delete-clause-leaves g c = subst (λ (u : SessionData). c.delete.new.self ≡ set_but c.args.doc u.set) c.self.view_is c.delete.ensures.rest
+
+pub returns-clause-leaves : goal.returns-clause-leaves
+returns-clause-leaves g c = subst (λ (u : SessionData). c.delete.new.self ≡ set_but c.args.doc u.set) c.self.view_is c.delete.ensures.rest

@@ -7,7 +7,7 @@ use Rattle.cell_relate.specs.Boxes.{CountedBox, crosses}
 use Rattle.documents.specs.Documents.{hits}
 use Rattle.script_lang.specs.Replies.{deleted_text}
 use Rattle.segment_set.specs.Sets.{SetData}
-use Rattle.segment_set.specs.Kept.{Follows}
+use Rattle.segment_set.specs.Kept.{Follows, StaysButCache}
 use Rattle.index_core.proofs.Answering.{applies_done, applies_fault, applies_seen, applies_unsaid, begins_itself}
 use Rattle.index_core.proofs.CalmCalls.{calm_cache, calm_like}
 use Rattle.index_core.proofs.Changing.{does_delete_box}
@@ -23,6 +23,7 @@ use Rattle.index_core.specs.Damages.{ShowsLeaf}
 use Rattle.index_core.proofs.Showing.{damage_to, leaf_none, leaf_to}
 use Rattle.index_core.proofs.Keeping.{fault_keeps}
 use Rattle.index_core.proofs.Guarding.{grows_same}
+use Rattle.index_core.proofs.Arranging.{on_err_any}
 use Rattle.index_core.proofs.session.Session.delete_box.Goals as goal
 
 pub returns-in_err-hits-clause-applies : goal.returns-in_err-hits-clause-applies
@@ -147,3 +148,14 @@ returns-clause-unread g c = tt
 
 pub returns-in_default-clause-unread : goal.returns-in_default-clause-unread
 returns-in_default-clause-unread g c = tt
+
+pub returns-in_err-hits-clause-left : goal.returns-in_err-hits-clause-left
+returns-in_err-hits-clause-left g c = on_err_any _ c.from_residual.result
+    (subst (λ (u : SessionData). StaysButCache u.set c.visit.new.self) c.self.view_is c.visit.ensures.rest)
+
+pub returns-in_err-put_deleted-clause-left : goal.returns-in_err-put_deleted-clause-left
+returns-in_err-put_deleted-clause-left g c = on_err_any _ c.from_residual-in_err-put_deleted.result
+    (subst (λ (u : SessionData). StaysButCache u.set c.visit.new.self) c.self.view_is c.visit.ensures.rest)
+
+pub returns-in_default-clause-left : goal.returns-in_default-clause-left
+returns-in_default-clause-left g c = subst (λ (u : SessionData). StaysButCache u.set c.visit.new.self) c.self.view_is c.visit.ensures.rest

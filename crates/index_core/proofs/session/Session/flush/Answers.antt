@@ -15,6 +15,7 @@ use Rattle.index_core.proofs.Showing.{damage_to, merge_none, merge_to}
 use Rattle.segment_set.specs.Sets.{IsSettled}
 use Rattle.index_core.proofs.Keeping.{fault_keeps}
 use Rattle.index_core.proofs.Guarding.{grows_alone}
+use Rattle.index_core.proofs.Arranging.{arranged_flushed, arranged_seen, arranged_settled, on_err_any}
 use Rattle.index_core.proofs.session.Session.flush.Goals as goal
 
 pub returns-clause-applies : goal.returns-clause-applies
@@ -75,8 +76,9 @@ flush-requires-after_bounds g c κs = λ _. set_fits g.row.D c.self.invariant.fe
 pub returns-clause-leaves : goal.returns-clause-leaves
 returns-clause-leaves g c =
     let done = c.in_ok-flush.ensures in
-    subst (λ (s : SessionData). IsFlushed g.row.D (IsTrue g.F.Pages.told) (g.F.Pages.files c.flush.new.folder) s.set c.flush.new.self) c.self.view_is
-    (record { emptied = done.emptied; levels = done.levels; begun = done.moves.begun; canon = done.moves.canon })
+    subst (λ (s : SessionData).
+    IsFlushed g.row.D (IsTrue g.F.Pages.told) (g.F.Pages.files c.args.folder.now) (g.F.Pages.files c.flush.new.folder) s.set c.flush.new.self) c.self.view_is
+    (record { flushes = done.flushed; emptied = done.emptied; levels = done.levels; begun = done.moves.begun; canon = done.moves.canon })
 
 pub returns-in_err-flush-clause-damage : goal.returns-in_err-flush-clause-damage
 returns-in_err-flush-clause-damage g c =
@@ -117,3 +119,11 @@ returns-in_err-put_ok-clause-unread g c =
 
 pub returns-clause-unread : goal.returns-clause-unread
 returns-clause-unread g c = tt
+
+pub returns-in_err-flush-clause-left : goal.returns-in_err-flush-clause-left
+returns-in_err-flush-clause-left g c = on_err_any _ c.from_residual.result
+    (arranged_seen _ _ _ _ _ _ c.self.view_is (arranged_settled _ _ _ _ _ c.in_err-flush.ensures.left))
+
+pub returns-in_err-put_ok-clause-left : goal.returns-in_err-put_ok-clause-left
+returns-in_err-put_ok-clause-left g c = on_err_any _ c.from_residual-in_err-put_ok.result
+    (arranged_seen _ _ _ _ _ _ c.self.view_is (arranged_flushed _ _ _ _ _ _ c.in_ok-flush.ensures.flushed))

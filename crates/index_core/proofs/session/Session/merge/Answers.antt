@@ -1,5 +1,5 @@
 -- Segments are merged, and the set is seen as before.
-use Rattle.std.proofs.Common.{Err, refl, ap, subst, ◌∙◌, IsTrue}
+use Rattle.std.proofs.Common.{Err, refl, ap, subst, ◌∙◌, IsTrue, inl, inr, ⊎_elim}
 use Rattle.std.proofs.lemmas.Result.{err_from_is_err_and}
 use Rattle.page_cache.specs.declared.faults.PageFault.{PageFault}
 use Rattle.script_lang.specs.Replies.{ok_text}
@@ -14,6 +14,9 @@ use Rattle.index_core.specs.Damages.{ShowsMerge}
 use Rattle.index_core.proofs.Showing.{damage_to, merge_none, merge_to}
 use Rattle.index_core.proofs.Keeping.{fault_keeps}
 use Rattle.index_core.proofs.Guarding.{grows_alone}
+use Rattle.script_lang.specs.Requests as asks
+use Rattle.index_core.specs.Arranged.{FaultLeaves}
+use Rattle.index_core.proofs.Arranging.{arranged_before, arranged_same, arranged_seen, on_err_any}
 use Rattle.index_core.proofs.session.Session.merge.Goals as goal
 
 pub returns-clause-applies : goal.returns-clause-applies
@@ -125,3 +128,15 @@ returns-in_err-put_ok-clause-unread g c =
 
 pub returns-clause-unread : goal.returns-clause-unread
 returns-clause-unread g c = tt
+
+pub returns-in_err-merge_all-clause-left : goal.returns-in_err-merge_all-clause-left
+returns-in_err-merge_all-clause-left g c = on_err_any _ c.from_residual.result
+    (inl (arranged_seen _ _ _ _ _ _ c.self.view_is (arranged_before _ _ _ _ _ c.in_err-merge_all.ensures.refused)))
+
+pub returns-in_err-put_ok-clause-left : goal.returns-in_err-put_ok-clause-left
+returns-in_err-put_ok-clause-left g c =
+    let old = g.F.Pages.files c.args.folder.now in
+    let new = g.F.Pages.files c.merge_all.new.folder in
+    on_err_any _ c.from_residual-in_err-put_ok.result
+    (subst (λ (u : SessionData). FaultLeaves g.row.D (IsTrue g.F.Pages.told) asks.Merge old new u.set c.merge_all.new.self) c.self.view_is
+    (⊎_elim (λ tidy. inl (arranged_same _ _ _ _ _ (c.merge_all.ensures.still tidy).0)) (λ merged. inr merged) c.in_ok-merge_all.ensures.merged))

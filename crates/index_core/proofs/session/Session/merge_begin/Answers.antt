@@ -24,6 +24,9 @@ use Rattle.index_core.specs.Damages.{ShowsMerge}
 use Rattle.index_core.proofs.Showing.{begin_shows, damage_to, merge_none}
 use Rattle.index_core.proofs.Keeping.{answer_keeps, begin_keeps, fault_keeps, still_same}
 use Rattle.index_core.proofs.Guarding.{grows_same}
+use Rattle.std.proofs.Common.{OnErr}
+use Rattle.segment_set.specs.Kept.{StaysButCache}
+use Rattle.index_core.proofs.Arranging.{begin_left, on_err_any}
 use Rattle.index_core.proofs.session.Session.merge_begin.Goals as goal
 
 pub returns-then-is_merging-clause-applies : goal.returns-then-is_merging-clause-applies
@@ -65,9 +68,13 @@ merge_begin-requires-after_bounds g c κs = λ _. set_fits g.row.D c.self.invari
 
 pub returns-clause-leaves : goal.returns-clause-leaves
 returns-clause-leaves g c =
-    subst (λ r. OnDone r (HasBegun c.args.which.now c.args.self.now.set c.merge_begin.new.self)) (sym c.begin_answer.ensures)
-    (subst (λ (s : SessionData). OnDone (begin_answer c.merge_begin.result) (HasBegun c.args.which.now s.set c.merge_begin.new.self)) c.self.view_is
-    (begin_leaves c.args.which.now c.self.inside.set c.merge_begin.new.self c.merge_begin.result c.merge_begin.ensures.inputs c.merge_begin.ensures.rest))
+    let files = g.F.Pages.files c.args.folder.now in
+    subst (λ r. OnDone r (HasBegun g.row.D (IsTrue g.F.Pages.told) files c.args.which.now c.args.self.now.set c.merge_begin.new.self))
+    (sym c.begin_answer.ensures)
+    (subst (λ (s : SessionData).
+    OnDone (begin_answer c.merge_begin.result) (HasBegun g.row.D (IsTrue g.F.Pages.told) files c.args.which.now s.set c.merge_begin.new.self)) c.self.view_is
+    (begin_leaves g.row.D (IsTrue g.F.Pages.told) files c.args.which.now c.self.inside.set c.merge_begin.new.self c.merge_begin.result
+    c.merge_begin.ensures.inputs c.merge_begin.ensures.built c.merge_begin.ensures.rest))
 
 pub returns-then-is_merging-clause-damage : goal.returns-then-is_merging-clause-damage
 returns-then-is_merging-clause-damage g c = merge_none _ _ _ _ _ _ tt
@@ -118,3 +125,12 @@ returns-clause-unread g c =
     let none = sym c.is_merging.ensures ∙ c.if-is_merging.false in
     answer_keeps _ _ _ c.begin_answer.ensures
     (begin_keeps _ c.merge_begin.result (λ e. both_ways (is_some c.self.inside.set.begun) none (c.merge_begin.ensures.begun.0 e)))
+
+pub returns-in_err-put_ok-clause-left : goal.returns-in_err-put_ok-clause-left
+returns-in_err-put_ok-clause-left g c = on_err_any _ c.from_residual.result (record { is = refl })
+
+pub returns-clause-left : goal.returns-clause-left
+returns-clause-left g c =
+    subst (λ r. OnErr r (StaysButCache c.args.self.now.set c.merge_begin.new.self)) (sym c.begin_answer.ensures)
+    (begin_left _ _ c.merge_begin.result (λ same. subst (λ (u : SessionData). StaysButCache u.set c.merge_begin.new.self) c.self.view_is same)
+    c.merge_begin.ensures.stays)

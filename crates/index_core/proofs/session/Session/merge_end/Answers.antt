@@ -19,6 +19,9 @@ use Rattle.page_cache.specs.Evidence.{NotDamaged}
 use Rattle.page_cache.specs.declared.faults.PageFault.TheVariants as page
 use Rattle.index_core.proofs.Showing.{damage_to}
 use Rattle.index_core.proofs.Keeping.{answer_keeps, end_keeps, fault_keeps, still_same}
+use Rattle.std.proofs.Common.{OnErr}
+use Rattle.segment_set.specs.Kept.{IsAsBefore}
+use Rattle.index_core.proofs.Arranging.{end_left, on_err_any}
 use Rattle.index_core.proofs.session.Session.merge_end.Goals as goal
 use Rattle.segment_set.proofs.Doubted.{whole_shows}
 
@@ -124,3 +127,12 @@ pub returns-clause-barred : goal.returns-clause-barred
 returns-clause-barred g c none =
     absurd (both_ways (is_some c.self.inside.set.begun) (ap (λ (u : SessionData). is_some u.set.begun) c.self.view_is ∙ ap is_some none)
     (sym c.is_merging.ensures ∙ c.if-not-is_merging.false))
+
+pub returns-in_err-put_ok-clause-left : goal.returns-in_err-put_ok-clause-left
+returns-in_err-put_ok-clause-left g c = on_err_any _ c.from_residual.result (record { is = refl })
+
+pub returns-clause-left : goal.returns-clause-left
+returns-clause-left g c =
+    subst (λ r. OnErr r (IsAsBefore c.args.self.now.set c.merge_end.new.self)) (sym c.end_answer.ensures)
+    (end_left _ _ c.merge_end.result (λ same. subst (λ (u : SessionData). IsAsBefore u.set c.merge_end.new.self) c.self.view_is same)
+    c.merge_end.ensures.rest)

@@ -18,6 +18,9 @@ use Rattle.index_core.proofs.Showing.{damage_to}
 use Rattle.index_core.proofs.Keeping.{fault_keeps, still_same}
 use Rattle.index_core.proofs.Lightly.{light_released, light_same}
 use Rattle.index_core.proofs.Guarding.{grows_same}
+use Rattle.std.proofs.Common.{subst}
+use Rattle.index_core.specs.Arranged.{StaysButSnapshots}
+use Rattle.index_core.proofs.Arranging.{but_snapshots, on_err_any, undone_any}
 use Rattle.index_core.proofs.session.Session.release.Goals as goal
 
 pub returns-then-not-has_snapshot-clause-applies : goal.returns-then-not-has_snapshot-clause-applies
@@ -72,3 +75,15 @@ returns-in_err-put_ok-clause-light g c files = light_same _ _ _ _
 
 pub returns-clause-light : goal.returns-clause-light
 returns-clause-light g c files = light_released _ _ _ _ _ c.self.view_is c.release.ensures.kept
+
+pub returns-in_err-put_ok-clause-left : goal.returns-in_err-put_ok-clause-left
+returns-in_err-put_ok-clause-left g c = on_err_any _ c.from_residual.result refl
+
+pub returns-in_err-put_ok-clause-leaves : goal.returns-in_err-put_ok-clause-leaves
+returns-in_err-put_ok-clause-leaves g c =
+    let p = err_from_is_err_and c.from_residual.result c.from_residual.ensures.1 in
+    undone_any _ _ _ (p.1 ∙ ap (λ (e : PageFault). Err e) p.2)
+
+pub returns-clause-leaves : goal.returns-clause-leaves
+returns-clause-leaves g c =
+    subst (λ (u : SessionData). StaysButSnapshots u.set c.release.new.self) c.self.view_is (but_snapshots _ _ _ c.release.ensures.kept)

@@ -18,8 +18,7 @@ use Rattle.index_core.specs.Brought.{KeepsCommit, KeepsOwn}
 use Rattle.index_core.specs.Effects.{BringsCanonical}
 use Rattle.index_core.proofs.Bringing.{brings_anew, brings_then}
 use Rattle.index_core.specs.Steps.{SaysCommit}
-use Rattle.index_core.proofs.Answering.{applies_is, begins_itself, begins_same, begins_with}
-use Rattle.index_core.proofs.Answering.{does_done, does_fault}
+use Rattle.index_core.proofs.Answering.{applies_is, begins_itself, begins_same, begins_with, does_done, does_fault}
 use Rattle.index_core.proofs.FaultCauses.{done_cause, fault_to, memory_cause}
 use Rattle.segment_set.proofs.Sizes.{set_fits}
 use Rattle.index_core.proofs.Sizes.{session_fits}
@@ -32,6 +31,7 @@ use Rattle.index_core.proofs.Keeping.{fault_keeps}
 use Rattle.index_core.proofs.Closing.{as_same, guards_renamed, renamed, renew_named}
 use Rattle.segment_set.specs.Kept.{IsAsCommitted}
 use Rattle.segment_set.specs.Sets.{SetData}
+use Rattle.index_core.proofs.Arranging.{on_err_any}
 use Rattle.index_core.proofs.session.Session.reopen.Given as given
 use Rattle.index_core.proofs.session.Session.reopen.Goals as goal
 use Rattle.segment_set.proofs.Saving.{cause_after}
@@ -289,5 +289,11 @@ returns-in_err-put_ok-clause-unread g c =
     let p = err_from_is_err_and c.from_residual-in_err-put_ok.result c.from_residual-in_err-put_ok.ensures.1 in
     fault_keeps _ _ _ (p.1 ∙ ap (λ (e : PageFault). Err e) p.2)
 
-pub returns-clause-unread : goal.returns-clause-unread
-returns-clause-unread g c = tt
+pub returns-in_err-commit-clause-left : goal.returns-in_err-commit-clause-left
+returns-in_err-commit-clause-left g c = on_err_any _ c.from_residual.result c.commit.ensures.arranged
+
+pub returns-in_err-set-clause-left : goal.returns-in_err-set-clause-left
+returns-in_err-set-clause-left g c = on_err_any _ c.from_residual-in_err-set.result c.commit.ensures.arranged
+
+pub returns-in_err-put_ok-clause-left : goal.returns-in_err-put_ok-clause-left
+returns-in_err-put_ok-clause-left g c = on_err_any _ c.from_residual-in_err-put_ok.result c.commit.ensures.arranged

@@ -17,6 +17,11 @@ use Rattle.index_core.proofs.Showing.{damage_to}
 use Rattle.std.proofs.Common.{refl}
 use Rattle.index_core.proofs.Keeping.{answer_keeps, err_each, fault_keeps, snap_keeps, still_seen, still_set}
 use Rattle.index_core.proofs.Lightly.{light_same, light_snapped}
+use Rattle.std.proofs.Common.{◌≡◌, OnErr, OnOk}
+use Rattle.std.proofs.lemmas.Result.{on_ok_weaker}
+use Rattle.index_core.specs.Arranged.{StaysButSnapshots}
+use Rattle.index_core.specs.Effects.{OnDone}
+use Rattle.index_core.proofs.Arranging.{but_snapshots, on_err_any, snap_done, snap_left, undone_any, with_set}
 use Rattle.index_core.proofs.session.Session.snapshot.Goals as goal
 use Rattle.segment_set.proofs.Doubted.{whole_shows}
 
@@ -66,3 +71,22 @@ returns-in_err-put_ok-clause-light g c files = light_same _ _ _ _
 
 pub returns-clause-light : goal.returns-clause-light
 returns-clause-light g c files = light_snapped _ _ _ _ _ c.snapshot.result c.self.view_is c.snapshot.ensures.kept c.snapshot.ensures.refused
+
+pub returns-in_err-put_ok-clause-left : goal.returns-in_err-put_ok-clause-left
+returns-in_err-put_ok-clause-left g c = on_err_any _ c.from_residual.result refl
+
+pub returns-in_err-put_ok-clause-leaves : goal.returns-in_err-put_ok-clause-leaves
+returns-in_err-put_ok-clause-leaves g c =
+    let p = err_from_is_err_and c.from_residual.result c.from_residual.ensures.1 in
+    undone_any _ _ _ (p.1 ∙ ap (λ (e : PageFault). Err e) p.2)
+
+pub returns-clause-left : goal.returns-clause-left
+returns-clause-left g c =
+    subst (λ r. OnErr r (with_set c.self.inside.commit c.self.inside.refused c.snapshot.new.self ≡ c.args.self.now)) (sym c.snap_answer-answer.ensures)
+    (snap_left _ _ c.snapshot.result (λ same. ap (with_set c.self.inside.commit c.self.inside.refused) same ∙ c.self.view_is) c.snapshot.ensures.refused)
+
+pub returns-clause-leaves : goal.returns-clause-leaves
+returns-clause-leaves g c =
+    subst (λ r. OnDone r (StaysButSnapshots c.args.self.now.set c.snapshot.new.self)) (sym c.snap_answer-answer.ensures)
+    (snap_done _ c.snapshot.result (subst (λ (u : SessionData). OnOk c.snapshot.result (StaysButSnapshots u.set c.snapshot.new.self)) c.self.view_is
+    (on_ok_weaker c.snapshot.result (λ kept. but_snapshots _ _ _ kept) c.snapshot.ensures.kept)))

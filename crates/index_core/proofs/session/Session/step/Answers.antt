@@ -1,5 +1,5 @@
 -- Each command is handed to the call that does it.
-use Rattle.std.proofs.Common.{refl, sym, ap, subst}
+use Rattle.std.proofs.Common.{refl, sym, ap, subst, inl, inr, ⊎_elim}
 use Rattle.std.proofs.lemmas.List.{append-nil}
 use Rattle.cell_relate.specs.Boxes.{CountedBox, crosses}
 use Rattle.point_codec.specs.Points.{in_box}
@@ -14,7 +14,9 @@ use Rattle.index_core.proofs.Leaving.{leaves_any}
 use Rattle.index_core.proofs.Sizes.{box_fits, session_fits}
 use Rattle.segment_set.specs.Sets.{viewed_parts}
 use Rattle.index_core.specs.Costs.{ReadsTouched}
-use Rattle.index_core.proofs.Keeping.{still_same, still_told}
+use Rattle.index_core.specs.Sessions.{SessionData}
+use Rattle.index_core.proofs.Keeping.{err_each, still_same, still_told}
+use Rattle.index_core.proofs.Arranging.{arranged_before, arranged_cache, arranged_same, done_any, on_err_any, spares_heavy, still_left}
 use Rattle.index_core.proofs.Lightly.{light_same, light_still, light_told, refused_any}
 use Rattle.index_core.proofs.session.Session.step.Goals as goal
 
@@ -133,16 +135,16 @@ pub returns-in-Create-clause-damage : goal.returns-in-Create-clause-damage
 returns-in-Create-clause-damage g c = rw c.in-Create.is tt
 
 pub returns-in-Commit-clause-leaves : goal.returns-in-Commit-clause-leaves
-returns-in-Commit-clause-leaves g c = rw c.in-Commit.is (leaves_any c.commit_line.result)
+returns-in-Commit-clause-leaves g c = rw c.in-Commit.is (done_any _ c.commit_line.result c.commit_line.ensures.arranged)
 
 pub returns-in-Reopen-clause-leaves : goal.returns-in-Reopen-clause-leaves
 returns-in-Reopen-clause-leaves g c = rw c.in-Reopen.is (leaves_any c.reopen.result)
 
 pub returns-in-Add-clause-leaves : goal.returns-in-Add-clause-leaves
-returns-in-Add-clause-leaves g c = rw c.in-Add.is (leaves_any c.add.result)
+returns-in-Add-clause-leaves g c = rw c.in-Add.is c.add.ensures.leaves
 
 pub returns-in-Delete-clause-leaves : goal.returns-in-Delete-clause-leaves
-returns-in-Delete-clause-leaves g c = rw c.in-Delete.is (leaves_any c.delete.result)
+returns-in-Delete-clause-leaves g c = rw c.in-Delete.is c.delete.ensures.leaves
 
 pub returns-in-DeleteBox-clause-leaves : goal.returns-in-DeleteBox-clause-leaves
 returns-in-DeleteBox-clause-leaves g c = rw c.in-DeleteBox.is (leaves_any c.delete_box.result)
@@ -154,10 +156,10 @@ pub returns-in-Nearest-clause-leaves : goal.returns-in-Nearest-clause-leaves
 returns-in-Nearest-clause-leaves g c = rw c.in-Nearest.is (leaves_any c.nearest.result)
 
 pub returns-in-Snapshot-clause-leaves : goal.returns-in-Snapshot-clause-leaves
-returns-in-Snapshot-clause-leaves g c = rw c.in-Snapshot.is (leaves_any c.snapshot.result)
+returns-in-Snapshot-clause-leaves g c = rw c.in-Snapshot.is c.snapshot.ensures.leaves
 
 pub returns-in-Release-clause-leaves : goal.returns-in-Release-clause-leaves
-returns-in-Release-clause-leaves g c = rw c.in-Release.is (leaves_any c.release.result)
+returns-in-Release-clause-leaves g c = rw c.in-Release.is c.release.ensures.leaves
 
 pub returns-in-Add-clause-spares : goal.returns-in-Add-clause-spares
 returns-in-Add-clause-spares g c = rw c.in-Add.is (record {
@@ -166,16 +168,13 @@ returns-in-Add-clause-spares g c = rw c.in-Add.is (record {
   still = c.add.ensures.still;
   light = λ light. c.add.ensures.light;
   barred = c.add.ensures.barred;
+  left = c.add.ensures.left;
 })
 
 pub returns-in-DeleteBox-clause-spares : goal.returns-in-DeleteBox-clause-spares
-returns-in-DeleteBox-clause-spares g c = rw c.in-DeleteBox.is (record {
-  reads = c.delete_box.ensures.reads;
-  unread = c.delete_box.ensures.unread;
-  still = tt;
-  light = λ light room. absurd cc;
-  barred = λ bad. absurd bad;
-})
+returns-in-DeleteBox-clause-spares g c = rw c.in-DeleteBox.is (spares_heavy _ _ _ _ _ _ _ _ _ c.delete_box.result refl (λ bad. bad) c.delete_box.ensures.reads
+    c.delete_box.ensures.unread tt
+    (err_each (arranged_cache _ _ _ _ _) c.delete_box.result c.delete_box.ensures.left))
 
 pub returns-in-Polygon-clause-spares : goal.returns-in-Polygon-clause-spares
 returns-in-Polygon-clause-spares g c = rw c.in-Polygon.is (record {
@@ -184,6 +183,7 @@ returns-in-Polygon-clause-spares g c = rw c.in-Polygon.is (record {
   still = c.find_in.ensures.still;
   light = λ light room. light_still _ _ _ _ _ _ c.find_in.ensures.still;
   barred = λ bad. absurd bad;
+  left = still_left _ _ _ _ _ _ c.find_in.result c.find_in.ensures.still;
 })
 
 pub returns-in-Nearest-clause-spares : goal.returns-in-Nearest-clause-spares
@@ -193,6 +193,7 @@ returns-in-Nearest-clause-spares g c = rw c.in-Nearest.is (record {
   still = c.nearest.ensures.still;
   light = λ light room. light_still _ _ _ _ _ _ c.nearest.ensures.still;
   barred = λ bad. absurd bad;
+  left = still_left _ _ _ _ _ _ c.nearest.result c.nearest.ensures.still;
 })
 
 pub returns-in-MergeEnd-clause-spares : goal.returns-in-MergeEnd-clause-spares
@@ -202,16 +203,13 @@ returns-in-MergeEnd-clause-spares g c = rw c.in-MergeEnd.is (record {
   still = c.merge_end.ensures.still;
   light = λ light room. absurd cc;
   barred = c.merge_end.ensures.barred;
+  left = err_each (arranged_before _ _ _ _ _) c.merge_end.result c.merge_end.ensures.left;
 })
 
 pub returns-in-Commit-clause-spares : goal.returns-in-Commit-clause-spares
-returns-in-Commit-clause-spares g c = rw c.in-Commit.is (record {
-  reads = c.commit_line.ensures.reads;
-  unread = c.commit_line.ensures.unread;
-  still = tt;
-  light = λ light room. absurd cc;
-  barred = λ bad. absurd bad;
-})
+returns-in-Commit-clause-spares g c = rw c.in-Commit.is (spares_heavy _ _ _ _ _ _ _ _ _ c.commit_line.result refl (λ bad. bad) c.commit_line.ensures.reads
+    c.commit_line.ensures.unread tt
+    (on_err_any _ c.commit_line.result c.commit_line.ensures.arranged))
 
 pub returns-in-InBox-clause-spares : goal.returns-in-InBox-clause-spares
 returns-in-InBox-clause-spares g c = rw c.in-InBox.is (record {
@@ -222,15 +220,16 @@ returns-in-InBox-clause-spares g c = rw c.in-InBox.is (record {
   still = c.find.ensures.still;
   light = λ light room. light_still _ _ _ _ _ _ c.find.ensures.still;
   barred = λ bad. absurd bad;
+  left = still_left _ _ _ _ _ _ c.find.result c.find.ensures.still;
 })
 
 pub returns-in-Blank-clause-spares : goal.returns-in-Blank-clause-spares
 returns-in-Blank-clause-spares g c = rw c.in-Blank.is
-    (record { reads = refl; unread = tt; still = still_same _ _ _; light = λ light room. light_same _ _ _ _; barred = λ bad. absurd bad })
+    (record { reads = refl; unread = tt; still = still_same _ _ _; light = λ light room. light_same _ _ _ _; barred = λ bad. absurd bad; left = tt })
 
 pub returns-in-Create-clause-spares : goal.returns-in-Create-clause-spares
 returns-in-Create-clause-spares g c = rw c.in-Create.is
-    (record { reads = refl; unread = refl; still = still_same _ _ _; light = λ light room. light_same _ _ _ _; barred = λ bad. absurd bad })
+    (record { reads = refl; unread = refl; still = still_same _ _ _; light = λ light room. light_same _ _ _ _; barred = λ bad. absurd bad; left = tt })
 
 pub returns-in-Delete-clause-spares : goal.returns-in-Delete-clause-spares
 returns-in-Delete-clause-spares g c = rw c.in-Delete.is (record {
@@ -239,6 +238,8 @@ returns-in-Delete-clause-spares g c = rw c.in-Delete.is (record {
   still = tt;
   light = λ light room. light_told _ _ _ _ _ (c.delete.ensures.light _);
   barred = λ bad. absurd bad;
+  left = err_each (⊎_elim (λ same. inl (arranged_same _ _ _ _ _ (ap (λ (u : SessionData). u.set) same))) (λ gone. inr gone)) c.delete.result
+      c.delete.ensures.left;
 })
 
 pub returns-in-Snapshot-clause-spares : goal.returns-in-Snapshot-clause-spares
@@ -248,6 +249,7 @@ returns-in-Snapshot-clause-spares g c = rw c.in-Snapshot.is (record {
   still = still_told _ _ _ _ _ (c.snapshot.ensures.still _);
   light = λ light room. light_told _ _ _ _ _ (c.snapshot.ensures.light _);
   barred = λ bad. absurd bad;
+  left = err_each (λ same. arranged_same _ _ _ _ _ (ap (λ (u : SessionData). u.set) same)) c.snapshot.result c.snapshot.ensures.left;
 })
 
 pub returns-in-Release-clause-spares : goal.returns-in-Release-clause-spares
@@ -257,25 +259,25 @@ returns-in-Release-clause-spares g c = rw c.in-Release.is (record {
   still = still_told _ _ _ _ _ (c.release.ensures.still _);
   light = λ light room. light_told _ _ _ _ _ (c.release.ensures.light _);
   barred = λ bad. absurd bad;
+  left = err_each (λ same. arranged_same _ _ _ _ _ (ap (λ (u : SessionData). u.set) same)) c.release.result c.release.ensures.left;
 })
 
 pub returns-in-Flush-clause-spares : goal.returns-in-Flush-clause-spares
-returns-in-Flush-clause-spares g c = rw c.in-Flush.is
-    (record { reads = c.flush.ensures.reads; unread = c.flush.ensures.unread; still = tt; light = λ light room. absurd cc; barred = λ bad. absurd bad })
+returns-in-Flush-clause-spares g c = rw c.in-Flush.is (spares_heavy _ _ _ _ _ _ _ _ _ c.flush.result refl (λ bad. bad) c.flush.ensures.reads
+    c.flush.ensures.unread tt
+    (c.flush.ensures.left))
 
 pub returns-in-Merge-clause-spares : goal.returns-in-Merge-clause-spares
-returns-in-Merge-clause-spares g c = rw c.in-Merge.is
-    (record { reads = tt; unread = c.merge.ensures.unread; still = tt; light = λ light room. absurd cc; barred = λ bad. absurd bad })
+returns-in-Merge-clause-spares g c = rw c.in-Merge.is (spares_heavy _ _ _ _ _ _ _ _ _ c.merge.result refl (λ bad. bad) tt
+    c.merge.ensures.unread tt
+    (c.merge.ensures.left))
 
 pub returns-in-MergeBegin-clause-spares : goal.returns-in-MergeBegin-clause-spares
-returns-in-MergeBegin-clause-spares g c = rw c.in-MergeBegin.is (record {
-  reads = tt;
-  unread = c.merge_begin.ensures.unread;
-  still = c.merge_begin.ensures.still;
-  light = λ light room. absurd cc;
-  barred = λ bad. absurd bad;
-})
+returns-in-MergeBegin-clause-spares g c = rw c.in-MergeBegin.is (spares_heavy _ _ _ _ _ _ _ _ _ c.merge_begin.result refl (λ bad. bad) tt
+    c.merge_begin.ensures.unread c.merge_begin.ensures.still
+    (err_each (arranged_cache _ _ _ _ _) c.merge_begin.result c.merge_begin.ensures.left))
 
 pub returns-in-Reopen-clause-spares : goal.returns-in-Reopen-clause-spares
-returns-in-Reopen-clause-spares g c = rw c.in-Reopen.is
-    (record { reads = tt; unread = c.reopen.ensures.unread; still = tt; light = λ light room. absurd cc; barred = λ bad. absurd bad })
+returns-in-Reopen-clause-spares g c = rw c.in-Reopen.is (spares_heavy _ _ _ _ _ _ _ _ _ c.reopen.result refl (λ bad. bad) tt
+    c.reopen.ensures.unread tt
+    (c.reopen.ensures.left))
