@@ -56,6 +56,6 @@ pub record ReadsTouched {T : Type 0} (D : ℕ) (has : List ℤ → Bool) (crosse
 -- How often a visit asks its shape: it tests the entries of leaves whose own cell is crossed, and those that wait in
 -- the buffer, and compares at most two cells for each leaf.
 pub record AsksAtMost (D : ℕ) (crosses : Region → Bool) (heads : List Head) (waiting : ℕ)
-    (tests tests_now compares compares_now : ℕ) : Type 0 where
-  pub tests : (n : ℕ) → AreTested D crosses heads n → tests_now ≤ tests + n + waiting
-  pub compares : compares_now ≤ compares + 2 * leaves_in heads
+    (tested tested_now compared compared_now : ℕ) : Type 0 where
+  pub tests : (n : ℕ) → AreTested D crosses heads n → tested_now ≤ tested + n + waiting
+  pub compares : compared_now ≤ compared + 2 * leaves_in heads

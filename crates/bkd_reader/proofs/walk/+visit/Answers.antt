@@ -295,9 +295,3 @@ returns-in-None-clause-few_tested g t c = IfOk-weaker c.test_leaf.result _ _ (λ
 
 pub returns-in-None-clause-few_touched : goal.returns-in-None-clause-few_touched
 returns-in-None-clause-few_touched g t c = IfOk-weaker c.test_leaf.result _ _ (λ n is. is.few.1) c.test_leaf.ensures.counts
-
-pub returns-in-None-clause-has : goal.returns-in-None-clause-has
-returns-in-None-clause-has g t c = c.test_leaf.ensures.shape.points ∙ c.compare.ensures.has
-
-pub returns-in-None-clause-crosses : goal.returns-in-None-clause-crosses
-returns-in-None-clause-crosses g t c = c.test_leaf.ensures.shape.cells ∙ c.compare.ensures.crosses
