@@ -19,6 +19,7 @@ use Rattle.index_core.proofs.Keeping.{answer_keeps, err_each, fault_keeps, snap_
 use Rattle.index_core.proofs.Lightly.{light_same, light_snapped}
 use Rattle.std.proofs.Common.{◌≡◌, OnErr, OnOk}
 use Rattle.std.proofs.lemmas.Result.{on_ok_weaker}
+use Rattle.index_core.specs.Sessions.{SessionData}
 use Rattle.index_core.specs.Arranged.{StaysButSnapshots}
 use Rattle.index_core.specs.Effects.{OnDone}
 use Rattle.index_core.proofs.Arranging.{but_snapshots, on_err_any, snap_done, snap_left, undone_any, with_set}
