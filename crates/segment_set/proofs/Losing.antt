@@ -12,7 +12,7 @@ use Rattle.documents.specs.Entries.{has_entry}
 use Rattle.segment_view.specs.LiveSegments.{LiveSegment, has_live, parts_among}
 use Rattle.segment_view.specs.Held.{HasOwnHead, IsHeld, AreHeld}
 use Rattle.segment_build.specs.NewSegments.{NewSegmentData}
-use Rattle.segment_set.specs.Merges.{HasNoEntry, KeepsNumbers, LosesNone, is_built_live}
+use Rattle.segment_set.specs.Merges.{HasNoEntry, LosesNone, is_built_live}
 use Rattle.segment_set.proofs.Evident.{gathered_of_files}
 use Rattle.segment_set.proofs.Well.{has_filtered}
 

@@ -1,12 +1,12 @@
 -- Of the live entries of the set's segments none is hidden by what its cache knows to be dead.
-use Rattle.std.proofs.Common.{◌≡◌, ℕ, Bool, true, false, cond, List, [], ◌∷◌, inl, inr, refl, sym, ap, subst, ◌∙◌, true≢false}
+use Rattle.std.proofs.Common.{◌≡◌, ℕ, Bool, true, false, cond, List, [], ◌∷◌, inl, inr, refl, sym, subst, ◌∙◌, true≢false}
 use Rattle.std.specs.Prelude.{All, Contains}
 use Rattle.std.proofs.lemmas.List.Elements.{All-contains, All-contains_itself, All-weaker}
 use Rattle.outer_io.specs.declared.file_name.FileName.TheVariants.{Segment}
 use Rattle.point_codec.specs.Points.{Item}
 use Rattle.live_bits.specs.LiveSet.{LiveSet, is_live}
 use Rattle.page_cache.specs.declared.cache.PageCache.{PageCache}
-use Rattle.page_cache.specs.Cache.{KeepsDead, KeepsFile, MarksGo}
+use Rattle.page_cache.specs.Cache.{KeepsFile, MarksGo}
 use Rattle.page_cache.proofs.Agreement.{dead_file_kept}
 use Rattle.segment_file.specs.Heads.{Head}
 use Rattle.nearest_query.specs.Segments.{live_items}
