@@ -1,7 +1,8 @@
 //! What is answered of a folder: by a check, and by a run of an empty script, which opens the index and reads no leaf.
 
 use crate::asserts::same;
-use crate::runs::{run_from, said};
+use crate::fixtures::said;
+use crate::runs::run_from;
 use crate::stories::{CHECK, RUN};
 use outer_io::{MemFolder, MemSource};
 use std::alloc::Global;

@@ -1,7 +1,8 @@
 //! The gate that a run hands to each build: halves run beside each other, and how often it is passed.
 
 use crate::asserts::{same, same_at};
-use crate::runs::{check_said, empty_folder, words_of};
+use crate::fixtures::{empty_folder, words_of};
+use crate::runs::check_said;
 use bkd_build::Gate;
 use bkd_top::{Status, run};
 use outer_io::{MemFolder, MemSink, MemSource};

@@ -4,6 +4,9 @@
 //! those.
 #![tactic(auto)]
 
+pub mod draws;
+pub mod fixtures;
+
 #[cfg(test)]
 mod answers;
 #[cfg(test)]
@@ -35,9 +38,9 @@ mod deletion_windows;
 #[cfg(test)]
 mod drawn_counts;
 #[cfg(test)]
-mod drawn_ranges;
+mod drawn_lines;
 #[cfg(test)]
-mod draws;
+mod drawn_ranges;
 #[cfg(test)]
 mod eight_dimensions;
 #[cfg(test)]
@@ -48,8 +51,6 @@ mod explaining;
 mod failing_calls;
 #[cfg(test)]
 mod faults;
-#[cfg(test)]
-mod fixtures;
 #[cfg(test)]
 mod folders;
 #[cfg(test)]
