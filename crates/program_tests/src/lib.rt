@@ -5,9 +5,6 @@
 //! those. What `folder_tests` uses too is public. It asserts nothing, since only tests may.
 #![tactic(auto)]
 
-pub mod draws;
-pub mod fixtures;
-
 #[cfg(test)]
 mod asked_calls;
 #[cfg(test)]
@@ -22,12 +19,14 @@ mod dead_leaves;
 mod deletion_windows;
 #[cfg(test)]
 mod drawn_lines;
+pub mod draws;
 #[cfg(test)]
 mod embedded_sessions;
 #[cfg(test)]
 mod failing_calls;
 #[cfg(test)]
 mod faults;
+pub mod fixtures;
 #[cfg(test)]
 mod folders;
 #[cfg(test)]
