@@ -2,7 +2,8 @@
 //! index and its live numbers, and for leaf pages only where a query takes a leaf, once each.
 
 use crate::asserts::same_at;
-use crate::runs::{empty_folder, outcome, said};
+use crate::fixtures::{empty_folder, said};
+use crate::runs::outcome;
 use outer_io::MemFolder;
 use std::alloc::Global;
 use std::fmt::Write;

@@ -2,7 +2,7 @@
 //! seen as before, and the line is done when it is asked again.
 
 use crate::asserts::same_at;
-use crate::runs::empty_folder;
+use crate::fixtures::empty_folder;
 use crate::stories::check_there;
 use bkd_build::OpenGate;
 use embed::Places;

@@ -2,7 +2,8 @@
 //! call.
 
 use crate::asserts::{holds, holds_at, same};
-use crate::runs::{empty_folder, faulty, outcome};
+use crate::fixtures::empty_folder;
+use crate::runs::{faulty, outcome};
 use bkd_top::code;
 use outer_io::MemFolder;
 use std::alloc::Global;

@@ -1,8 +1,9 @@
 //! Faults of the streams and the folder, other words, and damage.
 
 use crate::asserts::{holds, holds_at, same, same_at};
+use crate::fixtures::{empty_folder, said};
 use crate::lists::scanned;
-use crate::runs::{check_said, empty_folder, faulty, outcome, run_words, said};
+use crate::runs::{check_said, faulty, outcome, run_words};
 use crate::scripts::{LOOK, script_of};
 use bkd_build::OpenGate;
 use bkd_top::{Status, code, run_script};

@@ -1,7 +1,8 @@
 //! Scripts over a folder that holds something already, and the files that scripts leave.
 
 use crate::asserts::holds_at;
-use crate::runs::{check_answers, empty_folder, outcome};
+use crate::fixtures::empty_folder;
+use crate::runs::{check_answers, outcome};
 use outer_io::{FileName, MemFolder};
 use page_cache::pages_of;
 use std::alloc::Global;

@@ -1,73 +1,40 @@
-//! Tests of the program: scripts and commands through the top call, over streams and a folder in memory.
+//! Tests of the program: scripts, sessions and embedded sessions through the top call, over streams and a folder in
+//! memory, and what a call that fails leaves.
 //!
 //! They stand above the crates that they test, as Rust's integration tests do: a change of a test is no change of
-//! those.
+//! those. What `folder_tests` uses too is public. It asserts nothing, since only tests may.
 #![tactic(auto)]
 
-#[cfg(test)]
-mod answers;
 #[cfg(test)]
 mod asked_calls;
 #[cfg(test)]
 mod asserts;
 #[cfg(test)]
-mod batching;
-#[cfg(test)]
-mod batching_merges;
-#[cfg(test)]
-mod checked_entries;
-#[cfg(test)]
-mod checked_folders;
-#[cfg(test)]
-mod checking;
-#[cfg(test)]
 mod closing;
 #[cfg(test)]
 mod command_faults;
-#[cfg(test)]
-mod commands;
-#[cfg(test)]
-mod counting;
 #[cfg(test)]
 mod dead_leaves;
 #[cfg(test)]
 mod deletion_windows;
 #[cfg(test)]
-mod drawn_counts;
-#[cfg(test)]
-mod drawn_ranges;
-#[cfg(test)]
-mod draws;
-#[cfg(test)]
-mod eight_dimensions;
+mod drawn_lines;
+pub mod draws;
 #[cfg(test)]
 mod embedded_sessions;
-#[cfg(test)]
-mod explaining;
 #[cfg(test)]
 mod failing_calls;
 #[cfg(test)]
 mod faults;
-#[cfg(test)]
-mod fixtures;
+pub mod fixtures;
 #[cfg(test)]
 mod folders;
-#[cfg(test)]
-mod gates;
-#[cfg(test)]
-mod generating;
 #[cfg(test)]
 mod lists;
 #[cfg(test)]
 mod live_files;
 #[cfg(test)]
-mod load_faults;
-#[cfg(test)]
-mod loading;
-#[cfg(test)]
 mod merged_segments;
-#[cfg(test)]
-mod other_words;
 #[cfg(test)]
 mod range_stories;
 #[cfg(test)]

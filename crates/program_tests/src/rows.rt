@@ -1,6 +1,7 @@
 //! Scripts through the top call, each with what it has to answer: one table.
 
-use crate::runs::{check_answers, empty_folder, outcome};
+use crate::fixtures::empty_folder;
+use crate::runs::{check_answers, outcome};
 use std::alloc::Global;
 use std::marker::Sync;
 use std::process::Abort;

@@ -1,8 +1,9 @@
 //! Runs of the program, and what is said of them.
 
 use crate::asserts::{same, same_at};
+use crate::fixtures::{said, words_of};
 use bkd_build::OpenGate;
-use bkd_top::{Status, run, status_line};
+use bkd_top::{Status, run};
 use outer_io::{MemFolder, MemSink, MemSource, Source};
 use std::alloc::Global;
 use std::marker::Sync;
@@ -15,15 +16,6 @@ const ROOM: usize = 1 << 20;
 
 /// The words of a script's run.
 pub const RUN: [&str; 2] = [".", "run"];
-
-/// Words as the program gets them.
-pub fn words_of(alloc: Global, words: &[&str]) -> Result<Vec<String>, Fail> {
-    let mut list = Vec::new(alloc);
-    for word in words {
-        list.push(String::from_str(alloc, word)?)?;
-    }
-    Ok(list)
-}
 
 /// Runs the program with these words.
 pub fn run_words<R: Threads + Sync, S: Source>(
@@ -84,13 +76,6 @@ pub fn outcome<R: Threads + Sync>(
     faulty(rt, alloc, script, folder, &[], &[])
 }
 
-/// What is said of a status.
-pub fn said(alloc: Global, status: &Status) -> Result<Vec<u8>, Fail> {
-    let mut line = Vec::new(alloc);
-    status_line(alloc, status, &mut line)?;
-    Ok(line)
-}
-
 /// The status of a script of which so many lines are refused.
 fn refusing(count: u64) -> Status {
     match count {
@@ -130,9 +115,4 @@ pub fn check_said(rt: &impl Abort, alloc: Global, status: &Status, line: &str) -
     let found = said(alloc, status)?;
     same(rt, std::str::from_utf8(found.as_slice()), Ok(line));
     Ok(())
-}
-
-/// An empty folder in memory.
-pub fn empty_folder(alloc: Global) -> MemFolder {
-    MemFolder::new(alloc, Vec::new(alloc))
 }

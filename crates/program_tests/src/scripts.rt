@@ -2,8 +2,9 @@
 
 use crate::asserts::{holds_at, same, same_at};
 use crate::draws::Draws;
+use crate::fixtures::empty_folder;
 use crate::lists::scanned;
-use crate::runs::{check_answers, empty_folder, outcome};
+use crate::runs::{check_answers, outcome};
 use outer_io::{FileName, MemFolder};
 use std::alloc::Global;
 use std::marker::Sync;

@@ -5,8 +5,9 @@ ghost use Rattle.std.specs.Prelude.{[], false};
 ghost use Rattle.outer_io.specs.MemSink.{sink_faults};
 
 use crate::asserts::same;
+use crate::fixtures::{empty_folder, words_of};
 use crate::rows::ROWS;
-use crate::runs::{check_answers, check_said, empty_folder, run_from, words_of};
+use crate::runs::{check_answers, check_said, run_from};
 use bkd_build::OpenGate;
 use bkd_top::run;
 use outer_io::{Failed, FileName, MemSink, Sink, Source};

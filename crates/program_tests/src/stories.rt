@@ -1,7 +1,8 @@
 //! Stories: steps over one folder, each with what comes of it.
 
 use crate::asserts::{holds_at, same, same_at};
-use crate::runs::{empty_folder, outcome, run_from, said};
+use crate::fixtures::{empty_folder, said};
+use crate::runs::{outcome, run_from};
 use outer_io::{FileName, Folder, MemFolder, MemSource};
 use page_cache::pages_of;
 use std::alloc::Global;

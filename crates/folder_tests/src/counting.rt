@@ -1,9 +1,9 @@
 //! The command `count`: what it tells of folders that scripts and files leave.
 
 use crate::asserts::{holds, holds_at, same, same_at};
-use crate::fixtures::called;
 use bkd_top::{Status, code};
 use outer_io::{FileName, MemFolder};
+use program_tests::fixtures::called;
 use std::alloc::Global;
 use std::fmt::Write;
 use std::marker::Sync;

@@ -1,12 +1,12 @@
 //! Loading, explaining and generating through the top call, with what they have to answer.
 
 use crate::asserts::{holds, same, same_at};
-use crate::fixtures::called;
 use bkd_top::{Status, code};
 use commit_list::read_commit;
 use outer_io::{FileName, MemFolder};
 use page_cache::Damage;
 use page_file::seal;
+use program_tests::fixtures::called;
 use std::alloc::Global;
 use std::fmt::Write;
 use std::marker::Sync;

@@ -1,10 +1,10 @@
 //! Drawn folders of 1 to 4 dimensions: each count and each grid over them is that of a scan of the live points.
 
 use crate::asserts::same;
-use crate::draws::Draws;
-use crate::fixtures::called;
 use bkd_top::code;
 use outer_io::MemFolder;
+use program_tests::draws::Draws;
+use program_tests::fixtures::called;
 use std::alloc::Global;
 use std::fmt::Write;
 use std::test::Fail;

@@ -1,9 +1,9 @@
 //! The command `check`: what it tells of folders that scripts leave, and of such whose files were changed.
 
 use crate::asserts::{holds, same, same_at};
-use crate::fixtures::called;
 use bkd_top::{code, status_line};
 use outer_io::{FileName, MemFolder};
+use program_tests::fixtures::called;
 use std::alloc::Global;
 use std::marker::Sync;
 use std::process::Abort;

@@ -1,9 +1,9 @@
 //! A script and a load in each number of dimensions.
 
 use crate::asserts::{same, same_at};
-use crate::fixtures::called;
 use bkd_top::code;
 use outer_io::MemFolder;
+use program_tests::fixtures::called;
 use std::alloc::Global;
 use std::fmt::Write;
 use std::marker::Sync;

@@ -2,7 +2,6 @@
 
 use crate::asserts::{holds_at, same, same_at};
 use crate::batching::{MERGING, TWO, cities};
-use crate::fixtures::{called, faulty};
 use crate::gates::{Meeting, run_gated};
 use batch_queries::beside;
 use batch_run::Resident;
@@ -10,6 +9,7 @@ use bkd_top::code;
 use commit_list::read_commit;
 use index_core::{Applied, Session, Settings, Work};
 use outer_io::MemFolder;
+use program_tests::fixtures::{called, faulty};
 use script_lang::Positions;
 use std::alloc::Global;
 use std::marker::Sync;

@@ -2,11 +2,11 @@
 //! other.
 
 use crate::asserts::{holds, holds_at, same, same_at};
-use crate::draws::Draws;
-use crate::fixtures::called;
 use crate::gates::{Counting, Meeting, run_gated};
 use bkd_top::{Status, code};
 use outer_io::{FileName, MemFolder};
+use program_tests::draws::Draws;
+use program_tests::fixtures::called;
 use std::alloc::{AllocError, Global};
 use std::fmt::Write;
 use std::marker::Sync;

@@ -1,9 +1,8 @@
 //! What is answered of a folder: by a check, and by a run of an empty script, which opens the index and reads no leaf.
 
 use crate::asserts::same;
-use crate::runs::{run_from, said};
-use crate::stories::{CHECK, RUN};
-use outer_io::{MemFolder, MemSource};
+use outer_io::MemFolder;
+use program_tests::fixtures::{called, said};
 use std::alloc::Global;
 use std::marker::Sync;
 use std::process::Abort;
@@ -19,8 +18,8 @@ pub(crate) fn assert_said<R: Threads + Sync + Abort>(
     want: &str,
     is_shown: bool,
 ) -> Result<(), Fail> {
-    let checked = told(rt, alloc, CHECK, folder)?;
-    let ran = told(rt, alloc, RUN, folder)?;
+    let checked = told(rt, alloc, &[".", "check"], folder)?;
+    let ran = told(rt, alloc, &[".", "run"], folder)?;
     let ends = if is_shown { want } else { "" };
     same(rt, (checked.as_str(), ran.as_str()), (want, ends));
     Ok(())
@@ -33,14 +32,9 @@ fn told<R: Threads + Sync>(
     words: &[&str],
     folder: &mut MemFolder,
 ) -> Result<String, Fail> {
-    let mut input = MemSource::new(Vec::new(alloc), Vec::new(alloc));
-    let (status, output) = run_from(rt, alloc, words, &mut input, folder)?;
+    let (status, mut text) = called(rt, alloc, words, "", folder)?;
     let line = said(alloc, &status)?;
     let end = std::str::from_utf8(line.as_slice()).unwrap_or("no text");
-    let mut text = String::from_str(
-        alloc,
-        std::str::from_utf8(output.bytes()).unwrap_or("no text"),
-    )?;
     text.push_str(end.strip_prefix("damaged: ").unwrap_or(end).trim_end())?;
     Ok(text)
 }

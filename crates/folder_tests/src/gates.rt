@@ -1,12 +1,13 @@
 //! The gate that a run hands to each build: halves run beside each other, and how often it is passed.
 
 use crate::asserts::{same, same_at};
-use crate::runs::{check_said, empty_folder, words_of};
 use bkd_build::Gate;
 use bkd_top::{Status, run};
 use outer_io::{MemFolder, MemSink, MemSource};
+use program_tests::fixtures::{empty_folder, said, words_of};
 use std::alloc::Global;
 use std::marker::Sync;
+use std::process::Abort;
 use std::sync::atomic::{AtomicU64, Ordering};
 use std::test::Fail;
 use std::thread::Threads;
@@ -70,6 +71,13 @@ impl Gate for Counting {
     fn pass(&self, _piece: u32) {
         self.passes.fetch_add(1, Ordering::SeqCst);
     }
+}
+
+/// A status is said so.
+fn check_said(rt: &impl Abort, alloc: Global, status: &Status, line: &str) -> Result<(), Fail> {
+    let found = said(alloc, status)?;
+    same(rt, std::str::from_utf8(found.as_slice()), Ok(line));
+    Ok(())
 }
 
 /// One build of three leaves.

@@ -1,9 +1,9 @@
 //! Words that are none of a command, which leave the folder as it was.
 
 use crate::asserts::{holds, same, same_at};
-use crate::fixtures::called;
 use bkd_top::code;
 use outer_io::{FileName, MemFolder};
+use program_tests::fixtures::called;
 use std::test::Fail;
 
 /// Words that are none of a command.

@@ -1,0 +1,24 @@
+//! Comparisons as calls: a function that asserts often is proved slowly, and one that makes as many calls is not.
+
+use std::fmt::Debug;
+use std::process::Abort;
+
+/// Asserts that both are the same.
+pub fn same<T: PartialEq + Debug + Drop>(rt: &impl Abort, left: T, right: T) {
+    assert_eq!(rt; left, right);
+}
+
+/// The same, with where that is.
+pub fn same_at<T: PartialEq + Debug + Drop>(rt: &impl Abort, left: T, right: T, at: &(impl Debug)) {
+    assert_eq!(rt; left, right, "at {at:?}");
+}
+
+/// Fails the test unless `it` is true.
+pub fn holds(rt: &impl Abort, it: bool) {
+    assert!(rt; it);
+}
+
+/// The same, with where that is.
+pub fn holds_at(rt: &impl Abort, it: bool, at: &(impl Debug)) {
+    assert!(rt; it, "at {at:?}");
+}
