@@ -19,7 +19,7 @@ use Rattle.file_names.specs.Names.{NameList, is_named}
 use Rattle.file_names.proofs.Listed.{is_named-apart, joins, others_stay, stays}
 use Rattle.segment_set.specs.Given.{AreNext, IsNextName}
 use Rattle.segment_set.specs.Sets.{SetData, IsNamed}
-use Rattle.segment_set.specs.Kept.{KeepsNamed, StaysAlone, StaysButCache, IsSubset, Follows, HasCanonical, AreCanonical}
+use Rattle.segment_set.specs.Kept.{KeepsNamed, StaysAlone, StaysButCache, IsSubset, Follows, HasCanonical, FindsLive, IsCanonicalPart, AreCanonical}
 
 -- ---- names and files
 
@@ -178,21 +178,33 @@ canon_file D before after g h same file has =
     subst (HasCanonical D after) (sym same)
     (subst (λ b. ∥ ((items : List Item) × IsSegment D (bytes_of b) g items × IsCanonical D g items × AreUncrowded items) ∥₁) (sym file) has)
 
+pub finds_file : (D : ℕ) (before after : Files) (p q : LiveSegment) → p.head ≡ q.head → IsSubset p.live q.live
+    → after (Segment q.head.id) ≡ before (Segment q.head.id) → FindsLive D before q → FindsLive D after p
+finds_file D before after p q same within file finds number live items held =
+    finds number (within.live number live) items
+    (subst (λ b. IsSegment D (bytes_of b) q.head items) file
+    (subst (λ (h : Head). IsSegment D (bytes_of (after (Segment h.id))) h items) same held))
+
+pub part_file : (D : ℕ) (before after : Files) (p q : LiveSegment) → p.head ≡ q.head → IsSubset p.live q.live
+    → after (Segment q.head.id) ≡ before (Segment q.head.id) → IsCanonicalPart D before q → IsCanonicalPart D after p
+part_file D before after p q same within file is =
+    record { canon = canon_file D before after q.head p.head same file is.canon; found = finds_file D before after p q same within file is.found }
+
 -- segments that were canonical, and another call
 pub canon_then : (D : ℕ) (told : Type 0) (m n k : NameList) (f g : Files) (b c : List LiveSegment) → told → KeepsNamed told n k f g
     → ((name : FileName) → is_named m.names name ≡ true → is_named n.names name ≡ true)
     → All (IsNamed n) b → AreCanonical D f m b → Follows n b c → AreCanonical D g n c → AreCanonical D g m c
 canon_then D told m n k f g b c t keeps more named first follows second p there fresh = ⊎_elim (second p there) (λ r. through r) (follows.each p there)
   where
-    through : (q : LiveSegment) × Contains b q × (p.head ≡ q.head) × IsSubset p.live q.live → HasCanonical D g p.head
+    through : (q : LiveSegment) × Contains b q × (p.head ≡ q.head) × IsSubset p.live q.live → IsCanonicalPart D g p
     through (q, here, head, within) =
-        canon_file D f g q.head p.head head (keeps.files t (Segment q.head.id) (All-contains (IsNamed n) b q named here))
+        part_file D f g p q head within (keeps.files t (Segment q.head.id) (All-contains (IsNamed n) b q named here))
         (first q here (ap (λ (h : Head). is_named m.names (Segment h.id)) (sym head) ∙ fresh))
 
-pub canon_placed : (D : ℕ) (files : Files) (names : NameList) (p : LiveSegment) (old new : List LiveSegment) → IsPlaced p old new → HasCanonical D files p.head
+pub canon_placed : (D : ℕ) (files : Files) (names : NameList) (p : LiveSegment) (old new : List LiveSegment) → IsPlaced p old new → IsCanonicalPart D files p
     → AreCanonical D files names old → AreCanonical D files names new
 canon_placed D files names p old new put has others q there fresh =
-    placed_cases p old new put q there (λ e. subst (λ (r : LiveSegment). HasCanonical D files r.head) e has) (λ h. others q h fresh)
+    placed_cases p old new put q there (λ e. subst (IsCanonicalPart D files) e has) (λ h. others q h fresh)
 
 pub canon_filter : (D : ℕ) (files : Files) (names : NameList) (keep : LiveSegment → Bool) (parts : List LiveSegment) → AreCanonical D files names parts
     → AreCanonical D files names (filter keep parts)

@@ -26,6 +26,7 @@ use Rattle.file_names.specs.Names.{NameList}
 use Rattle.segment_set.specs.Sets.{AreAlone}
 use Rattle.segment_set.specs.Kept.{AreCanonical, Follows, HasCanonical, IsSubset}
 use Rattle.index_opening.specs.Evidence.{CrowdsPart, IsCrowdedIn}
+use Rattle.segment_set.proofs.OneList.{entries_once}
 use Rattle.segment_set.proofs.Carried.{canon_file}
 use Rattle.segment_set.proofs.Counted.{crowded_whole, crowded_within}
 use Rattle.segment_set.proofs.Replaced.{one_if, parted, place_in, places_in}
@@ -138,17 +139,10 @@ among_crowded D files ids parts items number alone held crowd =
 
 -- ---- segments whose entries are such as documents have
 
--- a file has one list of entries
-one_list : (D : ℕ) (bytes : List ℕ) (head : Head) (xs ys : List Item) → IsSegment D bytes head xs → IsSegment D bytes head ys → xs ≡ ys
-unfolding IsSegment
-one_list D bytes head xs ys p q =
-    let same = one_index D head.index.form head.index.leaves head.index.bytes p.root q.root p.tree q.tree p.has q.has in
-    tree_once D bytes head 0 front q.tree xs ys (subst (λ (t : IndexTree). HoldsTree D bytes head 0 front t xs) same.1 p.holds) q.holds
-
 pub none_crowded : (D : ℕ) (files : Files) (p : LiveSegment) (number : ℕ) → HasCanonical D files p.head → CrowdsPart D files p number → ⊥
 none_crowded D files p number canonical crowd = ∥∥₁_elim canonical (hlevel props)
     (λ c. c.3 number
-    (subst (IsCrowded number) (one_list D (bytes_of (files (Segment p.head.id))) p.head crowd.items c.0 crowd.held c.1)
+    (subst (IsCrowded number) (entries_once D (bytes_of (files (Segment p.head.id))) p.head crowd.items c.0 crowd.held c.1)
     (crowded_whole number (λ x. is_live p.live x.doc) crowd.items crowd.crowded)))
 
 -- a crowd of the numbers that are live in a segment is one of those that were
@@ -164,6 +158,6 @@ crowd_before D files p q number head within crowd = record {
 pub crowded_before : (D : ℕ) (f g : Files) (names : NameList) (old new : List LiveSegment) (number : ℕ) → Follows names old new → AreCanonical D f names new
     → ((p : LiveSegment) → Contains new p → g (Segment p.head.id) ≡ f (Segment p.head.id)) → IsCrowdedIn D g new number → IsCrowdedIn D g old number
 crowded_before D f g names old new number follows canon same (p, there, crowd) = ⊎_elim
-    (λ fresh. absurd (none_crowded D g p number (canon_file D f g p.head p.head refl (same p there) (canon p there fresh)) crowd))
+    (λ fresh. absurd (none_crowded D g p number (canon_file D f g p.head p.head refl (same p there) (canon p there fresh).canon) crowd))
     (λ (q, here, head, within). (q, here, crowd_before D g p q number head within crowd))
     (follows.each p there)

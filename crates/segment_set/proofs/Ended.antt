@@ -1,7 +1,7 @@
 -- What the end of a begun merge does to a set.
-use Rattle.std.proofs.Common.{◌≡◌, ℕ, ◌≤◌, Bool, true, false, eqb, List, [], ◌∷◌, length, Option, None, Some, refl, sym, ap, subst, ◌∙◌, ◌⊎◌, inl, inr, arith}
+use Rattle.std.proofs.Common.{◌≡◌, ℕ, ◌≤◌, Bool, true, false, eqb, List, [], ◌∷◌, length, Option, None, Some, refl, sym, ap, subst, ◌∙◌, ◌⊎◌, inl, inr, ⊎_elim, arith}
 use Rattle.std.specs.List.{filter, list_any, sum_by}
-use Rattle.std.proofs.lemmas.Bool.{cases_Bool}
+use Rattle.std.proofs.lemmas.Bool.{both_ways, cases_Bool}
 use Rattle.std.proofs.lemmas.List.Elements.{All-nil}
 use Rattle.std.proofs.lemmas.List.Sums.{sum_by-cons}
 use Rattle.outer_io.specs.Files.{Files}
@@ -16,10 +16,12 @@ use Rattle.segment_set.specs.Sets.{BegunMerge, SetData, IsBuiltOf, IsWell, input
 use Rattle.segment_set.specs.Seen.{BegunStands, MergesInto, Sees}
 use Rattle.segment_set.specs.Kept.{KeepsNamed, StaysAlone, Follows, AreCanonical}
 use Rattle.segment_set.specs.Merged.{HasCome, IsEnded}
+use Rattle.segment_set.specs.Losing.{IsLossless, KeepsNumbers, is_built_live}
 use Rattle.segment_set.specs.Merges.{MakesLive, IsMade, Replaces, living, with_live, part_at}
 use Rattle.segment_set.proofs.Replaced.{one_if, place_in, some_place, length_parted}
 use Rattle.segment_set.proofs.Weller.{place_built, length_replaced}
 use Rattle.segment_set.proofs.Moved.{Moves, moved, well_moved, stays_moved, follows_moved, canon_moved, seen_moved}
+use Rattle.segment_set.proofs.Lossless.{dead_of, lossless_moved}
 use Rattle.segment_set.proofs.Steps.{live_number}
 use Rattle.segment_set.proofs.WrittenBuffer.{some_is}
 
@@ -38,6 +40,14 @@ living_is (Some m) n h = elim (living_cases m) [
   | inr some ↦
       let same : Some m ≡ Some n = sym some.1 ∙ h in
       (same, subst (λ (k : NewSegmentData). 1 ≤ length k.live.live) (some_is m n same) some.0)
+]
+
+-- a number that is live in what was built is so in what is living of it
+built_living : (number : ℕ) (o : Option NewSegmentData) → is_built_live number o ≡ true → is_built_live number (living o) ≡ true
+built_living number None live = live
+built_living number (Some n) live = elim (living_cases n) [
+  | inl none ↦ absurd (both_ways (is_live n.live number) (dead_of n.live number none.0) live)
+  | inr some ↦ ap (is_built_live number) some.1 ∙ live
 ]
 
 filter_none : (p : Item → Bool) (xs : List Item) → ((x : Item) → p x ≡ false) → filter p xs ≡ []
@@ -128,6 +138,12 @@ module _ (D : ℕ) (told : Type 0) (files new_files : Files) {s : SetData} (name
 
   pub end_canon : told → AreCanonical D new_files s.names parts
   end_canon is_told = canon_moved D told files new_files s names b.inputs parts s.buffer end_moves is_told well
+
+  -- what was built keeps the numbers of its inputs, and so no document is lost
+  pub end_loses : KeepsNumbers D files (parts_among b.inputs s.parts) b.built → IsLossless D files s (moved s names parts s.buffer None s.cache)
+  unfolding end_moves
+  end_loses keeps = lossless_moved D told files new_files s names b.inputs parts s.buffer end_moves None s.cache
+      (λ number live. ⊎_elim (λ here. inl (built_living number b.built here)) inr (keeps number live)) (λ number there. inr there)
 
   pub end_seen : told → (i : Index) → Sees D files s i → Sees D new_files (moved s names parts s.buffer None s.cache) (record i { begun = false })
   unfolding end_moves

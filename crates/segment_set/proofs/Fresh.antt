@@ -84,7 +84,7 @@ module _ (D : ℕ) (entries items : List Item) (n : NewSegmentData) (same : IsPe
   pub made : (leaf_size : ℕ) → n.leaf_size ≡ leaf_size → IsLiveSet n.live → 1 ≤ length entries → AreUncrowded entries → IsMade D leaf_size n
   made leaf_size leaf_is set some fair = record {
     leaf_size = leaf_is;
-    has = merely (record { items = items; has = has; uncrowded = uncrowded_permuted entries items same fair });
+    has = merely (record { items = items; has = has; uncrowded = uncrowded_permuted entries items same fair; found = λ number is. sym (live_is number) ∙ is });
     fits = omega (arith, live_fit n.live items set (λ number is. sym (live_is number) ∙ is), has.counted);
     some = by items has.counted all_live (omega (arith, some, length_permutation entries items same));
   }

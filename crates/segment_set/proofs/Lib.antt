@@ -1,3 +1,4 @@
+pub mod OneList
 pub mod Carried
 pub mod Standing
 pub mod Counted
@@ -18,6 +19,8 @@ pub mod Replaced
 pub mod Grown
 pub mod Weller
 pub mod Moved
+pub mod Lossless
+pub mod BegunKept
 pub mod Fresh
 pub mod Steps
 pub mod WrittenBuffer

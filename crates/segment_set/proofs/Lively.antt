@@ -11,13 +11,7 @@ use Rattle.point_codec.specs.Points.{Item}
 use Rattle.live_bits.specs.LiveSet.{is_live}
 use Rattle.documents.specs.Entries.{has_entry, is_among}
 use Rattle.documents.proofs.Lists.{cons_head, in_filter, nil_none}
-use Rattle.inner_pack.specs.Places.{front}
-use Rattle.inner_pack.specs.Trees.{IndexTree}
-use Rattle.inner_pack.proofs.OneTree.{one_index}
-use Rattle.segment_file.specs.Heads.{Head}
-use Rattle.segment_file.specs.Segments.{IsSegment, HoldsTree}
 use Rattle.segment_file.proofs.Counted.{segment_counted}
-use Rattle.segment_file.proofs.Unique.{tree_once}
 use Rattle.stored_index.proofs.Listing.{live_fit}
 use Rattle.stored_index.proofs.Places.{entry_there, some_entry}
 use Rattle.segment_view.specs.LiveSegments.{LiveSegment, Contents, IsPlaced, IsRead, AreRead, ids_of, parts_among, parts_but}
@@ -25,17 +19,11 @@ use Rattle.segment_build.specs.NewSegments.{NewSegmentData}
 use Rattle.file_names.specs.Names.{NameList, is_named}
 use Rattle.segment_set.specs.Merged.{IsWhole}
 use Rattle.segment_set.specs.Merges.{HasLiveEntries, IsGathered, IsMerged, Swaps, Replaces, part_at}
+use Rattle.segment_set.proofs.OneList.{entries_once}
 use Rattle.segment_set.proofs.Carried.{placed_cases}
 use Rattle.segment_set.proofs.Replaced.{all_but, but_placed}
 use Rattle.segment_set.proofs.Weller.{free_id}
 use Rattle.segment_set.proofs.Wholes.{among_free, none_free}
-
--- a file is that of one list of entries
-pub entries_once : (D : ℕ) (bytes : List ℕ) (h : Head) (xs ys : List Item) → IsSegment D bytes h xs → IsSegment D bytes h ys → xs ≡ ys
-unfolding IsSegment
-entries_once D bytes h xs ys p q =
-    let same = one_index D h.index.form h.index.leaves h.index.bytes p.root q.root p.tree q.tree p.has q.has in
-    tree_once D bytes h 0 front q.tree xs ys (subst (λ (t : IndexTree). HoldsTree D bytes h 0 front t xs) same.1 p.holds) q.holds
 
 -- ---- lists
 

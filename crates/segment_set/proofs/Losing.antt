@@ -12,8 +12,10 @@ use Rattle.documents.specs.Entries.{has_entry}
 use Rattle.segment_view.specs.LiveSegments.{LiveSegment, has_live, parts_among}
 use Rattle.segment_view.specs.Held.{HasOwnHead, IsHeld, AreHeld}
 use Rattle.segment_build.specs.NewSegments.{NewSegmentData}
-use Rattle.segment_set.specs.Merges.{HasNoEntry, LosesNone, is_built_live}
+use Rattle.segment_set.specs.Losing.{HasNoEntry, is_built_live}
+use Rattle.segment_set.specs.Merges.{LosesNone}
 use Rattle.segment_set.proofs.Evident.{gathered_of_files}
+use Rattle.segment_set.proofs.Lossless.{dead_of}
 use Rattle.segment_set.proofs.Well.{has_filtered}
 
 or_left : (a b : Bool) → (a || b) ≡ false → a ≡ false
@@ -36,13 +38,9 @@ and_live true b e h = sym e ∙ h
 none_in : (number : ℕ) (items xs ys : List Item) → items ≡ xs ++ ys → has_entry number items ≡ false → (has_entry number xs || has_entry number ys) ≡ false
 none_in number items xs ys joined none = sym (list_any-append (λ x. eqb x.doc number) xs ys) ∙ sym (ap (has_entry number) joined) ∙ none
 
-none_live : (s : LiveSet) (number : ℕ) → s.live ≡ [] → is_live s number ≡ false
-unfolding is_live
-none_live s number none = ap (λ ns. list_any (λ d. eqb d number) ns) none
-
 here : (D : ℕ) (files : Files) (p : LiveSegment) (ps : List LiveSegment) (items : List Item) (number : ℕ) → is_live p.live number ≡ true
     → IsHeld D files p items → has_entry number items ≡ false → HasNoEntry D files (p ∷ ps) number
-here D files p ps items number live (inl dead) none = absurd (both_ways (is_live p.live number) (none_live p.live number dead.0) live)
+here D files p ps items number live (inl dead) none = absurd (both_ways (is_live p.live number) (dead_of p.live number dead.0) live)
 here D files p ps items number live (inr (entries, held, is)) none = record {
   part = p;
   there = cons_head p ps;

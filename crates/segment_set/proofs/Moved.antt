@@ -3,13 +3,14 @@ use Rattle.std.proofs.Common.{◌≡◌, ℕ, ◌+◌, ◌≤◌, Bool, true, fa
 use Rattle.std.proofs.Common.{Option, None, Some, is_some, refl, sym, ap, subst, ◌∙◌, inl, inr, arith}
 use Rattle.std.proofs.Math.Logic.{∥∥₁_elim, ∥∥₁_prop}
 use Rattle.std.proofs.lemmas.Grind.{merely}
+use Rattle.std.proofs.Props.{props}
 use Rattle.std.specs.List.{All, sum_by}
 use Rattle.std.specs.List.Sorted.{IsNonDecreasingBy}
 use Rattle.std.proofs.lemmas.Bool.{cases_Bool}
 use Rattle.std.proofs.lemmas.List.Elements.{All-contains, All-weaker}
 use Rattle.std.proofs.lemmas.List.Sums.{sum_by-append}
 use Rattle.outer_io.specs.declared.file_name.FileName.TheVariants.{Segment}
-use Rattle.outer_io.specs.Files.{Files}
+use Rattle.outer_io.specs.Files.{Files, bytes_of}
 use Rattle.point_codec.specs.Points.{Item}
 use Rattle.leaf_codec.specs.LeafOrder.{NoneTwice}
 use Rattle.documents.specs.Entries.{SameTotals, has_entry, is_among}
@@ -27,6 +28,7 @@ use Rattle.segment_set.specs.Seen.{BegunStands, MergesInto, Sees}
 use Rattle.segment_set.specs.Kept.{KeepsNamed, StaysAlone, Follows, AreCanonical}
 use Rattle.segment_set.specs.Merges.{MakesLive, IsMade, part_at, Replaces}
 use Rattle.segment_set.proofs.Standing.{IsAlike, alike_begun, alike_kept_views, ids_named, sees_moved}
+use Rattle.segment_set.proofs.OneList.{entries_once}
 use Rattle.segment_set.proofs.Carried.{canon_filter, canon_named, canon_placed, follows_filter, follows_placed}
 use Rattle.segment_set.proofs.Replaced.{one_if, place_in, some_place, live_placed}
 use Rattle.segment_set.proofs.Grown.{Grown, grown}
@@ -156,8 +158,15 @@ module _ (D : ℕ) (told : Type 0) (files new_files : Files) (s : SetData) (name
       by None r made = subst (AreCanonical D new_files s.names) (sym r) others
       by (Some n) r made =
           canon_placed D new_files s.names (part_at r.id n) (parts_but ids s.parts) parts r.placed
-          (∥∥₁_elim (made n refl).has ∥∥₁_prop
-          (λ some. merely (some.items, r.written is_told some.items some.has, canonical r.id n some.items some.has, some.uncrowded))) others
+          (record {
+            canon = ∥∥₁_elim (made n refl).has ∥∥₁_prop
+                (λ some. merely (some.items, r.written is_told some.items some.has, canonical r.id n some.items some.has, some.uncrowded));
+            found = λ number live items held.
+                ∥∥₁_elim (made n refl).has (hlevel props)
+                (λ some. subst (λ (xs : List Item). has_entry number xs ≡ true)
+                (entries_once D (bytes_of (new_files (Segment r.id))) (part_at r.id n).head some.items items (r.written is_told some.items some.has) held)
+                (some.found number live));
+          }) others
 
   -- ---- how it is seen
 

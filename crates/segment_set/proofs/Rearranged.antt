@@ -1,6 +1,6 @@
 -- One merge or flush after another.
 use Rattle.std.proofs.Common.{◌≡◌, ℕ, ◌≤◌, ◌<◌, true, eqb, cond, ltb, List, [], ◌∷◌, length, Result}
-use Rattle.std.proofs.Common.{Ok, Err, ◌^◌, refl, subst, ◌∙◌, ◌⊎◌, inl, inr, ⊎_elim, arith}
+use Rattle.std.proofs.Common.{Option, Ok, Err, ◌^◌, refl, subst, ◌∙◌, ◌⊎◌, inl, inr, ⊎_elim, arith}
 use Rattle.std.specs.List.{All, Contains, sum_by}
 use Rattle.std.specs.Result.{OnOk, OnErr}
 use Rattle.std.proofs.lemmas.Bool.{cases_Bool, ltb-false, ltb-true}
@@ -22,7 +22,7 @@ use Rattle.stored_index.proofs.Places.{entry_there}
 use Rattle.segment_view.specs.LiveSegments.{LiveSegment, ids_of, live_in_parts, parts_among}
 use Rattle.segment_view.specs.Damages.{IsReadDamage}
 use Rattle.file_names.specs.Names.{NameList, is_named}
-use Rattle.segment_set.specs.Sets.{SetData, IsNamed, IsWell}
+use Rattle.segment_set.specs.Sets.{BegunMerge, SetData, IsNamed, IsWell, inputs_of}
 use Rattle.segment_set.specs.Kept.{KeepsNamed}
 use Rattle.segment_set.specs.Merged.{KeepsEntries, Rearranges}
 use Rattle.segment_set.specs.Merges.{IsMerged}
@@ -31,6 +31,8 @@ use Rattle.segment_set.proofs.Carried.{canon_named, canon_then, follows_none, fo
 use Rattle.segment_set.proofs.Standing.{totals_length, totals_none, totals_then}
 use Rattle.segment_set.proofs.Grown.{grown}
 use Rattle.segment_set.proofs.Moved.{moved}
+use Rattle.segment_set.proofs.Lossless.{lossless_then}
+use Rattle.segment_set.proofs.Faithful.{faithful_parts}
 use Rattle.segment_set.proofs.Steps.{IsAfter, cached_more, step}
 
 pub both_ok : {T E : Type 0} (P Q : Type 0) (r : Result T E) → OnOk r P → OnOk r Q → OnOk r (P × Q)
@@ -45,20 +47,28 @@ rearranges_none D told files s named = record {
   follows = follows_none s.names s.parts;
   canon = λ t. canon_named D files s.names s.parts named;
   begun = refl;
+  pinned = refl;
   saved = refl;
+  loses = λ t well heads number live. inl live;
 }
 
-pub rearranges_then : (D : ℕ) (told : Type 0) (f g h : Files) (a b c : SetData) → All (IsNamed b.names) b.parts → Rearranges D told f g a b
-    → Rearranges D told g h b c → Rearranges D told f h a c
-rearranges_then D told f g h a b c named first second = record {
+pub rearranges_then : (D : ℕ) (told : Type 0) (f g h : Files) (a b c : SetData) → IsWell D b → Rearranges D told f g a b → Rearranges D told g h b c
+    → Rearranges D told f h a c
+rearranges_then D told f g h a b c well first second = record {
   seen = λ t i sees. second.seen t i (first.seen t i sees);
   stays = stays_then a b c first.stays second.stays;
   kept = keeps_then told a.names b.names c.names f g h first.kept second.kept;
   follows = follows_then a.names b.names a.parts b.parts c.parts first.kept.more first.follows second.follows;
   canon = λ t.
-      canon_then D told a.names b.names c.names g h b.parts c.parts t second.kept first.kept.more named (first.canon t) second.follows (second.canon t);
+      canon_then D told a.names b.names c.names g h b.parts c.parts t second.kept first.kept.more well.named (first.canon t) second.follows (second.canon t);
   begun = second.begun ∙ first.begun;
+  pinned = subst (λ (o : Option BegunMerge). parts_among (inputs_of o) c.parts ≡ parts_among (inputs_of o) b.parts) first.begun second.pinned ∙ first.pinned;
   saved = second.saved ∙ first.saved;
+  loses = λ t before heads. lossless_then D f g a.names a b c
+      (λ p there. first.kept.files t (Segment p.head.id) (All-contains (IsNamed a.names) a.parts p before.named there)) first.follows (first.canon t)
+      (first.loses t before heads)
+      (second.loses t well
+      (faithful_parts D f g a.names a.parts b.parts before.named (first.kept.files t) first.follows (first.canon t) heads));
 }
 
 -- what a call left that changed names, segments, buffer and cache
@@ -73,7 +83,9 @@ rearranges_after D told files new_files names parts buffer cache kept after = re
   follows = after.follows;
   canon = after.canon;
   begun = refl;
+  pinned = after.pinned;
   saved = refl;
+  loses = λ t well heads. after.loses t heads;
 }
 
 -- ---- the entries of the segments

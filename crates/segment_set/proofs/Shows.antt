@@ -1,16 +1,17 @@
 -- What one call leaves and its damage shows, the call that hands it on leaves and shows too.
 use Rattle.std.proofs.Common.{◌<◌, ◌+◌, ◌^◌, ℕ}
-use Rattle.std.specs.Prelude.{Result, IsErrOf}
+use Rattle.std.specs.Prelude.{All, Result, IsErrOf}
 use Rattle.outer_io.specs.Files.{Files}
 use Rattle.page_cache.specs.declared.faults.Damage.{Damage}
 use Rattle.index_opening.specs.Evidence.{IsEvidentIn}
 use Rattle.segment_view.specs.LiveSegments.{live_in_parts}
-use Rattle.segment_set.specs.Sets.{SetData}
+use Rattle.segment_set.specs.Sets.{IsNamed, SetData}
 use Rattle.segment_set.specs.Damages.{IsDoubt, IsMergeDamage, IsMergeDamageOf}
 use Rattle.segment_set.specs.declared.faults.AddFault.{AddFault}
 use Rattle.segment_set.specs.declared.faults.AddFault.TheVariants as add
 use Rattle.segment_set.specs.Effects.{AddsAlone, RefusesFull, Rewrites, ShowsMergeDamage}
 use Rattle.segment_set.specs.Merged.{Rearranges}
+use Rattle.segment_set.proofs.Rearranged.{rearranges_none}
 use Rattle.segment_set.specs.Faithful.{IsFaithful}
 
 module _ (D : ℕ) (told : Type 0) (files new_files : Files) (s t : SetData) where
@@ -38,7 +39,16 @@ module _ (D : ℕ) (told : Type 0) (files new_files : Files) (s t : SetData) whe
 -- arranging anew writes new files alone, and leaves what adding leaves
 pub rewrites_of : (D : ℕ) (told : Type 0) (files new_files : Files) (s t : SetData) → Rearranges D told files new_files s t
     → (told → IsFaithful D files s → IsFaithful D new_files t) → Rewrites D told files new_files s t
-rewrites_of D told files new_files s t m faithful = record { kept = m.kept; follows = m.follows; canon = m.canon; faithful = faithful }
+rewrites_of D told files new_files s t m faithful = record {
+  kept = m.kept;
+  follows = m.follows;
+  canon = m.canon;
+  faithful = faithful;
+  loses = λ t well keeps. m.loses t well keeps.heads;
+}
+
+pub rewrites_none : (D : ℕ) (told : Type 0) (files : Files) (s : SetData) → All (IsNamed s.names) s.parts → Rewrites D told files files s s
+rewrites_none D told files s named = rewrites_of D told files files s s (rearranges_none D told files s named) (λ t faithful. faithful)
 
 pub alone_of : (D : ℕ) (told : Type 0) (files new_files : Files) (s t : SetData) → Rearranges D told files new_files s t → AddsAlone s t
 alone_of D told files new_files s t m = record { saved = m.saved; begun = m.begun; snapshots = m.stays.snapshots; leaf_size = m.stays.leaf_size }

@@ -11,14 +11,13 @@ use Rattle.documents.specs.Entries.{is_among}
 use Rattle.point_codec.specs.Points.{Item}
 use Rattle.segment_view.specs.LiveSegments.{AreRead, Contents, LiveSegment, ids_of}
 use Rattle.segment_set.specs.Sets.{IsNamed, IsWell, NamedView, SetData}
+pub use Rattle.segment_set.specs.Sets.{set_released, set_snapped}
+use Rattle.segment_set.proofs.BegunKept.{begun_none}
 use Rattle.segment_set.specs.Faithful.{HasFileHead, IsFaithful}
 use Rattle.segment_set.specs.Seen.{Sees, ShowsSnapshot}
 use Rattle.index_opening.proofs.Ordered.{zip_pushed}
 
 -- ---- one more
-
-abbrev pub set_snapped : List ℕ → SetData → SetData
-set_snapped name s = record s { snapshots = s.snapshots ++ record { name = name; parts = s.parts; buffer = s.buffer } ∷ [] }
 
 pub sees_snapped : (D : ℕ) (files : Files) (s : SetData) (i : Index) (name : List ℕ) → Sees D files s i
     → Sees D files (set_snapped name s) (record i { snapshots = i.snapshots ++ record { name = name; docs = i.docs } ∷ [] })
@@ -79,9 +78,6 @@ is_other name v = not (bytes_eq v.name name)
 
 abbrev is_other_shown : List ℕ → Snapshot → Bool
 is_other_shown name t = not (bytes_eq t.name name)
-
-abbrev pub set_released : List ℕ → SetData → SetData
-set_released name s = record s { snapshots = filter (λ (v : NamedView). not (bytes_eq v.name name)) s.snapshots }
 
 released : (c : Contents) (next : ℕ) (name : List ℕ) (views : List NamedView) (ts : List Snapshot) → AllZip (ShowsSnapshot c next) views ts
     → AllZip (ShowsSnapshot c next) (filter (is_other name) views) (filter (is_other_shown name) ts)
@@ -172,7 +168,12 @@ sees_rested D files s i seen = record {
 }
 
 pub faithful_rested : (D : ℕ) (files : Files) (s : SetData) → IsFaithful D files s → IsFaithful D files (set_rested s)
-faithful_rested D files s keeps = record { pages = keeps.pages; heads = keeps.heads; kept = All-nil (λ (v : NamedView). All (HasFileHead D files) v.parts) }
+faithful_rested D files s keeps = record {
+  pages = keeps.pages;
+  heads = keeps.heads;
+  kept = All-nil (λ (v : NamedView). All (HasFileHead D files) v.parts);
+  begun = begun_none D files (set_rested s) refl;
+}
 
 pub well_rested : (D : ℕ) (s : SetData) → IsWell D s → IsWell D (set_rested s)
 well_rested D s well = record {

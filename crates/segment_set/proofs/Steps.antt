@@ -19,11 +19,14 @@ use Rattle.file_names.specs.Names.{NameList, is_named}
 use Rattle.segment_set.specs.Sets.{SetData, IsBuiltOf, IsNamed, IsWell, inputs_of}
 use Rattle.segment_set.specs.Seen.{Sees}
 use Rattle.segment_set.specs.Kept.{KeepsNamed, StaysAlone, Follows, AreCanonical}
+use Rattle.segment_set.specs.Losing.{IsLossless, KeepsNumbers}
+use Rattle.segment_set.specs.Faithful.{HasFileHead}
 use Rattle.segment_set.specs.Merges.{MakesLive, IsMade, IsGathered, IsMerged, Replaces}
 use Rattle.segment_set.proofs.Standing.{ids_named, sees_same}
 use Rattle.segment_set.proofs.Replaced.{one_if, place_in, some_place, length_parted, all_among, ids_stay}
 use Rattle.segment_set.proofs.Weller.{place_built, length_replaced}
 use Rattle.segment_set.proofs.Moved.{Moves, moved, inputs_stay, well_moved, stays_moved, follows_moved, canon_moved, seen_moved, begun_moved}
+use Rattle.segment_set.proofs.Lossless.{lossless_moved}
 use Rattle.page_cache.specs.Cache.{MarksGo}
 
 pub ok_or_err : {T E P Q : Type 0} (r : Result T E) → OnOk r P → OnErr r Q → P ⊎ Q
@@ -57,6 +60,7 @@ pub record IsStep (D : ℕ) (told : Type 0) (files new_files : Files) (cache : P
   pub moves : Moves D told files new_files s names gone parts s.buffer
   pub makes : told → Agrees files cache → (c : Contents) → AreRead D files c s.parts → MakesLive D (live_in_parts c (parts_among gone s.parts)) moves.built
   pub few : length parts ≤ length s.parts
+  pub loses : told → All (HasFileHead D files) s.parts → KeepsNumbers D files (parts_among gone s.parts) moves.built
 
 module _ (D : ℕ) (told : Type 0) (files new_files : Files) (cache : PageCache) (s : SetData) (names : NameList) (ids : List ℕ) (parts : List LiveSegment)
     (kept : KeepsNamed told s.names names files new_files) where
@@ -73,6 +77,7 @@ module _ (D : ℕ) (told : Type 0) (files new_files : Files) (cache : PageCache)
     };
     makes = λ t agrees c reads. ap (live_in_parts c) (none_among s.parts);
     few = subst (λ (ps : List LiveSegment). length parts ≤ length ps) same (omega arith);
+    loses = λ t heads number live. let never : false ≡ true = sym (ap (has_live number) (none_among s.parts)) ∙ live in cc;
   }
 
   fewer_built : (built : Option NewSegmentData) (inputs : List LiveSegment) (number : ℕ)
@@ -111,6 +116,7 @@ module _ (D : ℕ) (told : Type 0) (files new_files : Files) (cache : PageCache)
       | inl none ↦ fewer none
       | inr some ↦ omega (arith, some, length_replaced D told s.names names new_files ids s.parts parts m.built m.replaces)
     ];
+    loses = m.loses;
   }
     where
       fewer : m.built ≡ None → length parts ≤ length s.parts
@@ -139,11 +145,17 @@ module _ (D : ℕ) (told : Type 0) (files new_files : Files) (before : PageCache
   abbrev pub IsApart : Type 0
   IsApart = (id : ℕ) → is_among ids id ≡ true → is_among (inputs_of s.begun) id ≡ false
 
+  pub step_pinned : IsApart → parts_among (inputs_of s.begun) parts ≡ parts_among (inputs_of s.begun) s.parts
+  step_pinned apart = inputs_stay D told files new_files s names st.gone parts s.buffer st.moves well (λ id h. apart id (st.some id h))
+
+  pub step_loses : told → All (HasFileHead D files) s.parts → (cache : PageCache) → IsLossless D files s (moved s names parts s.buffer s.begun cache)
+  step_loses is_told heads cache =
+      lossless_moved D told files new_files s names st.gone parts s.buffer st.moves s.begun cache (st.loses is_told heads) (λ number there. inr there)
+
   pub step_well : IsApart → (cache : PageCache) → ((id : ℕ) → KeepsFile cache id → is_named s.names.names (Segment id) ≡ true) → MarksGo s.cache cache
       → IsWell D (moved s names parts s.buffer s.begun cache)
   step_well apart cache cached go =
-      let stay : parts_among (inputs_of s.begun) parts ≡ parts_among (inputs_of s.begun) s.parts =
-      inputs_stay D told files new_files s names st.gone parts s.buffer st.moves well (λ id h. apart id (st.some id h)) in
+      let stay = step_pinned apart in
       well_moved D told files new_files s names st.gone parts s.buffer st.moves well s.begun cache
       (omega (arith, st.few, well.few)) well.room well.ordered well.once well.sixteen
       (ids_stay (inputs_of s.begun) s.parts parts stay well.inputs) well.few_inputs
@@ -173,13 +185,15 @@ module _ (D : ℕ) (told : Type 0) (files new_files : Files) (before : PageCache
 -- ---- what a call leaves
 
 -- over the files now the set now is seen as the set before was over the files before; it has no number live that wasn't, each of its segments
--- was there or has a new name, and those of new names are canonical
+-- was there or has a new name, and those of new names are canonical. The inputs of a begun merge stay, and no document is lost
 pub record IsAfter (D : ℕ) (told : Type 0) (files new_files : Files) (s t : SetData) : Type 0 where
   pub well : IsWell D t
   pub seen : told → (i : Index) → Sees D files s i → Sees D new_files t i
   pub stays : StaysAlone s t
   pub follows : Follows s.names s.parts t.parts
   pub canon : told → AreCanonical D new_files s.names t.parts
+  pub pinned : parts_among (inputs_of s.begun) t.parts ≡ parts_among (inputs_of s.begun) s.parts
+  pub loses : told → All (HasFileHead D files) s.parts → IsLossless D files s t
 
 pub merge_after : (D : ℕ) (told : Type 0) (files new_files : Files) {s : SetData} (well : IsWell D s) (names : NameList) (ids : List ℕ)
     (parts : List LiveSegment)
@@ -200,4 +214,6 @@ merge_after D told files new_files {s} well names ids parts cache kept apart agr
       stays = step_stays D told files new_files s.cache names ids parts st well cache;
       follows = step_follows D told files new_files s.cache names ids parts st well;
       canon = step_canon D told files new_files s.cache names ids parts st well;
+      pinned = step_pinned D told files new_files s.cache names ids parts st well apart;
+      loses = λ t heads. step_loses D told files new_files s.cache names ids parts st well t heads cache;
     }

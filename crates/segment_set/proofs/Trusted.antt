@@ -1,5 +1,5 @@
 -- What a set keeps of its files after calls that merge and add, and what is evident of a set.
-use Rattle.std.proofs.Common.{◌≡◌, ℕ, Bool, IsTrue, List, Option, Result, ℤ, refl, sym, subst, arith}
+use Rattle.std.proofs.Common.{◌≡◌, ℕ, Bool, IsTrue, List, Option, None, Result, ℤ, refl, sym, subst, inr, arith}
 use Rattle.std.proofs.lemmas.Grind.{merely}
 use Rattle.std.proofs.lemmas.List.Elements.{All-contains}
 use Rattle.outer_io.specs.declared.file_name.FileName.TheVariants.{Segment}
@@ -13,7 +13,9 @@ use Rattle.segment_set.specs.Sets.{AreAlone, BegunMerge, IsNamed, IsSpread, IsWe
 use Rattle.segment_set.specs.Merged.{Rearranges}
 use Rattle.segment_set.specs.Kept.{AreCanonical, Follows, KeepsNamed}
 use Rattle.index_opening.specs.Evidence.{IsCrowdedIn, IsEvidentIn}
+use Rattle.segment_set.specs.Losing.{KeepsBegun}
 use Rattle.segment_set.specs.Faithful.{HasFileHead, IsFaithful}
+use Rattle.segment_set.proofs.BegunKept.{begun_none}
 use Rattle.segment_set.proofs.Crowds.{crowded_before}
 use Rattle.index_opening.proofs.Evident.{on_less_with, on_evident_twice}
 use Rattle.segment_set.proofs.Faithful.{faithful_named, faithful_parts}
@@ -27,27 +29,28 @@ IsTrusted told D files s = IsTrue told × IsFaithful D files s
 -- what was built took the place of segments, or a refusal left them, and the cache stays
 pub faithful_replaced : (D : ℕ) (told : Type 0) (f g : Files) (s t : SetData) → IsWell D s → KeepsNamed told s.names t.names f g
     → Follows s.names s.parts t.parts → (told → AreCanonical D g s.names t.parts)
-    → t.snapshots ≡ s.snapshots → t.cache ≡ s.cache → told → IsFaithful D f s → IsFaithful D g t
-faithful_replaced D told f g s t well kept follows canon snapshots cache is_told faithful =
-    let others = faithful_named D f g s (record t { parts = s.parts }) well (kept.files is_told) refl snapshots cache faithful in
+    → t.begun ≡ None → t.snapshots ≡ s.snapshots → t.cache ≡ s.cache → told → IsFaithful D f s → IsFaithful D g t
+faithful_replaced D told f g s t well kept follows canon ended snapshots cache is_told faithful =
+    let others = faithful_named D f g s (record t { parts = s.parts }) well (kept.files is_told) refl (inr ended) snapshots cache faithful in
     record {
       pages = others.pages;
       heads = faithful_parts D f g s.names s.parts t.parts well.named (kept.files is_told) follows (canon is_told) faithful.heads;
       kept = others.kept;
+      begun = begun_none D g t ended;
     }
 
 -- a call that looks at segments, and may begin a merge. `s` is the set as its fields have it, `t` as the caller sees it
 pub faithful_looked : (D : ℕ) (told : Bool) (f g : Files) (s t : SetData) (ids : List ℕ) (begun : Option BegunMerge) (cache : PageCache) → s ≡ t
-    → IsCalm told f g s.cache cache ids → IsTrue told → IsFaithful D f t
-    → IsFaithful D g (record s { begun = begun; cache = cache })
-faithful_looked D told f g s t ids begun cache same calm is_told faithful =
+    → IsCalm told f g s.cache cache ids → (IsTrue told → All (HasFileHead D f) s.parts → KeepsBegun D f (record s { begun = begun })) → IsTrue told
+    → IsFaithful D f t → IsFaithful D g (record s { begun = begun; cache = cache })
+faithful_looked D told f g s t ids begun cache same calm keeps is_told faithful =
     let was = subst (IsFaithful D f) (sym same) faithful in
     subst (λ (h : Files). IsFaithful D h (record s { begun = begun; cache = cache })) (sym (calm.files is_told))
-    (record { pages = calm.agrees is_told was.pages; heads = was.heads; kept = was.kept })
+    (record { pages = calm.agrees is_told was.pages; heads = was.heads; kept = was.kept; begun = keeps is_told was.heads })
 
 -- a set is as faithful to its files after a document was added
 pub faithful_with : (D : ℕ) (files : Files) (points : List (List ℤ)) (s : SetData) → IsFaithful D files s → IsFaithful D files (set_with points s)
-faithful_with D files points s faithful = record { pages = faithful.pages; heads = faithful.heads; kept = faithful.kept }
+faithful_with D files points s faithful = record { pages = faithful.pages; heads = faithful.heads; kept = faithful.kept; begun = faithful.begun }
 
 -- ---- what a damage shows
 

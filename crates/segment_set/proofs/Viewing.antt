@@ -1,5 +1,5 @@
 -- What a set keeps of its files stays theirs where it is looked at, where snapshots come and go, and where it is made anew; and what a damage shows there.
-use Rattle.std.proofs.Common.{◌≡◌, ◌≢◌, ℕ, Bool, not, List, get_or, Option, Result, IsTrue, inl, inr, sym, subst}
+use Rattle.std.proofs.Common.{◌≡◌, ◌≢◌, ℕ, Bool, not, List, get_or, Option, Result, IsTrue, inl, inr, refl, sym, ap, subst}
 use Rattle.std.specs.List.{All, AllZip, Contains}
 use Rattle.std.specs.Str.{bytes_eq}
 use Rattle.std.proofs.lemmas.Grind.{merely}
@@ -19,7 +19,7 @@ use Rattle.segment_file.specs.Damages.{IsLeafDamageOf}
 use Rattle.stored_index.specs.Stored.{HasHead}
 use Rattle.segment_view.specs.Calm.{IsCalm}
 use Rattle.segment_view.specs.Damages.{IsPartDamage}
-use Rattle.segment_view.specs.LiveSegments.{LiveSegment}
+use Rattle.segment_view.specs.LiveSegments.{LiveSegment, parts_among}
 use Rattle.file_names.specs.Names.{NameList}
 use Rattle.segment_set.specs.Sets.{NamedView, SetData, viewed_parts}
 use Rattle.index_opening.specs.Opened.{IsOpened}
@@ -27,6 +27,7 @@ use Rattle.segment_set.specs.Swept.{IsUnneeded}
 use Rattle.index_opening.specs.Evidence.{IsEvident, IsTwice}
 use Rattle.segment_set.specs.Faithful.{HasFileHead, IsFaithful}
 use Rattle.index_opening.proofs.Ordered.{zip_right}
+use Rattle.segment_set.proofs.BegunKept.{begun_alike, begun_none}
 use Rattle.segment_set.proofs.Attaching.{attached}
 use Rattle.segment_set.proofs.Empty.{empty_set}
 use Rattle.index_opening.proofs.Evident.{on_evident_at, on_part_evident}
@@ -43,7 +44,7 @@ pub looked_faithful : (D : ℕ) (told : Bool) (f g : Files) (s t : SetData) (ids
 looked_faithful D told f g s t ids cache same calm told_is keeps =
     let here : IsFaithful D f s = subst (IsFaithful D f) (sym same) keeps in
     subst (λ (h : Files). IsFaithful D h (record s { cache = cache })) (sym (calm.files told_is))
-    (record { pages = calm.agrees told_is here.pages; heads = here.heads; kept = here.kept })
+    (record { pages = calm.agrees told_is here.pages; heads = here.heads; kept = here.kept; begun = here.begun })
 
 pub looked_evident : {X : Type 0} (D : ℕ) (told : Bool) (f g : Files) (s t : SetData) (view : Option (List ℕ)) (segments : List LiveSegment) (ids : List ℕ)
     (cache : PageCache) (r : Result X PageFault) → s ≡ t
@@ -63,6 +64,7 @@ faithful_snapped D files s name keeps = record {
   heads = keeps.heads;
   kept = All-push (λ (v : NamedView). All (HasFileHead D files) v.parts) s.snapshots (record { name = name; parts = s.parts; buffer = s.buffer }) keeps.kept
       keeps.heads;
+  begun = keeps.begun;
 }
 
 pub faithful_released : (D : ℕ) (files : Files) (s : SetData) (name : List ℕ) → IsFaithful D files s → IsFaithful D files (set_released name s)
@@ -70,6 +72,7 @@ faithful_released D files s name keeps = record {
   pages = keeps.pages;
   heads = keeps.heads;
   kept = All-filter (λ (v : NamedView). not (bytes_eq v.name name)) (λ (v : NamedView). All (HasFileHead D files) v.parts) s.snapshots keeps.kept;
+  begun = keeps.begun;
 }
 
 -- ---- a set that is made anew
@@ -80,6 +83,7 @@ faithful_empty D leaf_size names cache files agrees = record {
   pages = agrees;
   heads = All-nil (HasFileHead D files);
   kept = All-nil (λ (v : NamedView). All (HasFileHead D files) v.parts);
+  begun = begun_none D files (empty_set leaf_size names cache) refl;
 }
 
 -- the head of a listed segment is that of the file of its own id
@@ -97,6 +101,7 @@ faithful_attached D told files c names parts cache dims t all agrees = record {
   heads = zip_right (IsOpened told files c) (λ (s : Listed). Unit {0}) (HasFileHead D files) c.listed parts
       (λ s p u one. listed_head D files c s p dims (one.head t)) (λ k s lt. tt) all;
   kept = All-nil (λ (v : NamedView). All (HasFileHead D files) v.parts);
+  begun = begun_none D files (attached c names parts cache) refl;
 }
 
 -- ---- the set after a file is taken away that no view needs
@@ -110,12 +115,14 @@ heads_still D before after name parts same apart all k p lt =
 
 pub faithful_swept : (D : ℕ) (s t : SetData) (k : CommitData) (name : FileName) (before after : Files) → IsUnneeded s k name
     → ((id : ℕ) → name ≡ Segment id → KeepsFile t.cache id → ⊥) → SameBut name before after
-    → Agrees before t.cache → t.parts ≡ s.parts → t.snapshots ≡ s.snapshots → IsFaithful D before s → IsFaithful D after t
-faithful_swept D s t k name before after un none same agrees parts snapshots keeps = record {
+    → Agrees before t.cache → t.parts ≡ s.parts → t.snapshots ≡ s.snapshots → t.begun ≡ s.begun → IsFaithful D before s → IsFaithful D after t
+faithful_swept D s t k name before after un none same agrees parts snapshots begun keeps = record {
   pages = agrees_other before after t.cache (λ id kept. same (Segment id) (λ e. none id (sym e) kept)) agrees;
   heads =
       subst (All (HasFileHead D after)) (sym parts) (heads_still D before after name s.parts same (λ p there e. un.shown (inl (p, there, sym e))) keeps.heads);
   kept = subst (All (λ (v : NamedView). All (HasFileHead D after) v.parts)) (sym snapshots)
       (λ k v lt. heads_still D before after name (get_or s.snapshots k v).parts same
       (λ p there e. un.shown (inr (get_or s.snapshots k v, All-contains_itself s.snapshots k v lt, (p, there, sym e)))) (keeps.kept k v lt));
+  begun = begun_alike D before after s t begun (λ b was. ap (parts_among b.inputs) parts)
+      (λ p there. same (Segment p.head.id) (λ e. un.shown (inl (p, there, sym e)))) keeps.begun;
 }

@@ -140,7 +140,12 @@ built_of_but D leaf_size number inputs n is = record {
   leaf_size = is.leaf_size;
   has = ∥∥₁_elim is.has ∥∥₁_prop
       (λ some. merely
-      (record { items = some.items; has = record { built = some.has.built; counted = some.has.counted; fits = some.has.fits }; uncrowded = some.uncrowded }));
+      (record {
+        items = some.items;
+        has = record { built = some.has.built; counted = some.has.counted; fits = some.has.fits };
+        uncrowded = some.uncrowded;
+        found = λ m live. some.found m (left_of (is_live n.live m) (not (eqb m number)) (sym (is_live-without n.live number m) ∙ live));
+      }));
   fits = omega (arith, is.fits, length_but number n.live);
   within = λ m live.
       let both = sym (is_live-without n.live number m) ∙ live in

@@ -1,5 +1,5 @@
 -- What a flush of the buffer does to a set.
-use Rattle.std.proofs.Common.{◌≡◌, ℕ, ◌<◌, Bool, true, false, List, [], ◌++◌, length, Some, Result, Err, is_some, refl, sym, ap, subst, inl, inr, arith}
+use Rattle.std.proofs.Common.{◌≡◌, ℕ, ◌<◌, Bool, true, false, List, [], ◌++◌, length, Some, Result, Err, is_some, refl, sym, ap, subst, ◌∙◌, inl, inr, arith}
 use Rattle.std.specs.Result.{OnOk, OnErr}
 use Rattle.std.specs.List.{sum_by}
 use Rattle.std.proofs.lemmas.List.{append-nil}
@@ -10,17 +10,19 @@ use Rattle.leaf_codec.specs.LeafOrder.{NoneTwice}
 use Rattle.live_bits.specs.LiveSet.{is_live}
 use Rattle.documents.specs.Entries.{SameTotals, has_entry, is_among}
 use Rattle.index_model.specs.State.{Index}
-use Rattle.segment_view.specs.LiveSegments.{LiveSegment, live_in_parts, parts_among}
+use Rattle.segment_view.specs.LiveSegments.{LiveSegment, live_in_parts, parts_among, has_live}
 use Rattle.document_checks.specs.Crowded.{AreFew}
 use Rattle.file_names.specs.Names.{NameList}
 use Rattle.segment_set.specs.Sets.{SetData, IsBuiltOf, IsWell, inputs_of}
 use Rattle.segment_set.specs.Seen.{Sees}
 use Rattle.segment_set.specs.Kept.{KeepsNamed, StaysAlone, Follows, AreCanonical}
+use Rattle.segment_set.specs.Losing.{IsLossless}
 use Rattle.segment_set.specs.Merges.{IsMade, IsBufferWritten}
 use Rattle.segment_set.proofs.Standing.{sees_same}
 use Rattle.segment_set.proofs.Replaced.{one_if, ids_stay}
 use Rattle.segment_set.proofs.Weller.{length_replaced}
 use Rattle.segment_set.proofs.Moved.{Moves, moved, inputs_stay, well_moved, stays_moved, follows_moved, canon_moved, seen_moved, begun_moved}
+use Rattle.segment_set.proofs.Lossless.{lossless_moved}
 use Rattle.segment_set.proofs.Steps.{IsAfter, merge_after, none_among, ok_or_err}
 
 none_twice_none : NoneTwice []
@@ -50,10 +52,12 @@ module _ (D : ℕ) (told : Type 0) (files new_files : Files) {s : SetData} (name
   apart_none : (id : ℕ) → is_among [] id ≡ true → is_among (inputs_of s.begun) id ≡ false
   apart_none id h = cc
 
+  written_pinned : parts_among (inputs_of s.begun) parts ≡ parts_among (inputs_of s.begun) s.parts
+  written_pinned = inputs_stay D told files new_files s names [] parts [] written_moves well apart_none
+
   pub written_well : length s.parts < 200 → IsWell D (moved s names parts [] s.begun s.cache)
   written_well few =
-      let stay : parts_among (inputs_of s.begun) parts ≡ parts_among (inputs_of s.begun) s.parts =
-      inputs_stay D told files new_files s names [] parts [] written_moves well apart_none in
+      let stay = written_pinned in
       well_moved D told files new_files s names [] parts [] written_moves well s.begun s.cache
       (omega (arith, few, length_replaced D told s.names names new_files [] s.parts parts (Some sp.n) sp.put)) (omega arith)
       (λ i j d le lt. absurd (omega (arith, lt))) none_twice_none few_none
@@ -69,6 +73,12 @@ module _ (D : ℕ) (told : Type 0) (files new_files : Files) {s : SetData} (name
 
   pub written_canon : told → AreCanonical D new_files s.names parts
   written_canon is_told = canon_moved D told files new_files s names [] parts [] written_moves is_told well
+
+  written_loses : IsLossless D files s (moved s names parts [] s.begun s.cache)
+  unfolding written_moves
+  written_loses = lossless_moved D told files new_files s names [] parts [] written_moves s.begun s.cache
+      (λ number live. let never : false ≡ true = sym (ap (has_live number) (none_among s.parts)) ∙ live in cc)
+      (λ number there. inl (ap (λ (f : ℕ → Bool). f number) sp.live ∙ there))
 
   pub written_seen : told → (i : Index) → Sees D files s i → Sees D new_files (moved s names parts [] s.begun s.cache) i
   unfolding written_moves
@@ -105,6 +115,8 @@ written_after D told files new_files {s} well names parts left few kept r writte
     stays = written_stays D told files new_files names parts kept sp.0 well;
     follows = written_follows D told files new_files names parts kept sp.0 well;
     canon = written_canon D told files new_files names parts kept sp.0 well;
+    pinned = written_pinned D told files new_files names parts kept sp.0 well;
+    loses = λ t heads. written_loses D told files new_files names parts kept sp.0 well;
   })
   | inr same ↦
       subst (λ (es : List Item). IsAfter D told files new_files s (moved s names parts es s.begun s.cache)) (sym same.1)

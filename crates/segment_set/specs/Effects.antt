@@ -22,7 +22,7 @@ use Rattle.index_opening.specs.Damages.{IsAttachDamage, IsAttachDamageOf}
 use Rattle.index_opening.specs.Evidence.{IsEvident, IsEvidentIn}
 use Rattle.segment_set.specs.declared.faults.AddFault.{AddFault}
 use Rattle.segment_set.specs.declared.faults.AddFault.TheVariants as add
-use Rattle.segment_set.specs.Sets.{BegunMerge, SetData}
+use Rattle.segment_set.specs.Sets.{BegunMerge, IsWell, SetData}
 use Rattle.segment_set.specs.Seen.{Sees}
 use Rattle.segment_set.specs.Kept.{AreCanonical, Follows, IsCommitOf, KeepsNamed, StaysAlone}
 use Rattle.segment_set.specs.Merged.{IsEnded}
@@ -31,14 +31,17 @@ use Rattle.segment_set.specs.Settles.{SetMoment, IsLeft}
 use Rattle.segment_set.specs.Saved.{AreCovering, IsLastOrFresh, KeepsLine}
 use Rattle.segment_set.specs.Damages.{IsDoubt, IsMergeDamage, IsMergeDamageOf}
 use Rattle.segment_set.specs.Faithful.{IsFaithful}
+use Rattle.segment_set.specs.Losing.{IsLossless}
 use Rattle.segment_set.specs.Faults.{OnAddDamage}
 
--- Files are written under new names alone. Each segment was there, or is canonical in a file of a new name.
+-- Files are written under new names alone. Each segment was there, or is canonical in a file of a new name. No
+-- document is lost.
 pub record Rewrites (D : ℕ) (told : Type 0) (files new_files : Files) (s t : SetData) : Type 0 where
   pub kept : KeepsNamed told s.names t.names files new_files
   pub follows : Follows s.names s.parts t.parts
   pub canon : told → AreCanonical D new_files s.names t.parts
   pub faithful : told → IsFaithful D files s → IsFaithful D new_files t
+  pub loses : told → IsWell D s → IsFaithful D files s → IsLossless D files s t
 
 -- ---- what a damage shows. `On P` says that P holds of the damage, where the call answers one
 

@@ -6,6 +6,7 @@ use Rattle.outer_io.specs.declared.file_name.FileName.TheVariants.{Commit, Segme
 use Rattle.outer_io.specs.Files.{Files, bytes_of}
 use Rattle.point_codec.specs.Points.{Item}
 use Rattle.live_bits.specs.LiveSet.{LiveSet, is_live}
+use Rattle.documents.specs.Entries.{has_entry}
 use Rattle.commit_list.specs.Commits.{CommitData}
 use Rattle.stored_index.specs.Kept.{ListsFile}
 use Rattle.segment_file.specs.Heads.{Head}
@@ -63,11 +64,21 @@ HasCanonical D files head =
     ∥ ((items : List Item) × IsSegment D (bytes_of (files (Segment head.id))) head items × IsCanonical D head items
     × AreUncrowded items) ∥₁
 
--- each segment whose file has a name that wasn't in the list is canonical
+-- each live number of the segment is that of an entry that its file holds
+abbrev pub FindsLive : ℕ → Files → LiveSegment → Type 0
+FindsLive D files p = (number : ℕ) → is_live p.live number ≡ true → (items : List Item)
+    → IsSegment D (bytes_of (files (Segment p.head.id))) p.head items → has_entry number items ≡ true
+
+-- the segment is as a merge or a flush writes it: the canonical tree of entries, and each live number is that of one
+pub record IsCanonicalPart (D : ℕ) (files : Files) (p : LiveSegment) : Type 0 where
+  pub canon : HasCanonical D files p.head
+  pub found : FindsLive D files p
+
+-- so is each segment whose file has a name that wasn't in the list
 abbrev pub AreCanonical : ℕ → Files → NameList → List LiveSegment → Type 0
 AreCanonical D files names parts = (p : LiveSegment) → Contains parts p
     → is_named names.names (Segment p.head.id) ≡ false
-    → HasCanonical D files p.head
+    → IsCanonicalPart D files p
 
 -- the set is as the commit says: its numbers, its segments with as many live numbers each, and nothing waits in the
 -- buffer

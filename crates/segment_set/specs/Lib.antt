@@ -3,6 +3,7 @@ pub mod Sets
 pub mod Given
 pub mod Seen
 pub mod Kept
+pub mod Losing
 pub mod Merged
 pub mod Damages
 pub mod Merges

@@ -8,10 +8,13 @@ use Rattle.documents.specs.Entries.{SameTotals, is_among}
 use Rattle.page_cache.specs.Cache.{Agrees}
 use Rattle.index_model.specs.State.{Index}
 use Rattle.segment_view.specs.LiveSegments.{LiveSegment, Contents, AreRead, IsPlaced, ids_of, live_in_parts, parts_but}
+use Rattle.segment_view.specs.LiveSegments.{parts_among}
 use Rattle.segment_build.specs.NewSegments.{NewSegmentData}
-use Rattle.segment_set.specs.Sets.{BegunMerge, SetData, inputs_of}
+use Rattle.segment_set.specs.Sets.{BegunMerge, IsWell, SetData, inputs_of}
 use Rattle.segment_set.specs.Seen.{Sees}
 use Rattle.segment_set.specs.Kept.{AreCanonical, Follows, KeepsNamed, StaysAlone}
+use Rattle.segment_set.specs.Losing.{IsLossless}
+use Rattle.segment_set.specs.Faithful.{HasFileHead}
 
 -- each of the numbers, where it first stands
 abbrev pub each_once : List ℕ → List ℕ
@@ -59,7 +62,8 @@ pub record IsApart (ids inputs : List ℕ) (parts : List LiveSegment) : Type 0 w
   pub apart : (id : ℕ) → is_among ids id ≡ true → is_among inputs id ≡ false
 
 -- The documents of a set are arranged anew in segments: with the files now it is seen as it was. Names were only
--- added; each segment was there or has a new name, and those of new names are canonical.
+-- added; each segment was there or has a new name, and those of new names are canonical. The inputs of a begun merge
+-- stay, and no document is lost.
 pub record Rearranges (D : ℕ) (told : Type 0) (files new_files : Files) (s t : SetData) : Type 0 where
   pub seen : told → (i : Index) → Sees D files s i → Sees D new_files t i
   pub stays : StaysAlone s t
@@ -67,7 +71,9 @@ pub record Rearranges (D : ℕ) (told : Type 0) (files new_files : Files) (s t :
   pub follows : Follows s.names s.parts t.parts
   pub canon : told → AreCanonical D new_files s.names t.parts
   pub begun : t.begun ≡ s.begun
+  pub pinned : parts_among (inputs_of s.begun) t.parts ≡ parts_among (inputs_of s.begun) s.parts
   pub saved : t.saved ≡ s.saved
+  pub loses : told → IsWell D s → All (HasFileHead D files) s.parts → IsLossless D files s t
 
 -- where the kept pages were those of the files they are so still, and the segments have the live entries that they had
 pub record KeepsEntries (D : ℕ) (told : Type 0) (files new_files : Files) (s t : SetData) : Type 0 where

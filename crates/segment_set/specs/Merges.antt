@@ -16,6 +16,7 @@ use Rattle.file_names.specs.Names.{NameList, is_named}
 use Rattle.segment_set.specs.Sets.{BegunMerge, HasUncrowded}
 use Rattle.segment_set.specs.Given.{IsNextName}
 use Rattle.segment_set.specs.Faithful.{HasFileHead}
+use Rattle.segment_set.specs.Losing.{KeepsNumbers}
 
 -- the live ones of the entries that the segment was built of are these, and each live number is that of one of them
 pub record HoldsLive (D : ℕ) (entries : List Item) (n : NewSegmentData) : Type 0 where
@@ -71,27 +72,7 @@ pub record IsGathered (D leaf_size : ℕ) (inputs : List LiveSegment) (n : NewSe
   pub all : ∥ HasLiveEntries D n ∥₁
   pub within : (number : ℕ) → is_live n.live number ≡ true → has_live number inputs ≡ true
 
--- the number is live in what was built
-abbrev pub is_built_live : ℕ → Option NewSegmentData → Bool
-is_built_live number None = false
-is_built_live number (Some n) = is_live n.live number
-
--- one of the segments has the number live, though its file holds entries of which none has it
-pub record HasNoEntry (D : ℕ) (files : Files) (inputs : List LiveSegment) (number : ℕ) : Type 0 where
-  pub part : LiveSegment
-  pub there : Contains inputs part
-  pub live : is_live part.live number ≡ true
-  pub items : List Item
-  pub held : IsSegment D (bytes_of (files (Segment part.head.id))) part.head items
-  pub none : has_entry number items ≡ false
-
--- No document is lost, whatever the files hold: each number that is live in the inputs is so in what was built, but
--- where no entry has it.
-abbrev pub KeepsNumbers : (D : ℕ) (files : Files) (inputs : List LiveSegment) → Option NewSegmentData → Type 0
-KeepsNumbers D files inputs built = (number : ℕ) → has_live number inputs ≡ true
-    → (is_built_live number built ≡ true) ⊎ ∥ HasNoEntry D files inputs number ∥₁
-
--- so it is where the heads of these segments, some of which are inputs, are those of their files
+-- no document is lost, where the heads of these segments, some of which are inputs, are those of their files
 abbrev pub LosesNone : (D : ℕ) (told : Type 0) (files : Files) (ids : List ℕ) (parts : List LiveSegment)
     → Option NewSegmentData → Type 0
 LosesNone D told files ids parts built =

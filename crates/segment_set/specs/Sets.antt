@@ -1,6 +1,6 @@
 -- What contracts see of a set of segments.
-use Rattle.std.specs.Prelude.{◌≡◌, ◌≤◌, ◌<◌, ◌+◌, ◌^◌, ℕ, Bool, true, false, if◌then◌else◌, List, [], ◌++◌, length, map}
-use Rattle.std.specs.Prelude.{find, All, Option, None, Some, ℤ}
+use Rattle.std.specs.Prelude.{◌≡◌, ◌≤◌, ◌<◌, ◌+◌, ◌^◌, ℕ, Bool, true, false, if◌then◌else◌, List, [], ◌∷◌, ◌++◌, length, map}
+use Rattle.std.specs.Prelude.{not, filter, find, All, Option, None, Some, ℤ}
 use Rattle.std.specs.List.{list_any}
 use Rattle.std.specs.List.Sorted.{IsNonDecreasingBy}
 use Rattle.std.specs.Str.{bytes_eq}
@@ -102,6 +102,16 @@ set_with points s =
           (record { number = s.next; points = points });
     }
 
+-- the set with a snapshot more, of what is live now
+abbrev pub set_snapped : List ℕ → SetData → SetData
+set_snapped name s = record s {
+  snapshots = s.snapshots ++ record { name = name; parts = s.parts; buffer = s.buffer } ∷ [];
+}
+
+-- the set without the snapshot of this name
+abbrev pub set_released : List ℕ → SetData → SetData
+set_released name s = record s { snapshots = filter (λ v. not (bytes_eq v.name name)) s.snapshots }
+
 -- ---- what a query looks at: what is live now, or what a snapshot keeps
 
 -- a snapshot has this name
@@ -159,11 +169,12 @@ pub record IsSpread (next : ℕ) (parts : List LiveSegment) (buffer : List Item)
 abbrev pub IsNamed : NameList → LiveSegment → Type 0
 IsNamed names p = is_named names.names (Segment p.head.id) ≡ true
 
--- a segment was built of entries such as documents have
+-- a segment was built of entries such as documents have, and each live number of it is that of one
 pub record HasUncrowded (D : ℕ) (n : NewSegmentData) : Type 0 where
   pub items : List Item
   pub has : HasEntries D items n
   pub uncrowded : AreUncrowded items
+  pub found : (number : ℕ) → is_live n.live number ≡ true → has_entry number items ≡ true
 
 -- a segment was built with the leaf size: it is the canonical tree of some entries, has no more live numbers than
 -- entries, and each of them is live in an input

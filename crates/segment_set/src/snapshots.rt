@@ -40,7 +40,7 @@ impl<const D: usize> Snapshot<D> {
 }
 
 impl<const D: usize> SegmentSet<D> {
-    ghost use Rattle.segment_set.specs.Sets.{NamedView, SetData, has_name};
+    ghost use Rattle.segment_set.specs.Sets.{NamedView, SetData, has_name, set_released, set_snapped};
     ghost use Rattle.segment_set.specs.Seen.{Sees};
     ghost use Rattle.segment_set.specs.Faithful.{IsFaithful};
     ghost use Rattle.segment_set.specs.declared.faults.SnapFault.TheVariants.{Taken, TooMany};
@@ -64,11 +64,7 @@ impl<const D: usize> SegmentSet<D> {
         ensures too_many { IsErrOf result TooMany ↔
             ((has_name name self.old.snapshots ≡ false) × (16 ≤ length self.old.snapshots)) }
         ensures refused { OnErr result (self.new ≡ self.old) }
-        ensures kept { OnOk result (self.new
-            ≡ record self.old {
-              snapshots = self.old.snapshots ++ record
-                  { name = name; parts = self.old.parts; buffer = self.old.buffer } ∷ [];
-            }) }
+        ensures kept { OnOk result (self.new ≡ set_snapped name self.old) }
     {
         if has_name(self.snapshots.as_slice(), &name) {
             return Err(SnapFault::Taken);
@@ -95,8 +91,7 @@ impl<const D: usize> SegmentSet<D> {
             → Sees D files self.new
             (record i { snapshots = filter (λ s. not (bytes_eq s.name name.now)) i.snapshots }) }
         ensures faithful { (files : Files) → IsFaithful D files self.old → IsFaithful D files self.new }
-        ensures kept { self.new ≡ record self.old
-            { snapshots = filter (λ v. not (bytes_eq v.name name.now)) self.old.snapshots } }
+        ensures kept { self.new ≡ set_released name.now self.old }
     {
         let found = has_name(self.snapshots.as_slice(), name);
         let_go(&mut self.snapshots, name);

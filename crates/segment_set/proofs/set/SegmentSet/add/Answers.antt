@@ -1,18 +1,19 @@
 -- Room is made, and then the document is put into the buffer.
-use Rattle.std.proofs.Common.{◌≡◌, ◌+◌, ◌≤◌, ◌∙◌, IsTrue, length, refl, sym, ap, subst, arith}
+use Rattle.std.proofs.Common.{◌≡◌, ◌+◌, ◌≤◌, ◌∙◌, IsTrue, length, refl, sym, ap, subst, inl, inr, ⊎_elim, arith}
 use Rattle.std.proofs.lemmas.Bool.{false≢true}
 use Rattle.std.proofs.lemmas.List.{length-map}
 use Rattle.segment_set.specs.Sets.{SetData}
 use Rattle.segment_set.specs.Seen.{Sees}
 use Rattle.segment_set.specs.Kept.{StaysAlone}
-use Rattle.segment_set.proofs.Carried.{canon_named, follows_none, keeps_none, stays_none}
+use Rattle.segment_set.proofs.Carried.{stays_none}
 use Rattle.segment_set.proofs.Changed.{full_given, index_with, not_full, parts_with, sees_with}
 use Rattle.segment_set.proofs.Refused.{add_cause, add_damage, add_memory_cause, add_memory_damage, add_memory_not_full, add_not_full}
 use Rattle.segment_set.proofs.Refused.{added_caused, at_error, full_cause, never_ok, never_value}
 use Rattle.segment_set.proofs.Trusted.{faithful_with}
 use Rattle.segment_set.proofs.Settled.{before_itself, before_same, flushes_none, left_settled}
 use Rattle.segment_set.specs.Settles.{moment}
-use Rattle.segment_set.proofs.Shows.{alone_of, never_refuses, rewrites_of, shows_none, shows_on}
+use Rattle.segment_set.proofs.Lossless.{live_with}
+use Rattle.segment_set.proofs.Shows.{alone_of, never_refuses, rewrites_none, rewrites_of, shows_none, shows_on}
 use Rattle.segment_set.specs.Effects.{AddsAlone, Rewrites}
 use Rattle.segment_set.proofs.set.SegmentSet.add.Goals as goal
 
@@ -169,12 +170,7 @@ returns-clause-cause g c =
     added_caused (g.F.Pages.faults c.args.folder.now) (g.F.Pages.faults c.make_room.new.folder) _ c.in_ok-make_room.ensures.cause.on_ok
 
 pub returns-then-is_full-clause-rewrites : goal.returns-then-is_full-clause-rewrites
-returns-then-is_full-clause-rewrites g c = record {
-  kept = keeps_none (IsTrue g.F.Pages.told) c.args.self.now.names (g.F.Pages.files c.args.folder.now);
-  follows = follows_none c.args.self.now.names c.args.self.now.parts;
-  canon = λ told. canon_named g.row.D (g.F.Pages.files c.args.folder.now) c.args.self.now.names c.args.self.now.parts c.is_full.ensures.named;
-  faithful = λ told faithful. faithful;
-}
+returns-then-is_full-clause-rewrites g c = rewrites_none _ _ _ _ c.is_full.ensures.named
 
 pub returns-then-is_full-clause-damaged : goal.returns-then-is_full-clause-damaged
 returns-then-is_full-clause-damaged g c =
@@ -213,6 +209,8 @@ returns-clause-rewrites g c =
       faithful = λ told faithful.
           faithful_with g.row.D (g.F.Pages.files c.make_room.new.folder) c.args.points.now c.make_room.new.self
           (c.in_ok-make_room.ensures.faithful told faithful);
+      loses = λ told well faithful number live. ⊎_elim (λ here. inl (live_with c.args.points.now c.make_room.new.self number here)) inr
+          (c.in_ok-make_room.ensures.moves.loses told well faithful.heads number live);
     })
 
 pub returns-clause-damaged : goal.returns-clause-damaged

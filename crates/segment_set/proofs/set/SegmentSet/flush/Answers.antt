@@ -16,7 +16,7 @@ all : (g : given.Over) (c : goal.After-write_buffer g)
 all g c =
     rearranges_then g.row.D (IsTrue g.F.Pages.told) (g.F.Pages.files c.args.folder.now) (g.F.Pages.files c.merge_settle.new.folder)
     (g.F.Pages.files c.write_buffer.new.folder) c.args.self.now c.merge_settle.new.self c.write_buffer.new.self
-    c.write_buffer.ensures.well.named c.in_ok-merge_settle.ensures.moves c.write_buffer.ensures.moves
+    c.write_buffer.ensures.well c.in_ok-merge_settle.ensures.moves c.write_buffer.ensures.moves
 
 pub returns-clause-levels : goal.returns-clause-levels
 returns-clause-levels g c =

@@ -1,6 +1,6 @@
 -- Each segment has a name that was in the list.
 use Rattle.segment_set.proofs.Carried.{canon_named, follows_none, keeps_none, stays_none}
-use Rattle.std.proofs.Common.{IsTrue, length, refl, ap, arith}
+use Rattle.std.proofs.Common.{IsTrue, length, inl, refl, ap, arith}
 use Rattle.std.proofs.lemmas.Bool.{both_ways}
 use Rattle.std.proofs.lemmas.Result.{on_ok_weaker}
 use Rattle.segment_set.proofs.Saving.{done_cause}
@@ -29,7 +29,9 @@ returns-then-has_room-clause-moves g c = record {
   follows = follows_none c.args.self.now.names c.args.self.now.parts;
   canon = λ told. canon_named g.row.D (g.F.Pages.files c.args.folder.now) c.args.self.now.names c.args.self.now.parts c.has_room.ensures.named;
   begun = refl;
+  pinned = refl;
   saved = refl;
+  loses = λ told well heads number live. inl live;
 }
 
 pub returns-then-has_room-clause-cause : goal.returns-then-has_room-clause-cause

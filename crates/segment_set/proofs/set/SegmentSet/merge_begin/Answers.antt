@@ -12,6 +12,7 @@ use Rattle.segment_set.specs.Seen.{Sees}
 use Rattle.segment_set.specs.Faithful.{IsFaithful}
 use Rattle.segment_set.specs.Damages.{IsDoubt, IsMergeDamage, IsMergeDamageOf}
 use Rattle.segment_set.specs.Merged.{chosen_ids, each_once}
+use Rattle.segment_set.specs.Losing.{KeepsNumbers}
 use Rattle.segment_set.specs.Merges.{Collects, IsGathered, LosesNone, MakesLive}
 use Rattle.index_opening.specs.Evidence.{IsEvidentIn}
 use Rattle.segment_set.proofs.Faulted.{begun_cause, begun_damage, begun_memory}
@@ -184,6 +185,11 @@ returns-clause-faithful g c =
     faithful_looked g.row.D g.F.Pages.told (g.F.Pages.files c.args.folder.now) (g.F.Pages.files c.gathered.new.folder) (set_of c.self.inside) c.args.self.now
     (ids_of (parts_among c.as_slice-2.result.now c.self.inside.segments)) (Some (merge_of g c)) c.self.inside.cache c.self.view_is
     (record { files = c.gathered.ensures.files; agrees = λ told agrees. agrees; others = λ id keeps. inl keeps })
+    (λ told heads b is.
+    subst (λ (m : BegunMerge). KeepsNumbers g.row.D (g.F.Pages.files c.args.folder.now) (parts_among m.inputs c.self.inside.segments) m.built)
+    (some_is (merge_of g c) b is)
+    (subst (λ (ns : List ℕ). LosesNone g.row.D (IsTrue g.F.Pages.told) (g.F.Pages.files c.args.folder.now) ns c.self.inside.segments c.in_ok-built.built)
+    c.as_slice-2.ensures.value c.in_ok-built.ensures.loses told heads))
 
 pub returns-in_err-built-clause-files : goal.returns-in_err-built-clause-files
 returns-in_err-built-clause-files g c = c.gathered.ensures.files

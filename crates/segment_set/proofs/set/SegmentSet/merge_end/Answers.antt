@@ -1,4 +1,4 @@
-use Rattle.std.proofs.Common.{◌≡◌, ℕ, true, IsTrue, List, Option, sym, ap, subst, ◌∙◌, lit<, None, refl}
+use Rattle.std.proofs.Common.{◌≡◌, ℕ, true, IsTrue, List, Option, sym, ap, subst, ◌∙◌, inl, lit<, None, refl}
 use Rattle.std.specs.Prelude.{All}
 use Rattle.std.proofs.lemmas.List.Elements.{All-contains}
 use Rattle.std.proofs.lemmas.Result.{err_from_is_err_and}
@@ -13,8 +13,10 @@ use Rattle.segment_set.specs.Kept.{AreCanonical, Follows, KeepsNamed, StaysAlone
 use Rattle.segment_set.specs.Merged.{IsEnded}
 use Rattle.segment_set.specs.Merges.{Replaces, living}
 use Rattle.segment_set.specs.Faithful.{IsFaithful}
-use Rattle.segment_set.proofs.Carried.{canon_named, follows_none, keeps_none}
-use Rattle.segment_set.proofs.Ended.{end_canon, end_follows, end_parts, end_seen, end_stays, end_well}
+use Rattle.segment_set.proofs.Shows.{rewrites_none}
+use Rattle.segment_set.specs.Losing.{IsLossless}
+use Rattle.segment_set.proofs.Lossless.{lossless_same}
+use Rattle.segment_set.proofs.Ended.{end_canon, end_follows, end_loses, end_parts, end_seen, end_stays, end_well}
 use Rattle.segment_set.proofs.Faulted.{ended_cause}
 use Rattle.segment_set.proofs.Moved.{moved}
 use Rattle.segment_set.proofs.Sizes.{built_fits}
@@ -86,13 +88,7 @@ invariant_of-self g c =
     (sym c.in_err-replace.ensures.refused) (refused g c).well
 
 pub returns-in_default-clause-rewrites : goal.returns-in_default-clause-rewrites
-returns-in_default-clause-rewrites g c = record {
-  kept = keeps_none (IsTrue g.F.Pages.told) c.args.self.now.names (g.F.Pages.files c.args.folder.now);
-  follows = follows_none c.args.self.now.names c.args.self.now.parts;
-  canon = λ told. canon_named g.row.D (g.F.Pages.files c.args.folder.now) c.args.self.now.names c.args.self.now.parts
-      (subst (λ (s : SetData). All (IsNamed s.names) s.parts) c.self.view_is c.self.invariant.named);
-  faithful = λ told faithful. faithful;
-}
+returns-in_default-clause-rewrites g c = rewrites_none _ _ _ _ (subst (λ (s : SetData). All (IsNamed s.names) s.parts) c.self.view_is c.self.invariant.named)
 
 pub returns-in_err-replace-clause-refused : goal.returns-in_err-replace-clause-refused
 returns-in_err-replace-clause-refused g c = λ told i seen.
@@ -160,8 +156,12 @@ returns-in_err-replace-clause-rewrites g c = record {
   faithful = λ told faithful.
       faithful_named g.row.D (g.F.Pages.files c.args.folder.now) (g.F.Pages.files c.replace.new.folder) (set_of c.self.inside)
       (moved (set_of c.self.inside) c.replace.new.names c.replace.new.segments c.self.inside.buffer.items c.self.inside.begun c.self.inside.cache)
-      c.self.invariant (c.in_err-replace.ensures.kept.files told) c.in_err-replace.ensures.refused refl refl
+      c.self.invariant (c.in_err-replace.ensures.kept.files told) c.in_err-replace.ensures.refused (inl refl) refl refl
       (subst (IsFaithful g.row.D (g.F.Pages.files c.args.folder.now)) (sym c.self.view_is) faithful);
+  loses = λ told well faithful. lossless_same g.row.D (g.F.Pages.files c.args.folder.now) c.args.self.now c.args.self.now
+      (moved (set_of c.self.inside) c.replace.new.names c.replace.new.segments c.self.inside.buffer.items c.self.inside.begun c.self.inside.cache)
+      (c.in_err-replace.ensures.refused ∙ ap (λ (s : SetData). s.parts) c.self.view_is) (ap (λ (s : SetData). s.buffer) c.self.view_is)
+      (λ number live. inl live);
 }
 
 pub returns-clause-rewrites : goal.returns-clause-rewrites
@@ -182,8 +182,13 @@ returns-clause-rewrites g c = record {
       (end_follows g.row.D (IsTrue g.F.Pages.told) (g.F.Pages.files c.args.folder.now) (g.F.Pages.files c.replace.new.folder) {s = set_of c.self.inside}
       c.replace.new.names c.replace.new.segments c.in_ok-replace.ensures.kept c.in-Some.begun c.in-Some.is (replaced g c) c.self.invariant)
       (end_canon g.row.D (IsTrue g.F.Pages.told) (g.F.Pages.files c.args.folder.now) (g.F.Pages.files c.replace.new.folder) {s = set_of c.self.inside}
-      c.replace.new.names c.replace.new.segments c.in_ok-replace.ensures.kept c.in-Some.begun c.in-Some.is (replaced g c) c.self.invariant) refl refl told
+      c.replace.new.names c.replace.new.segments c.in_ok-replace.ensures.kept c.in-Some.begun c.in-Some.is (replaced g c) c.self.invariant) refl refl refl told
       (subst (IsFaithful g.row.D (g.F.Pages.files c.args.folder.now)) (sym c.self.view_is) faithful);
+  loses = λ told well faithful. subst (λ (s : SetData). IsLossless g.row.D (g.F.Pages.files c.args.folder.now) s
+      (moved (set_of c.self.inside) c.replace.new.names c.replace.new.segments c.self.inside.buffer.items None c.self.inside.cache)) c.self.view_is
+      (end_loses g.row.D (IsTrue g.F.Pages.told) (g.F.Pages.files c.args.folder.now) (g.F.Pages.files c.replace.new.folder) {s = set_of c.self.inside}
+      c.replace.new.names c.replace.new.segments c.in_ok-replace.ensures.kept c.in-Some.begun c.in-Some.is (replaced g c) c.self.invariant
+      ((subst (IsFaithful g.row.D (g.F.Pages.files c.args.folder.now)) (sym c.self.view_is) faithful).begun c.in-Some.begun c.in-Some.is));
 }
 
 pub returns-in_err-replace-clause-rest : goal.returns-in_err-replace-clause-rest

@@ -30,7 +30,7 @@ loop-ids-init g c = record {
 pub loop-ids-preserved : goal.loop-ids-preserved
 loop-ids-preserved g c = record {
   moves = λ well. rearranges_then g.row.D (IsTrue g.F.Pages.told) (g.F.Pages.files c.args.folder.now) (g.F.Pages.files c.loop-ids.folder)
-      (g.F.Pages.files c.merge.new.folder) c.args.self.now c.loop-ids.self c.merge.new.self c.next_merge.ensures.well.named
+      (g.F.Pages.files c.merge.new.folder) c.args.self.now c.loop-ids.self c.merge.new.self c.next_merge.ensures.well
       (c.loop-ids.invariant.moves c.next_merge.ensures.well) c.merge.ensures.moves;
   entries = entries_then g.row.D (IsTrue g.F.Pages.told) (g.F.Pages.files c.args.folder.now) (g.F.Pages.files c.loop-ids.folder)
       (g.F.Pages.files c.merge.new.folder) c.args.self.now c.loop-ids.self c.merge.new.self c.loop-ids.invariant.entries c.merge.ensures.entries;
@@ -111,7 +111,7 @@ returns-clause-cause g c =
 pub returns-in_err-merge-clause-moves : goal.returns-in_err-merge-clause-moves
 returns-in_err-merge-clause-moves g c =
     rearranges_then g.row.D (IsTrue g.F.Pages.told) (g.F.Pages.files c.args.folder.now) (g.F.Pages.files c.loop-ids.folder)
-    (g.F.Pages.files c.merge.new.folder) c.args.self.now c.loop-ids.self c.merge.new.self c.next_merge.ensures.well.named
+    (g.F.Pages.files c.merge.new.folder) c.args.self.now c.loop-ids.self c.merge.new.self c.next_merge.ensures.well
     (c.loop-ids.invariant.moves c.next_merge.ensures.well) c.merge.ensures.moves
 
 pub returns-in_err-merge-clause-buffer : goal.returns-in_err-merge-clause-buffer

@@ -92,7 +92,8 @@ returns-in_err-remove-clause-faithful g c = λ told keeps.
     faithful_swept g.row.D c.args.self.now _ c.args.c.now c.args.name.now files (g.F.Pages.files c.remove.new.self) c.requires.unneeded c.forget.ensures.gone
     (c.in_err-remove.ensures.others told)
     (c.forget.ensures.agrees files (subst (λ (u : SetData). Agrees files u.cache) (sym c.self.view_is) keeps.pages))
-    (ap (λ (u : SetData). u.parts) c.self.view_is) (ap (λ (u : SetData). u.snapshots) c.self.view_is) keeps
+    (ap (λ (u : SetData). u.parts) c.self.view_is) (ap (λ (u : SetData). u.snapshots) c.self.view_is)
+    (ap (λ (u : SetData). u.begun) c.self.view_is) keeps
 
 pub returns-clause-faithful : goal.returns-clause-faithful
 returns-clause-faithful g c = λ told keeps.
@@ -100,4 +101,5 @@ returns-clause-faithful g c = λ told keeps.
     faithful_swept g.row.D c.args.self.now _ c.args.c.now c.args.name.now files (g.F.Pages.files c.remove.new.self) c.requires.unneeded c.forget.ensures.gone
     (c.in_ok-remove.ensures.others told)
     (c.forget.ensures.agrees files (subst (λ (u : SetData). Agrees files u.cache) (sym c.self.view_is) keeps.pages))
-    (ap (λ (u : SetData). u.parts) c.self.view_is) (ap (λ (u : SetData). u.snapshots) c.self.view_is) keeps
+    (ap (λ (u : SetData). u.parts) c.self.view_is) (ap (λ (u : SetData). u.snapshots) c.self.view_is)
+    (ap (λ (u : SetData). u.begun) c.self.view_is) keeps

@@ -49,7 +49,7 @@ returns-clause-seen g c files i seen = subst (λ (s : SetData). Sees g.row.D fil
 
 pub returns-clause-faithful : goal.returns-clause-faithful
 returns-clause-faithful g c files keeps =
-    subst (IsFaithful g.row.D files) (sym (whole g c)) (record { pages = keeps.pages; heads = keeps.heads; kept = keeps.kept })
+    subst (IsFaithful g.row.D files) (sym (whole g c)) (record { pages = keeps.pages; heads = keeps.heads; kept = keeps.kept; begun = keeps.begun })
 
 pub returns-clause-kept : goal.returns-clause-kept
 returns-clause-kept g c = whole g c

@@ -18,6 +18,7 @@ use Rattle.segment_set.specs.Sets.{BegunMerge, pins_of, sizes_of}
 use Rattle.segment_set.specs.Kept.{Follows, IsCommitOf}
 use Rattle.segment_set.specs.Saved.{AreCovering, IsLastOrFresh, IsLastOrNext, IsSaved, KeepsLine, StaysButSaved}
 use Rattle.segment_set.proofs.Carried.{keeps_then, stays_then}
+use Rattle.segment_set.proofs.Lossless.{lossless_same}
 use Rattle.segment_set.proofs.Covered.{IsListedAs, all_listed, covering_after}
 use Rattle.segment_set.proofs.Saving.{all_fresh, all_kept, all_next, all_written, canon_saved, cause_after, if_ok_both}
 use Rattle.segment_set.proofs.Saving.{no_damage, ok_always, sees_saved, stays_saved, well_saved}
@@ -92,6 +93,7 @@ returns-in_err-flush-clause-rewrites g c = record {
   follows = c.in_err-flush.ensures.moves.follows;
   canon = c.in_err-flush.ensures.moves.canon;
   faithful = λ told keeps. c.in_err-flush.ensures.faithful told keeps;
+  loses = λ told well keeps. c.in_err-flush.ensures.moves.loses told well keeps.heads;
 }
 
 pub returns-in_err-flush-clause-damaged : goal.returns-in_err-flush-clause-damaged
@@ -160,6 +162,8 @@ returns-clause-rewrites g c = record {
       (g.F.Pages.files c.list_segments.new.folder) c.flush.new.self c.list_segments.new.self told c.list_segments.ensures.well c.list_segments.ensures.kept
       c.in_ok-flush.ensures.moves.kept.more c.list_segments.ensures.rest (c.in_ok-flush.ensures.moves.canon told);
   faithful = λ told keeps. c.list_segments.ensures.faithful told (c.in_ok-flush.ensures.faithful told keeps);
+  loses = λ told well keeps. lossless_same g.row.D (g.F.Pages.files c.args.folder.now) c.args.self.now c.flush.new.self c.list_segments.new.self
+      c.list_segments.ensures.rest.parts c.list_segments.ensures.rest.buffer (c.in_ok-flush.ensures.moves.loses told well keeps.heads);
 }
 
 pub returns-clause-damaged : goal.returns-clause-damaged
