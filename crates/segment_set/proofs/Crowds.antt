@@ -10,12 +10,8 @@ use Rattle.outer_io.specs.Files.{Files, bytes_of}
 use Rattle.point_codec.specs.Points.{Item}
 use Rattle.leaf_codec.specs.LeafOrder.{same_item}
 use Rattle.live_bits.specs.LiveSet.{LiveSet, is_live}
-use Rattle.inner_pack.specs.Places.{front}
-use Rattle.inner_pack.specs.Trees.{IndexTree}
-use Rattle.inner_pack.proofs.OneTree.{one_index}
 use Rattle.segment_file.specs.Heads.{Head}
-use Rattle.segment_file.specs.Segments.{HoldsTree, IsSegment}
-use Rattle.segment_file.proofs.Unique.{tree_once}
+use Rattle.segment_file.specs.Segments.{IsSegment}
 use Rattle.documents.proofs.Lists.{cons_head, cons_tail, of_filter}
 use Rattle.documents.specs.Entries.{is_among}
 use Rattle.stored_index.specs.Segments.{places}

@@ -1,12 +1,12 @@
 -- A live number of segments that are merged is that of an entry, or no entry of its segment has it.
 use Rattle.std.proofs.Common.{◌≡◌, ℕ, ◌++◌, Bool, true, false, ◌&&◌, ◌||◌, ◌⊎◌, eqb, List, [], ◌∷◌, Option, refl, sym, ap, ◌∙◌, inl, inr}
-use Rattle.std.specs.List.{All, list_any}
+use Rattle.std.specs.List.{All}
 use Rattle.std.proofs.Math.Logic.{∥∥₁_map}
 use Rattle.std.proofs.lemmas.Bool.{both_ways}
 use Rattle.std.proofs.lemmas.List.Folds.{list_any-append}
 use Rattle.outer_io.specs.Files.{Files}
 use Rattle.point_codec.specs.Points.{Item}
-use Rattle.live_bits.specs.LiveSet.{LiveSet, is_live}
+use Rattle.live_bits.specs.LiveSet.{is_live}
 use Rattle.documents.proofs.Lists.{cons_head, cons_tail}
 use Rattle.documents.specs.Entries.{has_entry}
 use Rattle.segment_view.specs.LiveSegments.{LiveSegment, has_live, parts_among}

@@ -5,7 +5,6 @@ use Rattle.std.proofs.Math.Logic.{∥∥₁_map}
 use Rattle.std.specs.List.{Contains, list_any, sum_by}
 use Rattle.std.proofs.lemmas.Bool.{both_ways}
 use Rattle.std.proofs.lemmas.List.Folds.{list_any-append}
-use Rattle.outer_io.specs.declared.file_name.FileName.{FileName}
 use Rattle.outer_io.specs.declared.file_name.FileName.TheVariants.{Segment}
 use Rattle.outer_io.specs.Files.{Files, bytes_of}
 use Rattle.point_codec.specs.Points.{Item}
@@ -17,7 +16,7 @@ use Rattle.segment_file.specs.Heads.{Head}
 use Rattle.segment_file.specs.Segments.{IsSegment}
 use Rattle.segment_view.specs.LiveSegments.{LiveSegment, has_live, parts_among}
 use Rattle.segment_build.specs.NewSegments.{NewSegmentData}
-use Rattle.file_names.specs.Names.{NameList, is_named}
+use Rattle.file_names.specs.Names.{NameList}
 use Rattle.segment_set.specs.Sets.{BegunMerge, SetData, is_live_in, set_with}
 use Rattle.segment_set.specs.Kept.{AreCanonical, Follows}
 use Rattle.segment_set.specs.Losing.{HasNoEntry, IsLossless, KeepsNumbers, is_built_live}

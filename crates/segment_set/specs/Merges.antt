@@ -1,5 +1,5 @@
 -- What is built of entries, and how it takes the place of segments.
-use Rattle.std.specs.Prelude.{◌≡◌, ◌≤◌, ◌⊎◌, ℕ, Bool, true, false, List, [], ◌∷◌, length, filter, All, Contains}
+use Rattle.std.specs.Prelude.{◌≡◌, ◌≤◌, ℕ, true, false, List, [], ◌∷◌, length, filter, All}
 use Rattle.std.specs.Prelude.{Option, None, Some}
 use Rattle.outer_io.specs.declared.file_name.FileName.TheVariants.{Segment}
 use Rattle.outer_io.specs.Files.{Files, bytes_of}
