@@ -77,4 +77,5 @@ begun_without D files number s keeps c is = by s.begun refl is
     by None e h = cc
     by (Some b) e h =
         let same : record b { built = built_but number b.built } ≡ c = cc in
-        subst (λ (x : BegunMerge). KeepsNumbers D files (parts_among x.inputs (cleared_parts number s.parts)) x.built) same (without b.inputs b.built (keeps b e))
+        subst (λ (x : BegunMerge). KeepsNumbers D files (parts_among x.inputs (cleared_parts number s.parts)) x.built) same
+        (without b.inputs b.built (keeps b e))

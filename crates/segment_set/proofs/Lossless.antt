@@ -1,6 +1,6 @@
 -- No document is lost by merges and flushes, one after another, whatever the files hold.
-use Rattle.std.proofs.Common.{◌≡◌, ℕ, ◌≤◌, ◌++◌, ◌||◌, ℤ, Bool, true, false, cond, eqb, List, [], Option, None, Some, refl, sym, ap, subst, ◌∙◌, ◌⊎◌, inl, inr, ⊎_elim, arith}
-use Rattle.std.proofs.Common.{zero, suc}
+use Rattle.std.proofs.Common.{◌≡◌, ℕ, zero, suc, ◌≤◌, ◌++◌, ◌||◌, ℤ, Bool, true, false, cond, eqb, List, [], Option, None, Some, refl, sym, ap, subst}
+use Rattle.std.proofs.Common.{◌∙◌, ◌⊎◌, inl, inr, ⊎_elim, arith}
 use Rattle.std.proofs.Math.Logic.{∥∥₁_map}
 use Rattle.std.specs.List.{Contains, list_any, sum_by}
 use Rattle.std.proofs.lemmas.Bool.{both_ways}
