@@ -1,7 +1,7 @@
 -- What is left of a set by calls that may arrange its segments anew.
 use Rattle.std.proofs.lemmas.Bool.{both_ways}
 use Rattle.script_lang.specs.Requests.{Request}
-use Rattle.std.proofs.Common.{◌≡◌, ℕ, Bool, false, List, [], Option, Result, Ok, Err, OnOk, OnErr, inl, refl, sym, ap, subst, ◌∙◌}
+use Rattle.std.proofs.Common.{◌≡◌, ◌≤◌, ◌+◌, ℕ, Bool, true, false, length, [], Option, Result, Ok, Err, OnOk, OnErr, inl, refl, sym, ap, subst, ◌∙◌}
 use Rattle.outer_io.specs.Files.{Files}
 use Rattle.commit_list.specs.Commits.{CommitData}
 use Rattle.page_cache.specs.declared.faults.PageFault.{PageFault}
@@ -15,16 +15,19 @@ use Rattle.segment_set.specs.declared.faults.EndFault.{EndFault}
 use Rattle.segment_set.specs.declared.faults.EndFault.TheVariants as end
 use Rattle.segment_set.specs.declared.faults.SnapFault.{SnapFault}
 use Rattle.segment_set.specs.declared.faults.SnapFault.TheVariants as snap
-use Rattle.segment_set.specs.Sets.{NamedView, SetData}
+use Rattle.segment_set.specs.Sets.{SetData}
 use Rattle.segment_set.specs.Kept.{IsAsBefore, StaysButCache, StaysButFiles}
 use Rattle.segment_set.specs.Saved.{StaysButSaved}
 use Rattle.segment_set.specs.Settles.{Flushes, IsLeft, Settles, SetMoment, moment}
 use Rattle.index_core.specs.Sessions.{IsStill, SessionData}
 use Rattle.index_core.specs.Effects.{KeepsStill, OnDone, OnRefused}
 use Rattle.index_core.specs.Costs.{ReadsAtMost}
-use Rattle.index_core.specs.Light.{IsBarred, is_light}
+use Rattle.index_core.specs.Light.{IsBarred, StaysLight, is_light, points_in}
 use Rattle.index_core.specs.Calls.{Spares}
-use Rattle.index_core.specs.Arranged.{FaultLeaves, IsArranged, StaysButSnapshots}
+use Rattle.index_core.specs.Lasting.{LastsBut}
+use Rattle.segment_set.specs.Faithful.{IsFaithful}
+use Rattle.index_core.specs.Arranged.{FaultLeaves, IsArranged}
+use Rattle.index_core.proofs.Lightly.{refused_any}
 use Rattle.index_core.specs.Replies.{add_answer, begin_answer, end_answer, snap_answer}
 
 -- ---- the set
@@ -200,20 +203,32 @@ undone_any P r fault is = subst (λ q. OnDone q P) (sym is) tt
 pub spares_heavy : (D : ℕ) (told : Type 0) (r : Request) (old new : Files) (s t : SessionData) (before now : ℕ) (result : Result Applied PageFault)
     → is_light r ≡ false → (IsBarred r s.set → ⊥) → ReadsAtMost D told r old s before now → OnRefused result (now ≡ before)
     → KeepsStill told r old new s t result → OnErr result (FaultLeaves D told r old new s.set t.set)
-    → Spares D told r old new s t before now result
-spares_heavy D told r old new s t before now result heavy bars reads unread still left = record {
+    → (told → IsFaithful D old s.set → LastsBut D r old new s.set t.set) → Spares D told r old new s t before now result
+spares_heavy D told r old new s t before now result heavy bars reads unread still left lasts = record {
   reads = reads;
   unread = unread;
   still = still;
   light = λ light room. absurd (both_ways (is_light r) heavy light);
   barred = λ bad. absurd (bars bad);
   left = left;
+  lasts = lasts;
 }
 
--- ---- snapshots
-
-pub but_snapshots : (s t : SetData) (views : List NamedView) → t ≡ record s { snapshots = views } → StaysButSnapshots s t
-but_snapshots s t views is = record { is = is ∙ (λ i. record s { snapshots = sym (ap (λ (u : SetData). u.snapshots) is) i }) }
+-- one that neither reads nor writes
+pub spares_quiet : (D : ℕ) (told : Type 0) (r : Request) (files : Files) (s t : SessionData) (before : ℕ) (result : Result Applied PageFault)
+    → ReadsAtMost D told r files s before before → (IsBarred r s.set → ⊥) → KeepsStill told r files files s t result
+    → (is_light r ≡ true → length s.set.buffer + points_in r ≤ 16384 → StaysLight told (points_in r) files files s t)
+    → OnErr result (FaultLeaves D told r files files s.set t.set) → (told → IsFaithful D files s.set → LastsBut D r files files s.set t.set)
+    → Spares D told r files files s t before before result
+spares_quiet D told r files s t before result reads bars still light left lasts = record {
+  reads = reads;
+  unread = refused_any (before ≡ before) result refl;
+  still = still;
+  light = light;
+  barred = λ bad. absurd (bars bad);
+  left = left;
+  lasts = lasts;
+}
 
 -- the session with this set
 abbrev pub with_set : Option CommitData → Bool → SetData → SessionData

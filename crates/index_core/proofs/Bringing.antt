@@ -45,7 +45,7 @@ pub brings_written : (D : ℕ) (told : Type 0) (f g : Files) (m n : NameList) (s
 brings_written D told f g m n s t is_told keeps follows canon p there = by (is_named m.names (Segment p.head.id)) refl
   where
     by : (b : Bool) → is_named m.names (Segment p.head.id) ≡ b → IsOfBefore f g s p ⊎ HasCanonical D g p.head
-    by false fresh = inr (canon p there fresh)
+    by false fresh = inr (canon p there fresh).canon
     by true named = ⊎_elim
         (λ fresh. absurd (both_ways (is_named m.names (Segment p.head.id)) fresh named))
         (λ (q, here, head, within). inl (record { part = q; was = here; head = sym head; file = keeps.files is_told (Segment p.head.id) named }))

@@ -126,6 +126,12 @@ kept_after_calls D told f g s names is_told keeps guards = ⊎_elim
     (λ h. kept_named f g (is_named s.names.names) (keeps.commit is_told) (λ c says. names_listed D f s c (inr h) says) (keeps.files is_told))
     guards
 
+-- by a call on the set of the session that the code opened
+pub kept_opened : (D : ℕ) (told : Type 0) (f g : Files) (s u : SessionData) (names : NameList) → u ≡ s → KeepsNamed told u.set.names names f g → told
+    → Guards D f s → SameKept f g
+kept_opened D told f g s u names opened keeps is_told guards =
+    kept_after_calls D told f g u.set names is_told keeps (subst (Guards D f) (sym opened) guards).set
+
 -- ---- what the last commit lists
 
 -- its lines cover the segments of now, where none was refused since; else there are none
@@ -142,6 +148,11 @@ covered D f s lines are guards = subst (λ (ls : List Listed). AreCovering f ls 
       );
       covers = (last refl).covers;
     }
+
+-- of the session that the code opened
+pub covered_opened : (D : ℕ) (f : Files) (s u : SessionData) (lines : List Listed) → u ≡ s → lines ≡ last_lines u.refused u.commit → Guards D f s
+    → AreCovering f lines u.set
+covered_opened D f s u lines opened are guards = covered D f u lines are (subst (Guards D f) (sym opened) guards)
 
 -- ---- a commit that lists the segments of now
 

@@ -23,3 +23,4 @@ pub mod Closing
 pub mod Brought
 pub mod Owned
 pub mod Arranging
+pub mod Lasting

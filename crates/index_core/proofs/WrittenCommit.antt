@@ -17,6 +17,7 @@ use Rattle.segment_view.specs.LiveSegments.{LiveSegment}
 use Rattle.segment_set.specs.Sets.{IsWell, NamedView, SetData}
 use Rattle.segment_set.specs.Seen.{Sees}
 use Rattle.segment_set.specs.Faithful.{HasFileHead, IsFaithful}
+use Rattle.segment_set.proofs.BegunKept.{begun_alike}
 use Rattle.segment_set.proofs.Standing.{stands_alike}
 use Rattle.index_core.specs.Sessions.{SessionData}
 use Rattle.index_core.proofs.Guarding.{listed_still}
@@ -60,6 +61,7 @@ faithful_written D f g s others faithful = record {
   heads = heads_written D f g s.parts others faithful.heads;
   kept = All-weaker (λ (v : NamedView). All (HasFileHead D f) v.parts) (λ (v : NamedView). All (HasFileHead D g) v.parts)
       (λ v has. heads_written D f g v.parts others has) s.snapshots faithful.kept;
+  begun = begun_alike D f g s s refl (λ b was. refl) (λ p there. others (Segment p.head.id) (λ e. cc) (λ e. cc)) faithful.begun;
 }
 
 -- of the session that the code opened

@@ -7,11 +7,14 @@ use Rattle.commit_list.specs.declared.listed.Listed.{Listed}
 use Rattle.commit_list.specs.Commits.{CommitData}
 use Rattle.commit_list.specs.CommitFiles.{IsCommitFile}
 use Rattle.segment_file.specs.Heads.{Head}
+use Rattle.segment_view.specs.LiveSegments.{LiveSegment}
 use Rattle.segment_file.specs.LiveFiles.{IsLiveFile}
 use Rattle.stored_index.specs.Kept.{SameKept}
 use Rattle.segment_set.specs.Sets.{SetData}
 use Rattle.segment_set.specs.Kept.{HasCanonical, IsAsCommitted}
 use Rattle.segment_set.specs.Settles.{Flushes, SetMoment, moment}
+use Rattle.segment_set.specs.Losing.{IsLossless}
+use Rattle.segment_set.specs.Faithful.{IsFaithful}
 
 -- the commit of before listed the segment too, and its file is as it was
 pub record WasListed (old new : Files) (l : Listed) : Type 0 where
@@ -57,14 +60,24 @@ pub record BringsCommit (old new : Files) : Type 0 where
 abbrev pub KeepsCommit : Files → Files → Type 0
 KeepsCommit old new = SameKept old new ⊎ BringsCommit old new
 
+-- the commit lists the segment, with a file of live bits that holds just the numbers that are live in it
+pub record IsListedLive (files : Files) (c : CommitData) (p : LiveSegment) : Type 0 where
+  pub listed : Listed
+  pub there : Contains c.listed listed
+  pub is : listed.segment ≡ p.head.id
+  pub file : IsLiveFile listed.segment listed.generation
+      (bytes_of (files (Live listed.segment listed.generation))) p.live
+
 -- The commit is that of the set once it is flushed: choices of the policy were merged, each whole, and the buffer went
--- to a segment; all else is listed as it was.
-pub record IsCommitAfter (D : ℕ) (told : Type 0) (files : Files) (s : SetData) (c : CommitData) : Type 0 where
+-- to a segment; all else is listed as it was, and with what is live. No document is lost by that.
+pub record IsCommitAfter (D : ℕ) (told : Type 0) (files new : Files) (s : SetData) (c : CommitData) : Type 0 where
   pub flushed : SetMoment
   pub flushes : Flushes D told (moment files s) flushed
   pub is : IsAsCommitted flushed.set c
+  pub lives : (p : LiveSegment) → Contains flushed.set.parts p → IsListedLive new c p
+  pub loses : IsFaithful D files s → IsLossless D files s flushed.set
 
 -- what is kept is the same, or the commit of this set has taken its place
 abbrev pub KeepsOwn : (D : ℕ) (told : Type 0) → (old new : Files) → SetData → Type 0
 KeepsOwn D told old new s =
-    SameKept old new ⊎ ((c : CommitData) × IsCommitFile (bytes_of (new Commit)) c × IsCommitAfter D told old s c)
+    SameKept old new ⊎ ((c : CommitData) × IsCommitFile (bytes_of (new Commit)) c × IsCommitAfter D told old new s c)

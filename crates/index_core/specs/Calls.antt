@@ -20,6 +20,7 @@ use Rattle.segment_set.specs.Seen.{Sees}
 use Rattle.segment_set.specs.Faithful.{IsFaithful}
 use Rattle.segment_set.specs.Kept.{IsNeeded}
 use Rattle.index_core.specs.Arranged.{FaultLeaves}
+use Rattle.index_core.specs.Lasting.{Lasts, LastsBut}
 use Rattle.index_core.specs.Brought.{KeepsCommit, KeepsOwn}
 use Rattle.index_core.specs.Closed.{IsTracked, NamesOnlyListed}
 use Rattle.index_core.specs.Costs.{ReadsAtMost}
@@ -30,7 +31,7 @@ use Rattle.index_core.specs.Steps.{KeepsOver, KeepsUndone, Stores}
 
 -- The last commit is kept, or the one in flight: once it is done the Commit file says it, and what is seen is stored.
 -- After a damage all that is kept is as it was. Whatever the files hold, a new commit is that of the session's set, and
--- each file that it lists is whole.
+-- each file that it lists is whole. No document goes.
 pub record IsDurable {T : Type 0} (D : ℕ) (told : Type 0) (old new : Files) (s t : SessionData)
     (result : Result T PageFault) : Type 0 where
   pub kept : told → Guards D old s → KeepsOver true old new t result
@@ -38,6 +39,7 @@ pub record IsDurable {T : Type 0} (D : ℕ) (told : Type 0) (old new : Files) (s
   pub undone : told → Guards D old s → KeepsUndone old new result
   pub own : told → Guards D old s → KeepsOwn D told old new s.set
   pub lasting : told → Trusts D old s → KeepsCommit old new
+  pub lasts : told → IsFaithful D old s.set → Lasts D (λ number. ⊥) old new s.set t.set
 
 -- A done commit: nothing is changed since, and the list of names has each file that came. Where something was changed
 -- it was written anew; with no merge begun it lists few segments of each level.
@@ -92,6 +94,7 @@ pub record SweepsAway {T : Type 0} (told : Type 0) (old new : Files) (s t : Sess
 -- What a request doesn't do. It reads no more than this, and nothing where it is refused. Blank lines, queries and what
 -- is refused leave all but the kept pages; where no segment has to be written the files and segments stay. Where the
 -- set alone says that it is refused there is no fault. A fault leaves the set, but that segments may be arranged anew.
+-- Whatever is answered, no document goes that it doesn't take out.
 pub record Spares (D : ℕ) (told : Type 0) (r : Request) (old new : Files) (s t : SessionData) (before now : ℕ)
     (result : Result Applied PageFault) : Type 0 where
   pub reads : ReadsAtMost D told r old s before now
@@ -101,3 +104,4 @@ pub record Spares (D : ℕ) (told : Type 0) (r : Request) (old new : Files) (s t
       → StaysLight told (points_in r) old new s t
   pub barred : IsBarred r s.set → IsOk result
   pub left : OnErr result (FaultLeaves D told r old new s.set t.set)
+  pub lasts : told → IsFaithful D old s.set → LastsBut D r old new s.set t.set

@@ -1,5 +1,5 @@
--- What done commands on segments leave of a set: the documents stay, and segments, buffer and begun merge are as these
--- say.
+-- What requests leave of a set once they are done, its documents, segments, buffer, snapshots and begun merge, and what
+-- they leave as it is where they are refused.
 use Rattle.std.specs.Prelude.{◌≡◌, ◌≤◌, ◌⊎◌, ℕ, true, false, List, [], length, All, Contains, None, Some, Result, Ok}
 use Rattle.std.specs.Prelude.{Err}
 use Rattle.outer_io.specs.declared.file_name.FileName.{FileName}
@@ -16,14 +16,14 @@ use Rattle.index_model.specs.declared.session.Applied.{Applied}
 use Rattle.index_model.specs.declared.session.Applied.TheVariants as applied
 use Rattle.segment_view.specs.LiveSegments.{Contents, LiveSegment, ids_of}
 use Rattle.file_names.specs.Names.{is_named}
-use Rattle.segment_set.specs.Sets.{BegunMerge, SetData, pins_of, set_but, sizes_of}
+use Rattle.segment_set.specs.Sets.{BegunMerge, SetData, pins_of, set_but, set_released, set_snapped, sizes_of}
 use Rattle.segment_set.specs.Seen.{Sees, StandsOver}
 use Rattle.segment_set.specs.Kept.{AreCanonical, HasCanonical, StaysButMerge}
 use Rattle.segment_set.specs.Merged.{IsEnded, IsTidy, chosen_ids, free_ids, free_parts}
 use Rattle.segment_set.specs.Merges.{Collects}
 use Rattle.segment_set.specs.Settles.{Flushes, MergesParts, moment}
 use Rattle.index_core.specs.Sessions.{IsStill, SessionData}
-use Rattle.index_core.specs.Arranged.{HasAdded, IsArranged, StaysButSnapshots}
+use Rattle.index_core.specs.Arranged.{HasAdded, IsArranged}
 
 -- P holds where the command is done
 abbrev pub OnDone : Result Applied PageFault → Type 0 → Type 0
@@ -112,7 +112,7 @@ Leaves D told asks.Flush files new_files s t = IsFlushed D told files new_files 
 Leaves D told asks.Merge files new_files s t = IsMergedAll D told files new_files s t
 Leaves D told (asks.MergeBegin positions) files new_files s t = HasBegun D told files positions s t
 Leaves D told asks.MergeEnd files new_files s t = HasEnded D told new_files s t
-Leaves D told (asks.Snapshot name) files new_files s t = StaysButSnapshots s t
-Leaves D told (asks.Release name) files new_files s t = StaysButSnapshots s t
+Leaves D told (asks.Snapshot name) files new_files s t = t ≡ set_snapped name s
+Leaves D told (asks.Release name) files new_files s t = t ≡ set_released name s
 Leaves D told asks.Commit files new_files s t = IsArranged D told files s t
 Leaves D told _ files new_files s t = Unit {0}

@@ -1,6 +1,6 @@
 //! Commands that change the documents, the segments or the snapshots.
 
-ghost use Rattle.std.specs.Prelude.{◌≡◌, ◌≤◌, ◌<◌, ◌+◌, ◌^◌, ◌⊎◌, ℕ, false, nat_lt, length, All, IsTrue, IsOk};
+ghost use Rattle.std.specs.Prelude.{◌≡◌, ◌≤◌, ◌<◌, ◌+◌, ◌^◌, ◌⊎◌, ℕ, false, nat_lt, length, IsTrue, IsOk};
 ghost use Rattle.std.specs.Prelude.{OnErr};
 ghost use Rattle.outer_io.specs.Files.{Files};
 ghost use Rattle.script_lang.specs.Requests as asks;
@@ -9,11 +9,13 @@ ghost use Rattle.index_core.specs.Steps.{Applies};
 ghost use Rattle.page_cache.specs.Evidence.{NotDamaged};
 ghost use Rattle.index_core.specs.Costs.{ReadsAtMost};
 ghost use Rattle.index_core.specs.Damages.{ShowsDamage};
-ghost use Rattle.segment_set.specs.Sets.{IsNamed, is_live_in, set_but};
+ghost use Rattle.segment_set.specs.Sets.{IsWell, is_live_in, set_but, set_released, set_snapped};
+ghost use Rattle.segment_set.specs.Faithful.{IsFaithful};
+ghost use Rattle.index_core.specs.Lasting.{Lasts};
 ghost use Rattle.segment_set.specs.Kept.{StaysButCache};
 ghost use Rattle.index_core.specs.Sessions.{IsStill};
 ghost use Rattle.index_core.specs.Light.{StaysLight};
-ghost use Rattle.index_core.specs.Arranged.{HasAdded, IsArranged, StaysButSnapshots};
+ghost use Rattle.index_core.specs.Arranged.{HasAdded, IsArranged};
 ghost use Rattle.index_core.specs.Effects.{IsFlushed, KeepsStill, OnDone, OnRefused};
 
 use crate::replies::{add_answer, snap_answer, take_back};
@@ -68,6 +70,8 @@ impl<const D: usize> Session<D> {
         ensures barred { 2 ^ 24 < self.old.set.points_given + length points.now → IsOk result }
         ensures leaves { OnDone result
             (HasAdded D (IsTrue F.told) points.now (F.files folder.old) self.old.set self.new.set) }
+        ensures lasts { IsTrue F.told → IsFaithful D (F.files folder.old) self.old.set
+            → Lasts D (λ number. ⊥) (F.files folder.old) (F.files folder.new) self.old.set self.new.set }
         ensures left { OnErr result (IsArranged D (IsTrue F.told) (F.files folder.old) self.old.set self.new.set) }
     {
         if self.is_full(points) {
@@ -80,7 +84,7 @@ impl<const D: usize> Session<D> {
     /// Whether more points would be given with these than ever may be.
     fn is_full(&self, points: &Points<D>) -> bool
         ensures full { result ≡ nat_lt (2 ^ 24) (self.now.set.points_given + length points.now) }
-        ensures named { All (IsNamed self.now.set.names) self.now.set.parts }
+        ensures well { IsWell D self.now.set }
     {
         let _leaf_size = self.set.leaf_size();
         self.set.points_given() + points.as_slice().len() as u32 > MOST_POINTS
@@ -94,6 +98,7 @@ impl<const D: usize> Session<D> {
         ensures damage { NotDamaged result }
         ensures light { (files : Files) → StaysLight (Unit {0}) 0 files files self.old self.new }
         ensures leaves { OnDone result (self.new.set ≡ set_but doc self.old.set) }
+        ensures lasts { (files : Files) → Lasts D (λ number. number ≡ doc) files files self.old.set self.new.set }
         ensures left { OnErr result
             ((self.new ≡ self.old)
             ⊎ ((is_live_in self.old.set doc ≡ false) × (self.new.set ≡ set_but doc self.old.set))) }
@@ -173,6 +178,8 @@ impl<const D: usize> Session<D> {
             }) result }
         ensures leaves { OnDone result
             (IsFlushed D (IsTrue F.told) (F.files folder.old) (F.files folder.new) self.old.set self.new.set) }
+        ensures lasts { IsTrue F.told → IsFaithful D (F.files folder.old) self.old.set
+            → Lasts D (λ number. ⊥) (F.files folder.old) (F.files folder.new) self.old.set self.new.set }
         ensures left { OnErr result (IsArranged D (IsTrue F.told) (F.files folder.old) self.old.set self.new.set) }
         ensures reads { ReadsAtMost D (IsTrue F.told) asks.Flush (F.files folder.old) self.old (F.reads folder.old)
             (F.reads folder.new) }
@@ -201,7 +208,7 @@ impl<const D: usize> Session<D> {
         ensures damage { NotDamaged result }
         ensures light { (files : Files) → StaysLight (Unit {0}) 0 files files self.old self.new }
         ensures still { (files : Files) → OnRefused result (IsStill (Unit {0}) files files self.old self.new) }
-        ensures leaves { OnDone result (StaysButSnapshots self.old.set self.new.set) }
+        ensures leaves { OnDone result (self.new.set ≡ set_snapped name.now self.old.set) }
         ensures left { OnErr result (self.new ≡ self.old) }
     {
         let before = out.len();
@@ -220,7 +227,7 @@ impl<const D: usize> Session<D> {
         ensures damage { NotDamaged result }
         ensures light { (files : Files) → StaysLight (Unit {0}) 0 files files self.old self.new }
         ensures still { (files : Files) → OnRefused result (IsStill (Unit {0}) files files self.old self.new) }
-        ensures leaves { OnDone result (StaysButSnapshots self.old.set self.new.set) }
+        ensures leaves { OnDone result (self.new.set ≡ set_released name.now self.old.set) }
         ensures left { OnErr result (self.new ≡ self.old) }
     {
         if !self.set.has_snapshot(name) {

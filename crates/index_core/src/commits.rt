@@ -1,6 +1,6 @@
 //! Commits, and sessions anew over one.
 
-ghost use Rattle.std.specs.Prelude.{◌≡◌, ◌↔◌, ◌⊎◌, [], None, Some, true, false, All, IsTrue, IsSome, IsOk};
+ghost use Rattle.std.specs.Prelude.{◌≡◌, ◌↔◌, ◌⊎◌, [], None, Some, true, false, IsTrue, IsSome, IsOk};
 ghost use Rattle.std.specs.Prelude.{OnOk};
 ghost use Rattle.std.specs.List.{AllZip};
 ghost use Rattle.outer_io.specs.Files.{Files, SameButTwo, bytes_of};
@@ -15,10 +15,11 @@ ghost use Rattle.stored_index.specs.Stored.{IsStored};
 ghost use Rattle.stored_index.specs.Kept.{ListsFile, SameKept};
 ghost use Rattle.segment_set.specs.Seen.{Sees};
 ghost use Rattle.segment_set.specs.Faithful.{IsFaithful};
-ghost use Rattle.segment_set.specs.Sets.{IsNamed, IsSettled};
+ghost use Rattle.segment_set.specs.Sets.{IsSettled, IsWell};
 ghost use Rattle.segment_set.specs.Kept.{Follows, IsCommitOf, StaysButFiles};
 ghost use Rattle.index_core.specs.Sessions.{AreTraced, Guards, GuardsSet, IsSound, IsUnchanged, StaysTrue, last_lines};
 ghost use Rattle.index_core.specs.Arranged.{IsArranged};
+ghost use Rattle.index_core.specs.Lasting.{Lasts};
 ghost use Rattle.index_core.specs.Calls.{HasNoDamage, IsCommitted, IsDurable, ShowsFault, SweepsAway};
 ghost use Rattle.index_core.specs.Closed.{IsSessionClosed, IsIdle};
 ghost use Rattle.index_core.specs.Costs.{ReadsAtMost};
@@ -117,7 +118,7 @@ impl<const D: usize> Session<D> {
     fn is_changed(&self) -> bool
         ensures unchanged { (result ≡ false) ↔ IsUnchanged self.now }
         ensures sound { result ≡ false → IsSound D self.now }
-        ensures named { All (IsNamed self.now.set.names) self.now.set.parts }
+        ensures well { IsWell D self.now.set }
     {
         let _leaf_size = self.set.leaf_size();
         let Some(commit) = &self.commit else {
@@ -238,6 +239,8 @@ impl<const D: usize> Session<D> {
         ensures damage { ShowsDamage D (IsTrue F.told) asks.Commit (F.files folder.old)
             (F.files folder.new) self.old self.new result }
         ensures arranged { IsArranged D (IsTrue F.told) (F.files folder.old) self.old.set self.new.set }
+        ensures lasts { IsTrue F.told → IsFaithful D (F.files folder.old) self.old.set
+            → Lasts D (λ number. ⊥) (F.files folder.old) (F.files folder.new) self.old.set self.new.set }
         ensures unread { OnRefused result (F.reads folder.new ≡ F.reads folder.old) }
     {
         self.commit(rt, alloc, folder, gate)?;

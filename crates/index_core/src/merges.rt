@@ -4,7 +4,9 @@ ghost use Rattle.std.specs.Prelude.{◌≡◌, ◌<◌, ◌+◌, None, false, Is
 ghost use Rattle.script_lang.specs.Requests as asks;
 ghost use Rattle.index_model.specs.Step.{step_on};
 ghost use Rattle.segment_set.specs.Kept.{IsAsBefore, StaysButCache};
-ghost use Rattle.index_core.specs.Arranged.{FaultLeaves};
+ghost use Rattle.segment_set.specs.Faithful.{IsFaithful};
+ghost use Rattle.index_core.specs.Lasting.{Lasts};
+ghost use Rattle.index_core.specs.Arranged.{IsArranged};
 ghost use Rattle.index_core.specs.Steps.{Applies};
 ghost use Rattle.index_core.specs.Costs.{ReadsAtMost};
 ghost use Rattle.index_core.specs.Damages.{ShowsDamage};
@@ -22,7 +24,8 @@ use std::marker::Sync;
 use std::thread::Threads;
 
 impl<const D: usize> Session<D> {
-    /// Merges all segments that no begun merge has as inputs.
+    /// Merges all segments that no begun merge has as inputs. The reply is written first, since what is merged stays
+    /// so.
     pub(crate) fn merge<R: Threads + Sync, F: Folder, G: Gate>(
         &mut self,
         rt: &R,
@@ -46,17 +49,17 @@ impl<const D: usize> Session<D> {
             }) result }
         ensures leaves { OnDone result
             (IsMergedAll D (IsTrue F.told) (F.files folder.old) (F.files folder.new) self.old.set self.new.set) }
+        ensures lasts { IsTrue F.told → IsFaithful D (F.files folder.old) self.old.set
+            → Lasts D (λ number. ⊥) (F.files folder.old) (F.files folder.new) self.old.set self.new.set }
         ensures damage { ShowsDamage D (IsTrue F.told) asks.Merge (F.files folder.old)
             (F.files folder.new) self.old self.new result }
-        ensures left { OnErr result
-            (FaultLeaves D (IsTrue F.told) asks.Merge (F.files folder.old) (F.files folder.new) self.old.set
-            self.new.set) }
+        ensures left { OnErr result (IsArranged D (IsTrue F.told) (F.files folder.old) self.old.set self.new.set) }
         ensures unread { OnRefused result (F.reads folder.new ≡ F.reads folder.old) }
     {
+        put_ok(out)?;
         // its segments are all named
         let _leaf_size = self.set.leaf_size();
         self.set.merge_all(rt, alloc, folder, gate)?;
-        put_ok(out)?;
         Ok(Applied::Done)
     }
 
@@ -85,6 +88,7 @@ impl<const D: usize> Session<D> {
             }) result }
         ensures leaves { OnDone result
             (HasBegun D (IsTrue F.told) (F.files folder.old) which.now self.old.set self.new.set) }
+        ensures files { IsTrue F.told → F.files folder.new ≡ F.files folder.old }
         ensures left { OnErr result (StaysButCache self.old.set self.new.set) }
         ensures damage { ShowsDamage D (IsTrue F.told) (asks.MergeBegin which.now) (F.files folder.old)
             (F.files folder.new) self.old self.new result }
@@ -120,6 +124,8 @@ impl<const D: usize> Session<D> {
               faults = F.faults folder.new;
             }) result }
         ensures leaves { OnDone result (HasEnded D (IsTrue F.told) (F.files folder.new) self.old.set self.new.set) }
+        ensures lasts { IsTrue F.told → IsFaithful D (F.files folder.old) self.old.set
+            → Lasts D (λ number. ⊥) (F.files folder.old) (F.files folder.new) self.old.set self.new.set }
         ensures left { OnErr result (IsAsBefore self.old.set self.new.set) }
         ensures reads { ReadsAtMost D (IsTrue F.told) asks.MergeEnd (F.files folder.old) self.old (F.reads folder.old)
             (F.reads folder.new) }

@@ -132,7 +132,7 @@ impl<const D: usize> Session<D> {
               text = out.new.items;
               faults = F.faults folder.new;
             }) result }
-        // what a done flush, merge, merge begin and merge end leaves of the segments
+        // what a done request leaves of the set, but for a box that deletes and a new opening
         ensures leaves { OnDone result
             (Leaves D (IsTrue F.told) (request_of c.now) (F.files folder.old)
             (F.files folder.new) self.old.set self.new.set) }

@@ -11,7 +11,7 @@ use Rattle.index_core.proofs.FaultCauses.{cause_add, whole_add}
 use Rattle.index_core.proofs.Guarding.{grows_added}
 use Rattle.index_core.proofs.Changing.{does_add, does_full, not_full}
 use Rattle.segment_set.proofs.Sizes.{set_fits}
-use Rattle.segment_set.specs.Sets.{IsNamed}
+use Rattle.segment_set.specs.Sets.{IsNamed, IsWell}
 use Rattle.std.proofs.Common.{lit<}
 use Rattle.index_core.proofs.Bringing.{brings_written}
 use Rattle.std.proofs.Common.{◌≤◌, IsTrue, subst}
@@ -27,6 +27,7 @@ use Rattle.std.proofs.lemmas.Result.{on_ok_weaker}
 use Rattle.index_core.specs.Arranged.{HasAdded, IsArranged}
 use Rattle.index_core.specs.Effects.{OnDone}
 use Rattle.index_core.proofs.Arranging.{add_done, add_left, arranged_left, arranged_same, arranged_seen, on_err_any, undone_any}
+use Rattle.index_core.proofs.Lasting.{lasts_itself, lasts_seen, writes_last}
 use Rattle.index_core.proofs.session.Session.add.Goals as goal
 
 pub returns-then-is_full-clause-applies : goal.returns-then-is_full-clause-applies
@@ -56,7 +57,7 @@ returns-clause-applies g c =
       brings = λ told. brings_written _ _ _ _ _ _ _ _ told c.add.ensures.rewrites.kept c.add.ensures.rewrites.follows (c.add.ensures.rewrites.canon told);
       faithful = c.add.ensures.rewrites.faithful;
     })
-    (subst (λ (u : SessionData). All (IsNamed u.set.names) u.set.parts) (sym c.self.view_is) c.is_full.ensures.named)
+    (subst (λ (u : SessionData). All (IsNamed u.set.names) u.set.parts) (sym c.self.view_is) c.is_full.ensures.well.named)
     (λ told i seen. does_add _ _ _ _ _ i _ c.add.result _ _ seen fits full (c.add.ensures.seen told i seen) (c.add.ensures.refused told i seen)
     (c.in_ok-put_doc.ensures.ok ∙ ap (λ n. c.args.out.now.items ++ doc_text n) c.next.ensures))
     (begins_with _ _ _ c.in_ok-put_doc.ensures.ok)
@@ -179,3 +180,13 @@ returns-clause-leaves g c =
     (add_done _ c.add.result (subst (λ (u : SessionData).
     OnOk c.add.result (HasAdded g.row.D (IsTrue g.F.Pages.told) c.args.points.now (g.F.Pages.files c.args.folder.now) u.set c.add.new.self)) c.self.view_is
     (on_ok_weaker c.add.result (λ added. record { at = added.0; flushes = added.1; is = added.2 }) c.add.ensures.added)))
+
+pub returns-then-is_full-clause-lasts : goal.returns-then-is_full-clause-lasts
+returns-then-is_full-clause-lasts g c told faithful = lasts_itself _ _ _ _
+
+pub returns-in_err-put_doc-clause-lasts : goal.returns-in_err-put_doc-clause-lasts
+returns-in_err-put_doc-clause-lasts g c told faithful = lasts_itself _ _ _ _
+
+pub returns-clause-lasts : goal.returns-clause-lasts
+returns-clause-lasts g c = lasts_seen _ _ _ _ _ _ _ c.self.view_is
+    (writes_last _ _ _ _ _ _ (subst (λ (u : SessionData). IsWell g.row.D u.set) (sym c.self.view_is) c.is_full.ensures.well) c.add.ensures.rewrites)

@@ -24,6 +24,7 @@ use Rattle.index_core.proofs.Committing.{keeps_fault, on_ok_any, on_ok_none, say
 use Rattle.index_core.proofs.Sizes.{session_fits}
 use Rattle.index_core.proofs.Undone.{undone_written}
 use Rattle.index_core.proofs.session.Session.close.Given as given
+use Rattle.index_core.proofs.Lasting.{lasts_then_like}
 use Rattle.index_core.proofs.session.Session.close.Goals as goal
 use Rattle.segment_set.proofs.Snapped.{set_rested}
 use Rattle.segment_set.proofs.Saving.{cause_after}
@@ -112,6 +113,13 @@ returns-clause-durable g c = record {
   lasting = λ told trusts.
       commit_swept (g.F.Pages.files c.args.folder.now) (g.F.Pages.files c.commit.new.folder)
       (g.F.Pages.files c.sweep.new.folder) (c.commit.ensures.durable.lasting told trusts) (kept g c told trusts.guards);
+  lasts = λ told faithful.
+      let parts = ap (λ (u : SetData). u.parts) (eased g c) in
+      lasts_then_like _ _ _ (g.F.Pages.files c.commit.new.folder) _ _ c.commit.new.self.set _
+      (ap (λ (u : SetData). u.parts) c.sweep.ensures.rest.is ∙ parts)
+      (ap (λ (u : SetData). u.buffer) c.sweep.ensures.rest.is ∙ ap (λ (u : SetData). u.buffer) (eased g c))
+      (λ p there. c.sweep.ensures.removes.segments told p (subst (λ (ps : List LiveSegment). Contains ps p) (sym parts) there))
+      (c.commit.ensures.durable.lasts told faithful);
 }
 
 pub returns-clause-idle : goal.returns-clause-idle
@@ -166,6 +174,7 @@ returns-in_err-commit-clause-durable g c =
       undone = λ told guards. rw (p.1, p.2) (c.in_err-commit.ensures.durable.undone told guards);
       own = λ told guards. c.commit.ensures.durable.own told guards;
       lasting = λ told trusts. c.commit.ensures.durable.lasting told trusts;
+      lasts = λ told faithful. c.commit.ensures.durable.lasts told faithful;
     }
 
 pub returns-in_err-commit-clause-idle : goal.returns-in_err-commit-clause-idle

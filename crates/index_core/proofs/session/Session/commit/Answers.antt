@@ -3,7 +3,6 @@ use Rattle.std.proofs.Common.{◌≡◌, All, None, IsTrue, Err, Some, is_some, 
 use Rattle.std.proofs.lemmas.Bool.{both_ways}
 use Rattle.std.proofs.lemmas.Result.{err_from_is_err_and}
 use Rattle.page_cache.specs.declared.faults.PageFault.{PageFault}
-use Rattle.stored_index.specs.Kept.{SameKept}
 use Rattle.stored_index.proofs.KeptFiles.{kept_itself, stored_still}
 use Rattle.segment_set.specs.Sets.{IsNamed, IsSettled, SetData}
 use Rattle.segment_set.specs.Seen.{Sees}
@@ -13,13 +12,12 @@ use Rattle.index_core.specs.Light.{CommitsFewOfLevels}
 use Rattle.index_core.specs.Steps.{SaysCommit}
 use Rattle.index_core.specs.Closed.{IsTracked}
 use Rattle.segment_set.specs.Kept.{Follows}
-use Rattle.segment_set.specs.Saved.{AreCovering}
 use Rattle.segment_set.proofs.Carried.{follows_none}
 use Rattle.index_core.proofs.Brought.{commit_after, commit_itself, commit_swept, keeps_flight}
 use Rattle.index_core.proofs.Owned.{own_flight, own_swept}
 use Rattle.index_core.proofs.Closing.{tracked_commit, tracked_same}
 use Rattle.index_core.proofs.Bringing.{brings_same, brings_still, brings_then, brings_two, brings_written}
-use Rattle.index_core.proofs.Guarding.{covered, grows_alone, guards_after, kept_after_calls, set_alone}
+use Rattle.index_core.proofs.Guarding.{covered_opened, grows_alone, guards_after, kept_opened, set_alone}
 use Rattle.index_core.proofs.Committing.{as_committed, commit_anew, keeps_any, keeps_fault, kept_on, on_ok_any, on_ok_none}
 use Rattle.index_core.proofs.Committing.{says_still, stores_any, stores_fault, unchanged_is_stored, unchanged_says}
 use Rattle.segment_set.proofs.Sizes.{set_fits}
@@ -37,6 +35,7 @@ use Rattle.index_opening.specs.Evidence.{IsEvident}
 use Rattle.segment_set.specs.Faithful.{IsFaithful}
 use Rattle.index_opening.proofs.Evident.{none_evident}
 use Rattle.index_core.proofs.Arranging.{arranged_left, arranged_same, arranged_seen, arranged_swept, arranged_written}
+use Rattle.index_core.proofs.Lasting.{lasts_itself, loses_opened, saved_last, swept_last, written_last}
 use Rattle.index_core.proofs.session.Session.commit.Goals as goal
 use Rattle.segment_set.proofs.Saving.{cause_after}
 
@@ -64,6 +63,7 @@ returns-then-not-is_changed g c =
         undone = λ told guards. tt;
         own = λ told guards. inl (kept_itself _);
         lasting = λ told trusts. commit_itself _;
+        lasts = λ told faithful. lasts_itself _ _ _ _;
       };
       flight = λ told guards. inl (kept_itself _);
       done = record {
@@ -71,8 +71,7 @@ returns-then-not-is_changed g c =
         anew = λ changed. absurd (changed unchanged);
         levels = λ changed none. absurd (changed unchanged);
         few = λ told guards none. inl refl;
-        tracked = λ told m. tracked_same (g.F.Pages.files c.args.folder.now) (g.F.Pages.files c.args.folder.now) c.args.self.now.set.names
-            c.args.self.now.set.names m refl refl;
+        tracked = λ told m. tracked_same (g.F.Pages.files c.args.folder.now) _ c.args.self.now.set.names _ m refl refl;
       };
       idle = λ same. (refl, refl, refl, refl);
       rested = λ settled. refl;
@@ -92,8 +91,7 @@ returns-in_err-commit g c =
     let saved = g.F.Pages.files c.save.new.folder in
     let damaged = c.in_err-commit.ensures.damaged in
     let inside : SessionData = record { set = c.self.inside.set; commit = c.self.inside.commit; refused = c.self.inside.refused } in
-    let kept : IsTrue g.F.Pages.told → Guards g.row.D old c.args.self.now → SameKept old saved =
-    λ told guards. kept_after_calls _ _ _ _ _ _ told c.save.ensures.rewrites.kept (subst (Guards g.row.D old) (sym c.self.view_is) guards).set in
+    let kept = kept_opened g.row.D (IsTrue g.F.Pages.told) old saved _ _ _ c.self.view_is c.save.ensures.rewrites.kept in
     record {
       seen = λ told i seen. c.save.ensures.seen told i (subst (λ (u : SessionData). Sees g.row.D old u.set i) (sym c.self.view_is) seen);
       stays = record {
@@ -111,6 +109,7 @@ returns-in_err-commit g c =
         undone = λ told guards. undone_kept old saved _ _ error (kept told guards);
         own = λ told guards. inl (kept told guards);
         lasting = λ told trusts. inl (kept told trusts.guards);
+        lasts = saved_last _ _ _ _ _ _ _ c.self.view_is c.is_changed.ensures.well c.save.ensures.rewrites;
       };
       flight = λ told guards. inl (kept told guards);
       done = on_ok_none _ _ _ p.1;
@@ -127,7 +126,7 @@ returns-in_err-commit g c =
         evident = damage_to _ _ c.in_err-commit.field-0.0 error
             (subst (λ (u : SessionData). FaultShows (IsEvident (IsTrue g.F.Pages.told × Trusts g.row.D old u) saved) c.in_err-commit.field-0.0) c.self.view_is
             (traced_shows {X = Unit {0}} _ _ _ _ inside _ (Err c.in_err-commit.field-0.0) c.save.ensures.rewrites.kept
-            (subst (λ (u : SessionData). All (IsNamed u.set.names) u.set.parts) (sym c.self.view_is) c.is_changed.ensures.named)
+            (subst (λ (u : SessionData). All (IsNamed u.set.names) u.set.parts) (sym c.self.view_is) c.is_changed.ensures.well.named)
             c.in_err-commit.ensures.damaged.evident));
       };
       damage = subst (λ (u : SessionData). ShowsMerge g.row.D (IsTrue g.F.Pages.told) old saved u.set c.save.new.self c.from_residual.result) c.self.view_is
@@ -144,10 +143,8 @@ returns-in_err-write g c =
     let old = g.F.Pages.files c.args.folder.now in
     let saved = g.F.Pages.files c.save.new.folder in
     let written = g.F.Pages.files c.write.new.folder in
-    let covers : Guards g.row.D old c.args.self.now → AreCovering old c.last_lines-last.result.now c.self.inside.set =
-    λ guards. covered g.row.D old _ c.last_lines-last.result.now c.last_lines-last.ensures (subst (Guards g.row.D old) (sym c.self.view_is) guards) in
-    let kept : IsTrue g.F.Pages.told → Guards g.row.D old c.args.self.now → SameKept old saved =
-    λ told guards. kept_after_calls _ _ _ _ _ _ told c.save.ensures.rewrites.kept (subst (Guards g.row.D old) (sym c.self.view_is) guards).set in
+    let covers = covered_opened g.row.D old _ _ c.last_lines-last.result.now c.self.view_is c.last_lines-last.ensures in
+    let kept = kept_opened g.row.D (IsTrue g.F.Pages.told) old saved _ _ _ c.self.view_is c.save.ensures.rewrites.kept in
     record {
       seen = λ told i seen.
           c.write.ensures.seen told i (c.save.ensures.seen told i (subst (λ (u : SessionData). Sees g.row.D old u.set i) (sym c.self.view_is) seen));
@@ -169,19 +166,20 @@ returns-in_err-write g c =
             (c.in_ok-commit.ensures.saves.stored told (covers guards) i (subst (λ (u : SessionData). Sees g.row.D old u.set i) (sym c.self.view_is) seen))));
         undone = λ told guards. undone_flight (Unit {0}) old written c.write.new.self.set.saved fault _ error c.in_err-write.ensures.faults.whole
             (kept_on old saved written (kept told guards) (c.in_err-write.ensures.kept told));
-        own = λ told guards. own_flight g.row.D (IsTrue g.F.Pages.told) old saved written c.last_lines-last.result.now _ _ c.save.new.self c.in_ok-commit.commit
-            c.write.new.self.set.saved c.self.view_is (ap (λ (u : SetData). u.saved) c.write.ensures.set ∙ c.in_ok-commit.ensures.saves.saved)
-            c.in_ok-commit.ensures.saves.commit c.in_ok-commit.ensures.emptied c.in_ok-commit.ensures.flushed (kept told guards)
-            (c.in_err-write.ensures.kept told);
+        own = λ told guards. own_flight _ _ _ saved _ c.last_lines-last.result.now _ _ c.save.new.self _ _ c.self.view_is
+            (ap (λ (u : SetData). u.saved) c.write.ensures.set ∙ c.in_ok-commit.ensures.saves.saved) c.in_ok-commit.ensures.saves.commit
+            c.in_ok-commit.ensures.emptied c.in_ok-commit.ensures.flushed (c.in_ok-commit.ensures.saves.live told (covers guards))
+            (loses_opened _ _ _ _ _ _ _ c.self.view_is c.is_changed.ensures.well c.save.ensures.rewrites told) (c.write.ensures.others told)
+            (kept told guards) (c.in_err-write.ensures.kept told);
         lasting = λ told trusts.
             let before = subst (Trusts g.row.D old) (sym c.self.view_is) trusts in
-            commit_after old saved written (kept_after_calls _ _ _ _ _ _ told c.save.ensures.rewrites.kept before.guards.set)
-            (keeps_flight g.row.D saved written c.save.new.self c.in_ok-commit.commit c.write.new.self.set.saved
+            commit_after old saved written (kept told trusts.guards) (keeps_flight g.row.D saved written c.save.new.self _ _
             (ap (λ (u : SetData). u.saved) c.write.ensures.set ∙ c.in_ok-commit.ensures.saves.saved) c.in_ok-commit.ensures.saves.commit
             (c.in_ok-commit.ensures.saves.live told (covers trusts.guards)) (c.write.ensures.others told)
             (set_alone _ _ _ _ _ _ told c.save.ensures.rewrites.kept c.save.ensures.stays before.guards.set)
             (traced_by _ _ _ _ _ c.save.new.self told c.save.ensures.rewrites.kept c.save.ensures.rewrites.follows (c.save.ensures.rewrites.canon told) before)
             (c.in_err-write.ensures.kept told));
+        lasts = written_last _ _ _ saved _ _ _ _ _ c.self.view_is c.is_changed.ensures.well c.save.ensures.rewrites c.write.ensures.set c.write.ensures.others;
       };
       flight = λ told guards. kept_on old saved written (kept told guards) (c.in_err-write.ensures.kept told);
       done = on_ok_none _ _ _ p.1;
@@ -210,15 +208,13 @@ returns g c =
     let saved = g.F.Pages.files c.save.new.folder in
     let written = g.F.Pages.files c.write.new.folder in
     let swept = g.F.Pages.files c.sweep.new.folder in
-    let kept : IsTrue g.F.Pages.told → Guards g.row.D old c.args.self.now → SameKept old saved =
-    λ told guards. kept_after_calls _ _ _ _ _ _ told c.save.ensures.rewrites.kept (subst (Guards g.row.D old) (sym c.self.view_is) guards).set in
+    let kept = kept_opened g.row.D (IsTrue g.F.Pages.told) old saved _ _ _ c.self.view_is c.save.ensures.rewrites.kept in
     let same = c.sweep.ensures.written.0 ∙ c.in_ok-write.ensures.written.0 in
     let flown = ap (λ (u : SetData). u.saved) c.sweep.ensures.rest.is
     ∙ (ap (λ (u : SetData). u.saved) c.write.ensures.set ∙ c.in_ok-commit.ensures.saves.saved ∙ sym c.in_ok-write.ensures.written.0)
     ∙ sym c.sweep.ensures.written.0 in
     let empty = ap (λ (u : SetData). u.buffer) c.sweep.ensures.rest.is ∙ ap (λ (u : SetData). u.buffer) c.write.ensures.set ∙ c.in_ok-commit.ensures.emptied in
-    let covers : Guards g.row.D old c.args.self.now → AreCovering old c.last_lines-last.result.now c.self.inside.set =
-    λ guards. covered g.row.D old _ c.last_lines-last.result.now c.last_lines-last.ensures (subst (Guards g.row.D old) (sym c.self.view_is) guards) in
+    let covers = covered_opened g.row.D old _ _ c.last_lines-last.result.now c.self.view_is c.last_lines-last.ensures in
     let guarded : IsTrue g.F.Pages.told → Guards g.row.D old c.args.self.now → Guards g.row.D written c.write.new.self =
     λ told guards. c.write.ensures.guards told
     (set_alone _ _ _ _ _ _ told c.save.ensures.rewrites.kept c.save.ensures.stays (subst (Guards g.row.D old) (sym c.self.view_is) guards).set)
@@ -251,7 +247,9 @@ returns g c =
         own = λ told guards. own_swept g.row.D (IsTrue g.F.Pages.told) old written swept _
             (own_flight g.row.D (IsTrue g.F.Pages.told) old saved written c.last_lines-last.result.now _ _ c.save.new.self c.in_ok-commit.commit
             c.write.new.self.commit c.self.view_is c.in_ok-write.ensures.written.0 c.in_ok-commit.ensures.saves.commit c.in_ok-commit.ensures.emptied
-            c.in_ok-commit.ensures.flushed (kept told guards) (inr (c.in_ok-write.ensures.kept told))) (c.sweep.ensures.kept told (guarded told guards));
+            c.in_ok-commit.ensures.flushed (c.in_ok-commit.ensures.saves.live told (covers guards))
+            (loses_opened _ _ _ _ _ _ _ c.self.view_is c.is_changed.ensures.well c.save.ensures.rewrites told) (c.write.ensures.others told)
+            (kept told guards) (inr (c.in_ok-write.ensures.kept told))) (c.sweep.ensures.kept told (guarded told guards));
         lasting = λ told trusts.
             let before = subst (Trusts g.row.D old) (sym c.self.view_is) trusts in
             commit_swept old written swept (commit_after old saved written (kept told trusts.guards)
@@ -260,6 +258,8 @@ returns g c =
             (set_alone _ _ _ _ _ _ told c.save.ensures.rewrites.kept c.save.ensures.stays before.guards.set)
             (traced_by _ _ _ _ _ c.save.new.self told c.save.ensures.rewrites.kept c.save.ensures.rewrites.follows (c.save.ensures.rewrites.canon told) before)
             (inr (c.in_ok-write.ensures.kept told)))) (c.sweep.ensures.kept told (guarded told trusts.guards));
+        lasts = swept_last _ _ _ written _ _ _ _ _ c.sweep.ensures.rest c.sweep.ensures.removes.segments
+            (written_last _ _ _ saved _ _ _ _ _ c.self.view_is c.is_changed.ensures.well c.save.ensures.rewrites c.write.ensures.set c.write.ensures.others);
       };
       flight = λ told guards. inr (says_still written swept _ _ (c.sweep.ensures.kept told (guarded told guards)) (flown ∙ c.sweep.ensures.written.0)
           (c.in_ok-write.ensures.kept told));

@@ -135,3 +135,12 @@ returns-in_err-put_ok-clause-arranged g c = c.commit.ensures.arranged
 
 pub returns-clause-arranged : goal.returns-clause-arranged
 returns-clause-arranged g c = c.commit.ensures.arranged
+
+pub returns-in_err-commit-clause-lasts : goal.returns-in_err-commit-clause-lasts
+returns-in_err-commit-clause-lasts g c = c.commit.ensures.durable.lasts
+
+pub returns-in_err-put_ok-clause-lasts : goal.returns-in_err-put_ok-clause-lasts
+returns-in_err-put_ok-clause-lasts g c = c.commit.ensures.durable.lasts
+
+pub returns-clause-lasts : goal.returns-clause-lasts
+returns-clause-lasts g c = c.commit.ensures.durable.lasts

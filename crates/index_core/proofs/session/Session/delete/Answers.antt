@@ -19,6 +19,7 @@ use Rattle.std.proofs.Common.{false, subst, inl, inr}
 use Rattle.segment_set.specs.Sets.{is_live_in, set_but}
 use Rattle.index_core.specs.Sessions.{SessionData}
 use Rattle.index_core.proofs.Arranging.{on_err_any, undone_any}
+use Rattle.index_core.proofs.Lasting.{deletes_last, lasts_itself}
 use Rattle.index_core.proofs.session.Session.delete.Goals as goal
 
 pub returns-in_err-put_deleted-clause-applies : goal.returns-in_err-put_deleted-clause-applies
@@ -120,3 +121,18 @@ returns-then-delete-clause-leaves g c = subst (λ (u : SessionData). c.delete.ne
 
 pub returns-clause-leaves : goal.returns-clause-leaves
 returns-clause-leaves g c = subst (λ (u : SessionData). c.delete.new.self ≡ set_but c.args.doc u.set) c.self.view_is c.delete.ensures.rest
+
+pub returns-in_err-put_deleted-clause-lasts : goal.returns-in_err-put_deleted-clause-lasts
+returns-in_err-put_deleted-clause-lasts g c files = lasts_itself _ _ _ _
+
+pub returns-in_err-put_deleted-2-clause-lasts : goal.returns-in_err-put_deleted-2-clause-lasts
+returns-in_err-put_deleted-2-clause-lasts g c files = deletes_last _ _ _ _ _
+    (subst (λ (u : SessionData). c.delete.new.self ≡ set_but c.args.doc u.set) c.self.view_is c.delete.ensures.rest)
+
+pub returns-then-delete-clause-lasts : goal.returns-then-delete-clause-lasts
+returns-then-delete-clause-lasts g c files = deletes_last _ _ _ _ _
+    (subst (λ (u : SessionData). c.delete.new.self ≡ set_but c.args.doc u.set) c.self.view_is c.delete.ensures.rest)
+
+pub returns-clause-lasts : goal.returns-clause-lasts
+returns-clause-lasts g c files = deletes_last _ _ _ _ _
+    (subst (λ (u : SessionData). c.delete.new.self ≡ set_but c.args.doc u.set) c.self.view_is c.delete.ensures.rest)

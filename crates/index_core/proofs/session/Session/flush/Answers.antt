@@ -16,6 +16,7 @@ use Rattle.segment_set.specs.Sets.{IsSettled}
 use Rattle.index_core.proofs.Keeping.{fault_keeps}
 use Rattle.index_core.proofs.Guarding.{grows_alone}
 use Rattle.index_core.proofs.Arranging.{arranged_flushed, arranged_seen, arranged_settled, on_err_any}
+use Rattle.index_core.proofs.Lasting.{lasts_seen, moves_last}
 use Rattle.index_core.proofs.session.Session.flush.Goals as goal
 
 pub returns-clause-applies : goal.returns-clause-applies
@@ -127,3 +128,14 @@ returns-in_err-flush-clause-left g c = on_err_any _ c.from_residual.result
 pub returns-in_err-put_ok-clause-left : goal.returns-in_err-put_ok-clause-left
 returns-in_err-put_ok-clause-left g c = on_err_any _ c.from_residual-in_err-put_ok.result
     (arranged_seen _ _ _ _ _ _ c.self.view_is (arranged_flushed _ _ _ _ _ _ c.in_ok-flush.ensures.flushed))
+
+pub returns-in_err-flush-clause-lasts : goal.returns-in_err-flush-clause-lasts
+returns-in_err-flush-clause-lasts g c =
+    lasts_seen _ _ _ _ _ _ _ c.self.view_is (moves_last _ _ _ _ _ _ c.leaf_size-leaf_size.ensures.well c.flush.ensures.moves)
+
+pub returns-in_err-put_ok-clause-lasts : goal.returns-in_err-put_ok-clause-lasts
+returns-in_err-put_ok-clause-lasts g c =
+    lasts_seen _ _ _ _ _ _ _ c.self.view_is (moves_last _ _ _ _ _ _ c.leaf_size-leaf_size.ensures.well c.flush.ensures.moves)
+
+pub returns-clause-lasts : goal.returns-clause-lasts
+returns-clause-lasts g c = lasts_seen _ _ _ _ _ _ _ c.self.view_is (moves_last _ _ _ _ _ _ c.leaf_size-leaf_size.ensures.well c.flush.ensures.moves)

@@ -1,8 +1,8 @@
 -- Nothing changed where there is a commit, none was refused, and the set is as it says.
 use Rattle.std.proofs.Common.{subst, ap, sym, ◌∙◌}
 use Rattle.index_core.specs.Sessions.{IsSound, IsUnchanged, SessionData}
-use Rattle.std.proofs.Common.{◌≡◌, ◌↔◌, All, false}
-use Rattle.segment_set.specs.Sets.{IsNamed}
+use Rattle.std.proofs.Common.{◌≡◌, ◌↔◌, false}
+use Rattle.segment_set.specs.Sets.{IsWell}
 use Rattle.segment_set.proofs.Sizes.{set_fits}
 use Rattle.index_core.proofs.Committing.{changed_by, changed_none, changed_refused}
 use Rattle.index_core.proofs.session.Session.is_changed.Goals as goal
@@ -30,14 +30,14 @@ returns-clause-sound g c e = subst (IsSound g.row.D) c.self.view_is (record {
   well = c.leaf_size-leaf_size.ensures.well;
 })
 
-pub returns-in_default-clause-named : goal.returns-in_default-clause-named
-returns-in_default-clause-named g c = subst (λ (u : SessionData). All (IsNamed u.set.names) u.set.parts) c.self.view_is c.leaf_size-leaf_size.ensures.well.named
+pub returns-in_default-clause-well : goal.returns-in_default-clause-well
+returns-in_default-clause-well g c = subst (λ (u : SessionData). IsWell g.row.D u.set) c.self.view_is c.leaf_size-leaf_size.ensures.well
 
-pub returns-then-self-clause-named : goal.returns-then-self-clause-named
-returns-then-self-clause-named g c = subst (λ (u : SessionData). All (IsNamed u.set.names) u.set.parts) c.self.view_is c.leaf_size-leaf_size.ensures.well.named
+pub returns-then-self-clause-well : goal.returns-then-self-clause-well
+returns-then-self-clause-well g c = subst (λ (u : SessionData). IsWell g.row.D u.set) c.self.view_is c.leaf_size-leaf_size.ensures.well
 
-pub returns-clause-named : goal.returns-clause-named
-returns-clause-named g c = subst (λ (u : SessionData). All (IsNamed u.set.names) u.set.parts) c.self.view_is c.leaf_size-leaf_size.ensures.well.named
+pub returns-clause-well : goal.returns-clause-well
+returns-clause-well g c = subst (λ (u : SessionData). IsWell g.row.D u.set) c.self.view_is c.leaf_size-leaf_size.ensures.well
 
 pub leaf_size-leaf_size-requires : goal.leaf_size-leaf_size-requires
 leaf_size-leaf_size-requires g c = set_fits g.row.D c.self.invariant.few

@@ -1,6 +1,6 @@
 -- What the set says of its size.
-use Rattle.std.proofs.Common.{All, subst}
-use Rattle.segment_set.specs.Sets.{IsNamed}
+use Rattle.std.proofs.Common.{subst}
+use Rattle.segment_set.specs.Sets.{IsWell}
 use Rattle.segment_set.proofs.Sizes.{set_fits}
 use Rattle.index_core.specs.Sessions.{SessionData}
 use Rattle.index_core.proofs.session.Session.is_full.Goals as goal
@@ -11,5 +11,5 @@ leaf_size-leaf_size-requires g c = set_fits g.row.D c.self.invariant.few
 pub points_given-requires : goal.points_given-requires
 points_given-requires g c = set_fits g.row.D c.self.invariant.few
 
-pub returns-clause-named : goal.returns-clause-named
-returns-clause-named g c = subst (λ (u : SessionData). All (IsNamed u.set.names) u.set.parts) c.self.view_is c.leaf_size-leaf_size.ensures.well.named
+pub returns-clause-well : goal.returns-clause-well
+returns-clause-well g c = subst (λ (u : SessionData). IsWell g.row.D u.set) c.self.view_is c.leaf_size-leaf_size.ensures.well

@@ -134,3 +134,12 @@ returns-clause-left g c =
     subst (λ r. OnErr r (StaysButCache c.args.self.now.set c.merge_begin.new.self)) (sym c.begin_answer.ensures)
     (begin_left _ _ c.merge_begin.result (λ same. subst (λ (u : SessionData). StaysButCache u.set c.merge_begin.new.self) c.self.view_is same)
     c.merge_begin.ensures.stays)
+
+pub returns-then-is_merging-clause-files : goal.returns-then-is_merging-clause-files
+returns-then-is_merging-clause-files g c told = refl
+
+pub returns-in_err-put_ok-clause-files : goal.returns-in_err-put_ok-clause-files
+returns-in_err-put_ok-clause-files g c told = refl
+
+pub returns-clause-files : goal.returns-clause-files
+returns-clause-files g c = c.merge_begin.ensures.files

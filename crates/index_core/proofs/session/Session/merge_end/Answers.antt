@@ -22,6 +22,7 @@ use Rattle.index_core.proofs.Keeping.{answer_keeps, end_keeps, fault_keeps, stil
 use Rattle.std.proofs.Common.{OnErr}
 use Rattle.segment_set.specs.Kept.{IsAsBefore}
 use Rattle.index_core.proofs.Arranging.{end_left, on_err_any}
+use Rattle.index_core.proofs.Lasting.{lasts_itself, lasts_seen, writes_last}
 use Rattle.index_core.proofs.session.Session.merge_end.Goals as goal
 use Rattle.segment_set.proofs.Doubted.{whole_shows}
 
@@ -136,3 +137,13 @@ returns-clause-left g c =
     subst (λ r. OnErr r (IsAsBefore c.args.self.now.set c.merge_end.new.self)) (sym c.end_answer.ensures)
     (end_left _ _ c.merge_end.result (λ same. subst (λ (u : SessionData). IsAsBefore u.set c.merge_end.new.self) c.self.view_is same)
     c.merge_end.ensures.rest)
+
+pub returns-then-not-is_merging-clause-lasts : goal.returns-then-not-is_merging-clause-lasts
+returns-then-not-is_merging-clause-lasts g c told faithful = lasts_itself _ _ _ _
+
+pub returns-in_err-put_ok-clause-lasts : goal.returns-in_err-put_ok-clause-lasts
+returns-in_err-put_ok-clause-lasts g c told faithful = lasts_itself _ _ _ _
+
+pub returns-clause-lasts : goal.returns-clause-lasts
+returns-clause-lasts g c = lasts_seen _ _ _ _ _ _ _ c.self.view_is
+    (writes_last _ _ _ _ _ _ c.leaf_size-leaf_size.ensures.well c.merge_end.ensures.rewrites)

@@ -1,5 +1,5 @@
 -- A snapshot goes, where one has the name.
-use Rattle.std.proofs.Common.{Err, refl, sym, ap, ◌∙◌}
+use Rattle.std.proofs.Common.{◌≡◌, Err, refl, sym, ap, ◌∙◌}
 use Rattle.std.proofs.lemmas.Result.{err_from_is_err_and}
 use Rattle.page_cache.specs.declared.faults.PageFault.{PageFault}
 use Rattle.script_lang.specs.declared.faults.Refusal.TheVariants as why
@@ -19,8 +19,8 @@ use Rattle.index_core.proofs.Keeping.{fault_keeps, still_same}
 use Rattle.index_core.proofs.Lightly.{light_released, light_same}
 use Rattle.index_core.proofs.Guarding.{grows_same}
 use Rattle.std.proofs.Common.{subst}
-use Rattle.index_core.specs.Arranged.{StaysButSnapshots}
-use Rattle.index_core.proofs.Arranging.{but_snapshots, on_err_any, undone_any}
+use Rattle.segment_set.specs.Sets.{set_released}
+use Rattle.index_core.proofs.Arranging.{on_err_any, undone_any}
 use Rattle.index_core.proofs.session.Session.release.Goals as goal
 
 pub returns-then-not-has_snapshot-clause-applies : goal.returns-then-not-has_snapshot-clause-applies
@@ -86,4 +86,4 @@ returns-in_err-put_ok-clause-leaves g c =
 
 pub returns-clause-leaves : goal.returns-clause-leaves
 returns-clause-leaves g c =
-    subst (λ (u : SessionData). StaysButSnapshots u.set c.release.new.self) c.self.view_is (but_snapshots _ _ _ c.release.ensures.kept)
+    subst (λ (u : SessionData). c.release.new.self ≡ set_released c.args.name.now u.set) c.self.view_is c.release.ensures.kept

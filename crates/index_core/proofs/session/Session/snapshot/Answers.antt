@@ -18,11 +18,10 @@ use Rattle.std.proofs.Common.{refl}
 use Rattle.index_core.proofs.Keeping.{answer_keeps, err_each, fault_keeps, snap_keeps, still_seen, still_set}
 use Rattle.index_core.proofs.Lightly.{light_same, light_snapped}
 use Rattle.std.proofs.Common.{◌≡◌, OnErr, OnOk}
-use Rattle.std.proofs.lemmas.Result.{on_ok_weaker}
 use Rattle.index_core.specs.Sessions.{SessionData}
-use Rattle.index_core.specs.Arranged.{StaysButSnapshots}
+use Rattle.segment_set.specs.Sets.{set_snapped}
 use Rattle.index_core.specs.Effects.{OnDone}
-use Rattle.index_core.proofs.Arranging.{but_snapshots, on_err_any, snap_done, snap_left, undone_any, with_set}
+use Rattle.index_core.proofs.Arranging.{on_err_any, snap_done, snap_left, undone_any, with_set}
 use Rattle.index_core.proofs.session.Session.snapshot.Goals as goal
 use Rattle.segment_set.proofs.Doubted.{whole_shows}
 
@@ -88,6 +87,6 @@ returns-clause-left g c =
 
 pub returns-clause-leaves : goal.returns-clause-leaves
 returns-clause-leaves g c =
-    subst (λ r. OnDone r (StaysButSnapshots c.args.self.now.set c.snapshot.new.self)) (sym c.snap_answer-answer.ensures)
-    (snap_done _ c.snapshot.result (subst (λ (u : SessionData). OnOk c.snapshot.result (StaysButSnapshots u.set c.snapshot.new.self)) c.self.view_is
-    (on_ok_weaker c.snapshot.result (λ kept. but_snapshots _ _ _ kept) c.snapshot.ensures.kept)))
+    subst (λ r. OnDone r (c.snapshot.new.self ≡ set_snapped c.args.name.now c.args.self.now.set)) (sym c.snap_answer-answer.ensures)
+    (snap_done _ c.snapshot.result
+    (subst (λ (u : SessionData). OnOk c.snapshot.result (c.snapshot.new.self ≡ set_snapped c.args.name.now u.set)) c.self.view_is c.snapshot.ensures.kept))
