@@ -90,7 +90,7 @@ const LINES: &[Row] = &[
     (&[], "delete 0", "deleted 0\n", DONE),
     (&[], "merge end", "ok\n", DONE),
     (&[], "box @before -9 -9 9 9", "hits 2\n0\n1\n", DONE),
-    (&[1], "merge", "", FAILED),
+    (&[1], "merge", "ok\n", FAILED),
     (&[], "nearest 2 0 0", "near 2\n1 25\n2 50\n", DONE),
     (&[], "merge", "ok\n", DONE),
     (&[], "release before", "ok\n", DONE),
