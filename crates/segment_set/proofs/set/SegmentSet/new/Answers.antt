@@ -1,5 +1,5 @@
 -- A set without documents keeps to its rules, and is seen as a new index.
-use Rattle.std.proofs.Common.{◌≡◌, sym, ap, subst, ◌∙◌}
+use Rattle.std.proofs.Common.{◌≡◌, refl, sym, ap, subst, ◌∙◌}
 use Rattle.outer_io.specs.declared.file_name.FileName.TheVariants.{Commit}
 use Rattle.index_model.specs.State.{new_index}
 use Rattle.file_names.specs.Names.{NameList, is_named}
@@ -9,6 +9,7 @@ use Rattle.segment_set.specs.Seen.{Sees}
 use Rattle.segment_set.specs.Faithful.{IsFaithful}
 use Rattle.segment_set.proofs.Empty.{empty_is, empty_set, sees_empty, well_empty}
 use Rattle.segment_set.proofs.Viewing.{faithful_empty}
+use Rattle.segment_set.proofs.Refused.{never_value}
 use Rattle.segment_set.proofs.set.SegmentSet.new.Given as given
 use Rattle.segment_set.proofs.set.SegmentSet.new.Goals as goal
 
@@ -34,3 +35,30 @@ pub returns-clause-faithful : goal.returns-clause-faithful
 returns-clause-faithful g c files =
     subst (IsFaithful g.row.D files) (sym (fields g c))
     (faithful_empty g.row.D c.args.leaf_size c.new.result c.in_ok-new.field-0 files (c.in_ok-new.ensures.agrees files))
+
+pub new-requires : goal.new-requires
+new-requires g c = tt
+
+pub returns-in_err-new-clause-seen : goal.returns-in_err-new-clause-seen
+returns-in_err-new-clause-seen g c = never_value _ c.from_residual.result c.from_residual.ensures.1 _
+
+pub returns-in_err-new-clause-faithful : goal.returns-in_err-new-clause-faithful
+returns-in_err-new-clause-faithful g c = never_value _ c.from_residual.result c.from_residual.ensures.1 _
+
+pub returns-in_err-new-clause-unsaved : goal.returns-in_err-new-clause-unsaved
+returns-in_err-new-clause-unsaved g c = never_value _ c.from_residual.result c.from_residual.ensures.1 _
+
+pub returns-in_err-new-clause-names : goal.returns-in_err-new-clause-names
+returns-in_err-new-clause-names g c = never_value _ c.from_residual.result c.from_residual.ensures.1 _
+
+pub returns-in_err-new-clause-room : goal.returns-in_err-new-clause-room
+returns-in_err-new-clause-room g c = never_value _ c.from_residual.result c.from_residual.ensures.1 _
+
+pub returns-clause-unsaved : goal.returns-clause-unsaved
+returns-clause-unsaved g c = refl
+
+pub returns-clause-names : goal.returns-clause-names
+returns-clause-names g c = c.new.ensures
+
+pub returns-clause-room : goal.returns-clause-room
+returns-clause-room g c = c.in_ok-new.ensures.room
