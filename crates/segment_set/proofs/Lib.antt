@@ -51,3 +51,4 @@ pub mod Viewing
 pub mod Trusted
 pub mod Settled
 pub mod Shows
+pub mod Exits

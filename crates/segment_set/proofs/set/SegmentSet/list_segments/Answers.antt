@@ -7,10 +7,10 @@ use Rattle.segment_set.specs.Sets.{IsWell, SetData}
 use Rattle.segment_set.specs.Kept.{IsCommitOf, KeepsNamed}
 use Rattle.segment_set.specs.Saved.{IsSaved}
 use Rattle.segment_set.specs.Faithful.{IsFaithful}
-use Rattle.segment_set.proofs.Saving.{but_saved, well_names}
+use Rattle.segment_set.proofs.Saving.{but_saved, done_cause, well_names}
 use Rattle.segment_set.proofs.SavedCommit.{IsLine, commit_of_set, is_commit, saved_lines}
 use Rattle.segment_set.proofs.Faithful.{faithful_saved}
-use Rattle.segment_set.proofs.Refused.{at_error}
+use Rattle.segment_set.proofs.Refused.{at_error, memory_caused, memory_damage, never_value, same_cause, same_damage}
 use Rattle.segment_set.proofs.Settled.{before_moved}
 use Rattle.segment_set.proofs.set.SegmentSet.list_segments.Goals as goal
 
@@ -180,3 +180,45 @@ returns-in_err-again-clause-refused g c =
 
 pub returns-clause-refused : goal.returns-clause-refused
 returns-clause-refused g c = tt
+
+pub returns-in_err-listed-clause-saved : goal.returns-in_err-listed-clause-saved
+returns-in_err-listed-clause-saved g c = never_value _ c.from_residual.result c.from_residual.ensures.1 _
+
+pub returns-in_err-listed-clause-commit : goal.returns-in_err-listed-clause-commit
+returns-in_err-listed-clause-commit g c = never_value _ c.from_residual.result c.from_residual.ensures.1 _
+
+pub returns-in_err-listed-clause-listed : goal.returns-in_err-listed-clause-listed
+returns-in_err-listed-clause-listed g c = never_value _ c.from_residual.result c.from_residual.ensures.1 _
+
+pub returns-in_err-again-clause-saved : goal.returns-in_err-again-clause-saved
+returns-in_err-again-clause-saved g c = never_value _ c.from_residual-in_err-again.result c.from_residual-in_err-again.ensures.1 _
+
+pub returns-in_err-again-clause-commit : goal.returns-in_err-again-clause-commit
+returns-in_err-again-clause-commit g c = never_value _ c.from_residual-in_err-again.result c.from_residual-in_err-again.ensures.1 _
+
+pub returns-in_err-again-clause-listed : goal.returns-in_err-again-clause-listed
+returns-in_err-again-clause-listed g c = never_value _ c.from_residual-in_err-again.result c.from_residual-in_err-again.ensures.1 _
+
+pub returns-in_err-listed-clause-cause : goal.returns-in_err-listed-clause-cause
+returns-in_err-listed-clause-cause g c =
+    same_cause (g.F.Pages.faults c.args.folder.now) (g.F.Pages.faults c.list_lives.new.folder) c.in_err-listed.field-0.0
+    c.from_residual.result c.from_residual.ensures.1 c.in_err-listed.ensures.cause
+
+pub returns-in_err-again-clause-cause : goal.returns-in_err-again-clause-cause
+returns-in_err-again-clause-cause g c =
+    memory_caused (g.F.Pages.faults c.args.folder.now) (g.F.Pages.faults c.list_lives.new.folder)
+    c.from_residual-in_err-again.result c.from_residual-in_err-again.ensures.1
+    c.in_ok-listed.ensures.cause.on_ok
+
+pub returns-clause-cause : goal.returns-clause-cause
+returns-clause-cause g c = done_cause (g.F.Pages.faults c.args.folder.now) (g.F.Pages.faults c.list_lives.new.folder) _ c.in_ok-listed.ensures.cause.on_ok
+
+pub returns-in_err-listed-clause-whole : goal.returns-in_err-listed-clause-whole
+returns-in_err-listed-clause-whole g c =
+    same_damage (λ _. ⊥) c.in_err-listed.field-0.0 c.from_residual.result c.from_residual.ensures.1 c.in_err-listed.ensures.whole
+
+pub returns-in_err-again-clause-whole : goal.returns-in_err-again-clause-whole
+returns-in_err-again-clause-whole g c = memory_damage (λ _. ⊥) c.from_residual-in_err-again.result c.from_residual-in_err-again.ensures.1
+
+pub returns-clause-whole : goal.returns-clause-whole
+returns-clause-whole g c = tt

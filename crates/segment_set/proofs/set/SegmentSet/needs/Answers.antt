@@ -11,3 +11,6 @@ returns-clause-yes g c = λ e. inl (c.lists_file.ensures.0 e)
 pub returns-clause-no : goal.returns-clause-no
 returns-clause-no g c =
     unneeded_unlisted c.args.self.now c.args.c.now c.args.name.now c.lists_file.result c.lists_file.ensures (sym c.shows.ensures ∙ c.if-shows.false)
+
+pub returns-then-shows-clause-no : goal.returns-then-shows-clause-no
+returns-then-shows-clause-no g c = λ e. absurd cc

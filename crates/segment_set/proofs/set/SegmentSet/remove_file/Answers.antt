@@ -11,6 +11,8 @@ use Rattle.segment_set.proofs.Sweeping.{names_but, sees_swept, swept_removed, sw
 use Rattle.segment_set.proofs.Viewing.{faithful_swept}
 use Rattle.segment_set.proofs.set.SegmentSet.remove_file.Goals as goal
 use Rattle.segment_set.proofs.Unhidden.{unhidden_still}
+use Rattle.segment_set.proofs.Refused.{never_ok}
+use Rattle.segment_set.proofs.Exits.{same_fault}
 
 pub invariant_of-self : goal.invariant_of-self
 invariant_of-self g c = well_cache g.row.D _ c.forget.new.cache c.self.invariant (λ id keeps. c.self.invariant.cached id (c.forget.ensures.fewer id keeps))
@@ -103,3 +105,20 @@ returns-clause-faithful g c = λ told keeps.
     (c.forget.ensures.agrees files (subst (λ (u : SetData). Agrees files u.cache) (sym c.self.view_is) keeps.pages))
     (ap (λ (u : SetData). u.parts) c.self.view_is) (ap (λ (u : SetData). u.snapshots) c.self.view_is)
     (ap (λ (u : SetData). u.begun) c.self.view_is) keeps
+
+pub returns-in_err-remove-clause-names : goal.returns-in_err-remove-clause-names
+returns-in_err-remove-clause-names g c = never_ok _ c.from_residual.result c.from_residual.ensures.1 _
+
+pub returns-in_err-remove-clause-unread : goal.returns-in_err-remove-clause-unread
+returns-in_err-remove-clause-unread g c = c.remove.ensures.reads
+
+pub returns-in_err-remove-clause-cause : goal.returns-in_err-remove-clause-cause
+returns-in_err-remove-clause-cause g c =
+    same_fault _ (g.F.Pages.faults c.args.folder.now) (g.F.Pages.faults c.remove.new.self) _ c.from_residual.result c.from_residual.ensures.1
+    c.in_err-remove.ensures.cause
+
+pub returns-clause-unread : goal.returns-clause-unread
+returns-clause-unread g c = c.remove.ensures.reads
+
+pub returns-clause-cause : goal.returns-clause-cause
+returns-clause-cause g c = record { later = c.in_ok-remove.ensures.cause.later; on_ok = c.in_ok-remove.ensures.cause.on_ok; failed = tt }
