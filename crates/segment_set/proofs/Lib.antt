@@ -52,3 +52,4 @@ pub mod Trusted
 pub mod Settled
 pub mod Shows
 pub mod Exits
+pub mod Pushed

@@ -1,4 +1,4 @@
-use Rattle.std.proofs.Common.{◌∙◌, List, Some, refl, sym, ap, subst}
+use Rattle.std.proofs.Common.{◌∙◌, List, Some, lit<, refl, sym, ap, subst, arith}
 use Rattle.std.specs.Prelude.{IsTrue}
 use Rattle.std.specs.List.{AllZip}
 use Rattle.commit_list.specs.declared.listed.Listed.{Listed}
@@ -222,3 +222,15 @@ returns-in_err-again-clause-whole g c = memory_damage (λ _. ⊥) c.from_residua
 
 pub returns-clause-whole : goal.returns-clause-whole
 returns-clause-whole g c = tt
+
+pub list_lives-requires : goal.list_lives-requires
+list_lives-requires g c = (lit< tt, (c.self.invariant.named, (c.heads.ensures.ascend, c.self.invariant.live_fits)))
+
+pub next-next-requires : goal.next-next-requires
+next-next-requires g c = lit< tt
+
+pub overflow_cast-new : goal.overflow_cast-new
+overflow_cast-new g c = omega (arith, c.self.invariant.few_dims)
+
+pub overflow_cast-new-2 : goal.overflow_cast-new-2
+overflow_cast-new-2 g c = omega (arith, c.self.invariant.few_dims)

@@ -1,4 +1,4 @@
-use Rattle.std.proofs.Common.{◌≡◌, ◌≤◌, ◌<◌, ℕ, List, get_or, length, map, subst, sym}
+use Rattle.std.proofs.Common.{◌≡◌, ◌≤◌, ◌<◌, ℕ, List, get_or, length, lit<, map, subst, sym, arith}
 use Rattle.std.specs.Prelude.{IfOk, IfNone, IfSome}
 use Rattle.merge_policy.specs.Choice.{IsChoice, free_count}
 use Rattle.segment_view.specs.LiveSegments.{ids_of, parts_among}
@@ -53,3 +53,6 @@ returns-clause-choice g c =
     (λ o. IfSome o
     (λ v. (positions : List ℕ) × IsChoice (sizes_of parts) (pinned ids parts) positions × (v.items ≡ map (λ i. get_or (ids_of parts) i 0) positions))))
     c.inputs_of.ensures c.chosen.ensures.choice)
+
+pub chosen-requires : goal.chosen-requires
+chosen-requires g c = (lit< tt, (c.self.invariant.few_dims, omega (arith, c.self.invariant.few)))
