@@ -25,3 +25,4 @@ pub mod Owned
 pub mod Arranging
 pub mod Lasting
 pub mod LosingNone
+pub mod Thinned
