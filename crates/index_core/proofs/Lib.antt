@@ -26,3 +26,4 @@ pub mod Arranging
 pub mod Lasting
 pub mod LosingNone
 pub mod Thinned
+pub mod Attached
