@@ -27,3 +27,4 @@ pub mod Lasting
 pub mod LosingNone
 pub mod Thinned
 pub mod Attached
+pub mod Renewed

@@ -13,10 +13,10 @@ use Rattle.script_lang.specs.Requests.{Request}
 use Rattle.script_lang.specs.Requests as asks
 use Rattle.index_model.specs.State.{Index}
 use Rattle.index_model.specs.declared.session.Applied.{Applied}
-use Rattle.stored_index.specs.Stored.{IsStored}
+use Rattle.stored_index.specs.Stored.{HaveLive, IsStored}
 use Rattle.index_opening.specs.Evidence.{IsEvident}
 use Rattle.file_names.specs.Names.{is_named}
-use Rattle.segment_view.specs.LiveSegments.{LiveSegment}
+use Rattle.segment_view.specs.LiveSegments.{LiveSegment, lives_of}
 use Rattle.segment_set.specs.Seen.{Sees}
 use Rattle.segment_set.specs.Faithful.{IsFaithful}
 use Rattle.segment_set.specs.Kept.{IsNeeded}
@@ -43,10 +43,12 @@ pub record IsDurable {T : Type 0} (D : ℕ) (told : Type 0) (old new : Files) (s
   pub lasting : told → Trusts D old s → KeepsCommit old new
   pub lasts : told → IsFaithful D old s.set → Lasts D (λ number. ⊥) old new s.set t.set
 
--- A done commit: nothing is changed since, and the list of names has each file that came. Where something was changed
--- it was written anew; with no merge begun it lists few segments of each level.
+-- A done commit: nothing is changed since, its files of live bits hold just what is live, and the list of names has each
+-- file that came. Where something was changed it was written anew; with no merge begun it lists few segments of each
+-- level.
 pub record IsCommitted (D : ℕ) (told : Type 0) (old new : Files) (s t : SessionData) : Type 0 where
   pub unchanged : IsUnchanged t
+  pub lives : told → Guards D old s → (c : CommitData) → t.commit ≡ Some c → HaveLive new c (lives_of t.set.parts)
   pub anew : (IsUnchanged s → ⊥) → IsCommitAnew s t
   pub levels : (IsUnchanged s → ⊥) → s.set.begun ≡ None → CommitsFewOfLevels t.commit
   pub few : told → Guards D old s → s.set.begun ≡ None → KeepsLevels old new
