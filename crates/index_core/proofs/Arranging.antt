@@ -1,6 +1,7 @@
 -- What is left of a set by calls that may arrange its segments anew.
 use Rattle.std.proofs.lemmas.Bool.{both_ways}
 use Rattle.script_lang.specs.Requests.{Request}
+use Rattle.script_lang.specs.Requests as asks
 use Rattle.std.proofs.Common.{◌≡◌, ◌≤◌, ◌+◌, ℕ, Bool, true, false, length, [], Option, Result, Ok, Err, OnOk, OnErr, inl, refl, sym, ap, subst, ◌∙◌}
 use Rattle.outer_io.specs.Files.{Files}
 use Rattle.commit_list.specs.Commits.{CommitData}
@@ -19,12 +20,12 @@ use Rattle.segment_set.specs.Sets.{SetData}
 use Rattle.segment_set.specs.Kept.{IsAsBefore, StaysButCache, StaysButFiles}
 use Rattle.segment_set.specs.Saved.{StaysButSaved}
 use Rattle.segment_set.specs.Settles.{Flushes, IsLeft, Settles, SetMoment, moment}
-use Rattle.index_core.specs.Sessions.{IsStill, SessionData}
+use Rattle.index_core.specs.Sessions.{Guards, IsStill, SessionData}
 use Rattle.index_core.specs.Effects.{KeepsStill, OnDone, OnRefused}
 use Rattle.index_core.specs.Costs.{ReadsAtMost}
 use Rattle.index_core.specs.Light.{IsBarred, StaysLight, is_light, points_in}
 use Rattle.index_core.specs.Calls.{Spares}
-use Rattle.index_core.specs.Lasting.{LastsBut}
+use Rattle.index_core.specs.Lasting.{Lasts, TakesOut}
 use Rattle.segment_set.specs.Faithful.{IsFaithful}
 use Rattle.index_core.specs.Arranged.{FaultLeaves, IsArranged}
 use Rattle.index_core.proofs.Lightly.{refused_any}
@@ -203,7 +204,8 @@ undone_any P r fault is = subst (λ q. OnDone q P) (sym is) tt
 pub spares_heavy : (D : ℕ) (told : Type 0) (r : Request) (old new : Files) (s t : SessionData) (before now : ℕ) (result : Result Applied PageFault)
     → is_light r ≡ false → (IsBarred r s.set → ⊥) → ReadsAtMost D told r old s before now → OnRefused result (now ≡ before)
     → KeepsStill told r old new s t result → OnErr result (FaultLeaves D told r old new s.set t.set)
-    → (told → IsFaithful D old s.set → LastsBut D r old new s.set t.set) → Spares D told r old new s t before now result
+    → (told → IsFaithful D old s.set → (r ≡ asks.Reopen → Guards D old s) → Lasts D (TakesOut r) old new s.set t.set)
+    → Spares D told r old new s t before now result
 spares_heavy D told r old new s t before now result heavy bars reads unread still left lasts = record {
   reads = reads;
   unread = unread;
@@ -218,7 +220,8 @@ spares_heavy D told r old new s t before now result heavy bars reads unread stil
 pub spares_quiet : (D : ℕ) (told : Type 0) (r : Request) (files : Files) (s t : SessionData) (before : ℕ) (result : Result Applied PageFault)
     → ReadsAtMost D told r files s before before → (IsBarred r s.set → ⊥) → KeepsStill told r files files s t result
     → (is_light r ≡ true → length s.set.buffer + points_in r ≤ 16384 → StaysLight told (points_in r) files files s t)
-    → OnErr result (FaultLeaves D told r files files s.set t.set) → (told → IsFaithful D files s.set → LastsBut D r files files s.set t.set)
+    → OnErr result (FaultLeaves D told r files files s.set t.set)
+    → (told → IsFaithful D files s.set → (r ≡ asks.Reopen → Guards D files s) → Lasts D (TakesOut r) files files s.set t.set)
     → Spares D told r files files s t before before result
 spares_quiet D told r files s t before result reads bars still light left lasts = record {
   reads = reads;

@@ -24,3 +24,7 @@ pub mod Brought
 pub mod Owned
 pub mod Arranging
 pub mod Lasting
+pub mod LosingNone
+pub mod Thinned
+pub mod Attached
+pub mod Renewed

@@ -141,6 +141,9 @@ impl<const D: usize> Session<D> {
             (F.files folder.new) self.old self.new result }
         ensures unread { OnRefused result (F.reads folder.new ≡ F.reads folder.old) }
         ensures left { OnErr result (StaysButCache self.old.set self.new.set) }
+        // no segment comes that wasn't there
+        ensures lasts { IsTrue F.told → IsFaithful D (F.files folder.old) self.old.set
+            → Lasts D (λ number. Unit {0}) (F.files folder.old) (F.files folder.new) self.old.set self.new.set }
     {
         let mut shape = BoxShape::new(*lo, *hi);
         let hits = self.set.visit(alloc, folder, &View::Now, &mut shape)?;

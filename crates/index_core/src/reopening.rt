@@ -9,7 +9,8 @@ ghost use Rattle.commit_list.specs.Commits.{CommitData};
 ghost use Rattle.script_lang.specs.Requests as asks;
 ghost use Rattle.index_model.specs.State.{Index, State};
 ghost use Rattle.index_model.specs.Step.{step_on};
-ghost use Rattle.stored_index.specs.Stored.{IsStored};
+ghost use Rattle.stored_index.specs.Stored.{HaveLive, IsStored};
+ghost use Rattle.segment_view.specs.LiveSegments.{lives_of};
 ghost use Rattle.stored_index.specs.Kept.{ListsFile};
 ghost use Rattle.segment_set.specs.Seen.{Sees};
 ghost use Rattle.index_opening.specs.Evidence.{IsEvident};
@@ -19,6 +20,7 @@ ghost use Rattle.file_names.specs.Names.{is_named};
 ghost use Rattle.segment_set.specs.Kept.{IsAsCommitted};
 ghost use Rattle.index_core.specs.Sessions.{AreTraced, Guards};
 ghost use Rattle.index_core.specs.Arranged.{IsArranged};
+ghost use Rattle.index_core.specs.Lasting.{Lasts};
 ghost use Rattle.index_core.specs.Damages.{ShowsDamage};
 ghost use Rattle.index_core.specs.Effects.{OnRefused};
 ghost use Rattle.index_core.specs.Steps.{Applies};
@@ -61,6 +63,9 @@ impl<const D: usize> Session<D> {
         ensures damage { ShowsDamage D (IsTrue F.told) asks.Reopen (F.files folder.old)
             (F.files folder.new) self.old self.new result }
         ensures left { OnErr result (IsArranged D (IsTrue F.told) (F.files folder.old) self.old.set self.new.set) }
+        ensures lasts { IsTrue F.told → IsFaithful D (F.files folder.old) self.old.set
+            → Guards D (F.files folder.old) self.old
+            → Lasts D (λ number. ⊥) (F.files folder.old) (F.files folder.new) self.old.set self.new.set }
         ensures unread { OnRefused result (F.reads folder.new ≡ F.reads folder.old) }
     {
         self.commit(rt, alloc, folder, gate)?;
@@ -90,6 +95,8 @@ impl<const D: usize> Session<D> {
         ensures names { (c : CommitData) → self.now.commit ≡ Some c
             → IfOk result (λ s. (m : FileName) → is_named s.names.names m ≡ true → ListsFile c m) }
         ensures unchanged { (c : CommitData) → self.now.commit ≡ Some c → IfOk result (λ s. IsAsCommitted s c) }
+        ensures lives { IsTrue F.told → (c : CommitData) → self.now.commit ≡ Some c
+            → IfOk result (λ s. HaveLive (F.files folder.old) c (lives_of s.parts)) }
         ensures files { IsTrue F.told → F.files folder.new ≡ F.files folder.old }
         ensures cause { HasPageCause (F.faults folder.old) (F.faults folder.new) result }
         ensures whole { IsTrue F.told → self.now.refused ≡ false → Guards D (F.files folder.old) self.now

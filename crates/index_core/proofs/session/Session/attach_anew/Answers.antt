@@ -1,6 +1,8 @@
 -- The set is attached over the commit that the file says.
 use Rattle.std.proofs.Common.{subst, sym, ap, ◌∙◌}
 use Rattle.stored_index.specs.Kept.{ListsFile}
+use Rattle.stored_index.specs.Stored.{HaveLive}
+use Rattle.segment_view.specs.LiveSegments.{lives_of}
 use Rattle.segment_set.specs.Kept.{IsAsCommitted}
 use Rattle.index_core.specs.Sessions.{HasDims, SessionData}
 use Rattle.index_core.proofs.SetGuards.{guards_anew, says_last}
@@ -58,3 +60,8 @@ returns-clause-evident g c =
 pub returns-clause-traced : goal.returns-clause-traced
 returns-clause-traced g c told done guards = traced_anew _ _ _ c.attach.result (subst (HasDims g.row.D) c.in-Some.is c.self.invariant.has)
     (says_last _ _ _ _ c.self.view_is c.in-Some.is done guards) c.attach.ensures.commit c.attach.ensures.names (c.attach.ensures.live told)
+
+pub returns-clause-lives : goal.returns-clause-lives
+returns-clause-lives g c told last is = on_ok_each (λ s lives. subst (λ d. HaveLive (g.F.Pages.files c.args.folder.now) d (lives_of s.parts))
+    (some_same _ _ (sym c.in-Some.is ∙ ap (λ (u : SessionData). u.commit) c.self.view_is ∙ is)) lives)
+    c.attach.result (c.attach.ensures.live told)

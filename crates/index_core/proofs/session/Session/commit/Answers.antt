@@ -36,6 +36,7 @@ use Rattle.segment_set.specs.Faithful.{IsFaithful}
 use Rattle.index_opening.proofs.Evident.{none_evident}
 use Rattle.index_core.proofs.Arranging.{arranged_left, arranged_same, arranged_seen, arranged_swept, arranged_written}
 use Rattle.index_core.proofs.Lasting.{lasts_itself, loses_opened, saved_last, swept_last, written_last}
+use Rattle.index_core.proofs.Renewed.{swept_lives, unchanged_lives}
 use Rattle.index_core.proofs.session.Session.commit.Goals as goal
 use Rattle.segment_set.proofs.Saving.{cause_after}
 
@@ -68,6 +69,8 @@ returns-then-not-is_changed g c =
       flight = λ told guards. inl (kept_itself _);
       done = record {
         unchanged = unchanged;
+        lives = λ told guards last is.
+            unchanged_lives g.row.D _ _ unchanged (c.is_changed.ensures.sound c.if-not-is_changed.true) guards last is;
         anew = λ changed. absurd (changed unchanged);
         levels = λ changed none. absurd (changed unchanged);
         few = λ told guards none. inl refl;
@@ -270,6 +273,10 @@ returns g c =
           done = c.sweep.ensures.written.1;
           same = as_committed _ _ _ _ _ c.in_ok-commit.ensures.saves.commit c.in_ok-commit.ensures.emptied c.write.ensures.set c.sweep.ensures.rest;
         };
+        lives = λ told guards last is. swept_lives saved written swept c.save.new.self c.write.new.self.set c.sweep.new.self.set c.in_ok-commit.commit last
+            c.write.new.self.commit c.sweep.new.self.commit (c.in_ok-commit.ensures.saves.live told (covers guards)) (c.write.ensures.others told)
+            (c.in_ok-write.ensures.kept told) c.in_ok-write.ensures.written.0 (c.sweep.ensures.kept told (guarded told guards)) c.write.ensures.set
+            c.sweep.ensures.rest same is;
         anew = λ changed. subst (λ (u : SessionData). IsCommitAnew u c.sweep.new.self) c.self.view_is
             (commit_anew _ _ c.in_ok-commit.commit _ c.last_lines-last.ensures same c.in_ok-commit.ensures.saves.fresh c.in_ok-commit.ensures.saves.kept);
         levels = λ changed none. few none;

@@ -24,6 +24,9 @@ use Rattle.index_core.proofs.Showing.{damage_to, leaf_none, leaf_to}
 use Rattle.index_core.proofs.Keeping.{fault_keeps}
 use Rattle.index_core.proofs.Guarding.{grows_same}
 use Rattle.index_core.proofs.Arranging.{on_err_any}
+use Rattle.index_core.specs.Lasting.{Lasts}
+use Rattle.index_core.proofs.Lasting.{lasts_cache}
+use Rattle.index_core.proofs.Thinned.{AnyGoes, thinned_last}
 use Rattle.index_core.proofs.session.Session.delete_box.Goals as goal
 
 pub returns-in_err-hits-clause-applies : goal.returns-in_err-hits-clause-applies
@@ -159,3 +162,25 @@ returns-in_err-put_deleted-clause-left g c = on_err_any _ c.from_residual-in_err
 
 pub returns-in_default-clause-left : goal.returns-in_default-clause-left
 returns-in_default-clause-left g c = subst (λ (u : SessionData). StaysButCache u.set c.visit.new.self) c.self.view_is c.visit.ensures.rest
+
+pub returns-in_err-hits-clause-lasts : goal.returns-in_err-hits-clause-lasts
+returns-in_err-hits-clause-lasts g c told faithful =
+    subst (λ (u : SessionData). Lasts g.row.D AnyGoes (g.F.Pages.files c.args.folder.now) (g.F.Pages.files c.visit.new.folder) u.set c.visit.new.self)
+    c.self.view_is (lasts_cache _ _ _ _ _ _ c.visit.ensures.rest (c.visit.ensures.files told))
+
+pub returns-in_err-put_deleted-clause-lasts : goal.returns-in_err-put_deleted-clause-lasts
+returns-in_err-put_deleted-clause-lasts g c told faithful =
+    subst (λ (u : SessionData). Lasts g.row.D AnyGoes (g.F.Pages.files c.args.folder.now) (g.F.Pages.files c.visit.new.folder) u.set c.visit.new.self)
+    c.self.view_is (lasts_cache _ _ _ _ _ _ c.visit.ensures.rest (c.visit.ensures.files told))
+
+pub returns-in_default-clause-lasts : goal.returns-in_default-clause-lasts
+returns-in_default-clause-lasts g c told faithful =
+    subst (λ (u : SessionData). Lasts g.row.D AnyGoes (g.F.Pages.files c.args.folder.now) (g.F.Pages.files c.visit.new.folder) u.set c.visit.new.self)
+    c.self.view_is (lasts_cache _ _ _ _ _ _ c.visit.ensures.rest (c.visit.ensures.files told))
+
+pub returns-clause-lasts : goal.returns-clause-lasts
+returns-clause-lasts g c told faithful =
+    subst (λ (u : SessionData). Lasts g.row.D AnyGoes (g.F.Pages.files c.args.folder.now) (g.F.Pages.files c.visit.new.folder) u.set c.delete_all.new.self)
+    c.self.view_is
+    (thinned_last _ _ _ _ c.visit.new.self c.delete_all.new.self c.visit.ensures.rest c.delete_all.ensures.names c.delete_all.ensures.follows
+    c.leaf_size-leaf_size.ensures.well.named (c.visit.ensures.files told))

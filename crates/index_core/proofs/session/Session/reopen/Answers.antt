@@ -32,6 +32,10 @@ use Rattle.index_core.proofs.Closing.{as_same, guards_renamed, renamed, renew_na
 use Rattle.segment_set.specs.Kept.{IsAsCommitted}
 use Rattle.segment_set.specs.Sets.{SetData}
 use Rattle.index_core.proofs.Arranging.{on_err_any}
+use Rattle.index_core.specs.Lasting.{Lasts}
+use Rattle.index_core.proofs.Lasting.{NoneGoes}
+use Rattle.index_core.proofs.LosingNone.{lasts_then}
+use Rattle.index_core.proofs.Renewed.{attached_last}
 use Rattle.index_core.proofs.session.Session.reopen.Given as given
 use Rattle.index_core.proofs.session.Session.reopen.Goals as goal
 use Rattle.segment_set.proofs.Saving.{cause_after}
@@ -297,3 +301,29 @@ returns-in_err-set-clause-left g c = on_err_any _ c.from_residual-in_err-set.res
 
 pub returns-in_err-put_ok-clause-left : goal.returns-in_err-put_ok-clause-left
 returns-in_err-put_ok-clause-left g c = on_err_any _ c.from_residual-in_err-put_ok.result c.commit.ensures.arranged
+
+pub returns-in_err-set-clause-lasts : goal.returns-in_err-set-clause-lasts
+returns-in_err-set-clause-lasts g c told faithful guards =
+    subst (λ (f : Files). Lasts g.row.D NoneGoes (g.F.Pages.files c.args.folder.now) f c.args.self.now.set c.commit.new.self.set)
+    (sym (c.attach_anew.ensures.files told)) (c.commit.ensures.durable.lasts told faithful)
+
+pub returns-in_err-put_ok-clause-lasts : goal.returns-in_err-put_ok-clause-lasts
+returns-in_err-put_ok-clause-lasts g c told faithful guards =
+    subst (λ (f : Files). Lasts g.row.D NoneGoes (g.F.Pages.files c.args.folder.now) f c.args.self.now.set c.commit.new.self.set)
+    (sym (c.attach_anew.ensures.files told)) (c.commit.ensures.durable.lasts told faithful)
+
+pub returns-in_err-commit-clause-lasts : goal.returns-in_err-commit-clause-lasts
+returns-in_err-commit-clause-lasts g c told faithful guards = c.commit.ensures.durable.lasts told faithful
+
+pub returns-clause-lasts : goal.returns-clause-lasts
+returns-clause-lasts g c told faithful guards =
+    let last = c.in_ok-commit.ensures.done.unchanged in
+    let committed = g.F.Pages.files c.commit.new.folder in
+    subst (λ (f : Files). Lasts g.row.D NoneGoes (g.F.Pages.files c.args.folder.now) f c.args.self.now.set c.renew.new.self)
+    (sym (c.attach_anew.ensures.files told))
+    (lasts_then g.row.D NoneGoes (g.F.Pages.files c.args.folder.now) committed c.args.self.now.set c.commit.new.self.set
+    (c.commit.ensures.durable.lasts told faithful) NoneGoes NoneGoes committed c.renew.new.self (λ number gone. gone) (λ number gone. gone)
+    (attached_last g.row.D committed c.commit.new.self.set c.in_ok-set.set c.renew.new.self last.commit (ap (λ (u : SetData). u.parts) (kept g c))
+    (ap (λ (u : SetData). u.buffer) (kept g c)) last.same (c.in_ok-set.ensures.unchanged last.commit last.is)
+    (c.commit.ensures.stays.faithful told faithful).heads (c.in_ok-set.ensures.faithful told).heads
+    (c.in_ok-commit.ensures.done.lives told guards last.commit last.is) (c.in_ok-set.ensures.lives told last.commit last.is)))

@@ -170,13 +170,13 @@ returns-in-Add-clause-spares g c = rw c.in-Add.is (record {
   light = λ light. c.add.ensures.light;
   barred = c.add.ensures.barred;
   left = c.add.ensures.left;
-  lasts = c.add.ensures.lasts;
+  lasts = λ told faithful guards. c.add.ensures.lasts told faithful;
 })
 
 pub returns-in-DeleteBox-clause-spares : goal.returns-in-DeleteBox-clause-spares
 returns-in-DeleteBox-clause-spares g c = rw c.in-DeleteBox.is (spares_heavy _ _ _ _ _ _ _ _ _ c.delete_box.result refl (λ bad. bad) c.delete_box.ensures.reads
     c.delete_box.ensures.unread tt
-    (err_each (arranged_cache _ _ _ _ _) c.delete_box.result c.delete_box.ensures.left) (λ told faithful. tt))
+    (err_each (arranged_cache _ _ _ _ _) c.delete_box.result c.delete_box.ensures.left) (λ told faithful guards. c.delete_box.ensures.lasts told faithful))
 
 pub returns-in-Polygon-clause-spares : goal.returns-in-Polygon-clause-spares
 returns-in-Polygon-clause-spares g c = rw c.in-Polygon.is (record {
@@ -186,7 +186,7 @@ returns-in-Polygon-clause-spares g c = rw c.in-Polygon.is (record {
   light = λ light room. light_still _ _ _ _ _ _ c.find_in.ensures.still;
   barred = λ bad. absurd bad;
   left = still_left _ _ _ _ _ _ c.find_in.result c.find_in.ensures.still;
-  lasts = λ told faithful. lasts_still _ _ _ _ _ _ c.find_in.ensures.still told;
+  lasts = λ told faithful guards. lasts_still _ _ _ _ _ _ c.find_in.ensures.still told;
 })
 
 pub returns-in-Nearest-clause-spares : goal.returns-in-Nearest-clause-spares
@@ -197,7 +197,7 @@ returns-in-Nearest-clause-spares g c = rw c.in-Nearest.is (record {
   light = λ light room. light_still _ _ _ _ _ _ c.nearest.ensures.still;
   barred = λ bad. absurd bad;
   left = still_left _ _ _ _ _ _ c.nearest.result c.nearest.ensures.still;
-  lasts = λ told faithful. lasts_still _ _ _ _ _ _ c.nearest.ensures.still told;
+  lasts = λ told faithful guards. lasts_still _ _ _ _ _ _ c.nearest.ensures.still told;
 })
 
 pub returns-in-MergeEnd-clause-spares : goal.returns-in-MergeEnd-clause-spares
@@ -208,13 +208,13 @@ returns-in-MergeEnd-clause-spares g c = rw c.in-MergeEnd.is (record {
   light = λ light room. absurd cc;
   barred = c.merge_end.ensures.barred;
   left = err_each (arranged_before _ _ _ _ _) c.merge_end.result c.merge_end.ensures.left;
-  lasts = c.merge_end.ensures.lasts;
+  lasts = λ told faithful guards. c.merge_end.ensures.lasts told faithful;
 })
 
 pub returns-in-Commit-clause-spares : goal.returns-in-Commit-clause-spares
 returns-in-Commit-clause-spares g c = rw c.in-Commit.is (spares_heavy _ _ _ _ _ _ _ _ _ c.commit_line.result refl (λ bad. bad) c.commit_line.ensures.reads
     c.commit_line.ensures.unread tt
-    (on_err_any _ c.commit_line.result c.commit_line.ensures.arranged) c.commit_line.ensures.lasts)
+    (on_err_any _ c.commit_line.result c.commit_line.ensures.arranged) (λ told faithful guards. c.commit_line.ensures.lasts told faithful))
 
 pub returns-in-InBox-clause-spares : goal.returns-in-InBox-clause-spares
 returns-in-InBox-clause-spares g c = rw c.in-InBox.is (record {
@@ -226,54 +226,54 @@ returns-in-InBox-clause-spares g c = rw c.in-InBox.is (record {
   light = λ light room. light_still _ _ _ _ _ _ c.find.ensures.still;
   barred = λ bad. absurd bad;
   left = still_left _ _ _ _ _ _ c.find.result c.find.ensures.still;
-  lasts = λ told faithful. lasts_still _ _ _ _ _ _ c.find.ensures.still told;
+  lasts = λ told faithful guards. lasts_still _ _ _ _ _ _ c.find.ensures.still told;
 })
 
 pub returns-in-Blank-clause-spares : goal.returns-in-Blank-clause-spares
 returns-in-Blank-clause-spares g c = rw c.in-Blank.is
-    (spares_quiet _ _ _ _ _ _ _ _ refl (λ bad. bad) (still_same _ _ _) (λ light room. light_same _ _ _ _) tt (λ told faithful. lasts_itself _ _ _ _))
+    (spares_quiet _ _ _ _ _ _ _ _ refl (λ bad. bad) (still_same _ _ _) (λ light room. light_same _ _ _ _) tt (λ told faithful guards. lasts_itself _ _ _ _))
 
 pub returns-in-Create-clause-spares : goal.returns-in-Create-clause-spares
 returns-in-Create-clause-spares g c = rw c.in-Create.is
-    (spares_quiet _ _ _ _ _ _ _ _ refl (λ bad. bad) (still_same _ _ _) (λ light room. light_same _ _ _ _) tt (λ told faithful. lasts_itself _ _ _ _))
+    (spares_quiet _ _ _ _ _ _ _ _ refl (λ bad. bad) (still_same _ _ _) (λ light room. light_same _ _ _ _) tt (λ told faithful guards. lasts_itself _ _ _ _))
 
 pub returns-in-Delete-clause-spares : goal.returns-in-Delete-clause-spares
 returns-in-Delete-clause-spares g c = rw c.in-Delete.is (spares_quiet _ _ _ _ _ _ _ c.delete.result refl (λ bad. bad) tt
     (λ light room. light_told _ _ _ _ _ (c.delete.ensures.light _))
     (err_each (⊎_elim (λ same. inl (arranged_same _ _ _ _ _ (ap (λ (u : SessionData). u.set) same))) (λ gone. inr gone)) c.delete.result
     c.delete.ensures.left)
-    (λ told faithful. c.delete.ensures.lasts _))
+    (λ told faithful guards. c.delete.ensures.lasts _))
 
 pub returns-in-Snapshot-clause-spares : goal.returns-in-Snapshot-clause-spares
 returns-in-Snapshot-clause-spares g c = rw c.in-Snapshot.is (spares_quiet _ _ _ _ _ _ _ c.snapshot.result refl (λ bad. bad)
     (still_told _ _ _ _ _ (c.snapshot.ensures.still _)) (λ light room. light_told _ _ _ _ _ (c.snapshot.ensures.light _))
     (err_each (λ same. arranged_same _ _ _ _ _ (ap (λ (u : SessionData). u.set) same)) c.snapshot.result c.snapshot.ensures.left)
-    (λ told faithful. views_last _ _ _ _ c.snapshot.result _ c.snapshot.ensures.leaves (c.snapshot.ensures.still _) c.snapshot.ensures.left))
+    (λ told faithful guards. views_last _ _ _ _ c.snapshot.result _ c.snapshot.ensures.leaves (c.snapshot.ensures.still _) c.snapshot.ensures.left))
 
 pub returns-in-Release-clause-spares : goal.returns-in-Release-clause-spares
 returns-in-Release-clause-spares g c = rw c.in-Release.is (spares_quiet _ _ _ _ _ _ _ c.release.result refl (λ bad. bad)
     (still_told _ _ _ _ _ (c.release.ensures.still _)) (λ light room. light_told _ _ _ _ _ (c.release.ensures.light _))
     (err_each (λ same. arranged_same _ _ _ _ _ (ap (λ (u : SessionData). u.set) same)) c.release.result c.release.ensures.left)
-    (λ told faithful. views_last _ _ _ _ c.release.result _ c.release.ensures.leaves (c.release.ensures.still _) c.release.ensures.left))
+    (λ told faithful guards. views_last _ _ _ _ c.release.result _ c.release.ensures.leaves (c.release.ensures.still _) c.release.ensures.left))
 
 pub returns-in-Flush-clause-spares : goal.returns-in-Flush-clause-spares
 returns-in-Flush-clause-spares g c = rw c.in-Flush.is (spares_heavy _ _ _ _ _ _ _ _ _ c.flush.result refl (λ bad. bad) c.flush.ensures.reads
     c.flush.ensures.unread tt
-    c.flush.ensures.left c.flush.ensures.lasts)
+    c.flush.ensures.left (λ told faithful guards. c.flush.ensures.lasts told faithful))
 
 pub returns-in-Merge-clause-spares : goal.returns-in-Merge-clause-spares
 returns-in-Merge-clause-spares g c = rw c.in-Merge.is (spares_heavy _ _ _ _ _ _ _ _ _ c.merge.result refl (λ bad. bad) tt
     c.merge.ensures.unread tt
-    c.merge.ensures.left c.merge.ensures.lasts)
+    c.merge.ensures.left (λ told faithful guards. c.merge.ensures.lasts told faithful))
 
 pub returns-in-MergeBegin-clause-spares : goal.returns-in-MergeBegin-clause-spares
 returns-in-MergeBegin-clause-spares g c = rw c.in-MergeBegin.is (spares_heavy _ _ _ _ _ _ _ _ _ c.merge_begin.result refl (λ bad. bad) tt
     c.merge_begin.ensures.unread c.merge_begin.ensures.still
     (err_each (arranged_cache _ _ _ _ _) c.merge_begin.result c.merge_begin.ensures.left)
-    (λ told faithful. begun_lasts _ _ _ _ _ _ _ c.merge_begin.result c.merge_begin.ensures.leaves c.merge_begin.ensures.still c.merge_begin.ensures.left
+    (λ told faithful guards. begun_lasts _ _ _ _ _ _ _ c.merge_begin.result c.merge_begin.ensures.leaves c.merge_begin.ensures.still c.merge_begin.ensures.left
     c.merge_begin.ensures.files told))
 
 pub returns-in-Reopen-clause-spares : goal.returns-in-Reopen-clause-spares
 returns-in-Reopen-clause-spares g c = rw c.in-Reopen.is (spares_heavy _ _ _ _ _ _ _ _ _ c.reopen.result refl (λ bad. bad) tt
     c.reopen.ensures.unread tt
-    c.reopen.ensures.left (λ told faithful. tt))
+    c.reopen.ensures.left (λ told faithful guards. c.reopen.ensures.lasts told faithful (guards refl)))
