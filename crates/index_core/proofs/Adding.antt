@@ -8,8 +8,6 @@ use Rattle.std.specs.Cmp.Lexicographic.{lists_total, slice_cmp}
 use Rattle.std.specs.FinMap.{empty, entries, entries-insert, len-empty, len-entries}
 use Rattle.std.specs.FinMap.Entries.{put}
 use Rattle.std.proofs.lemmas.Cmp.{int_cmp_total}
-use Rattle.std.proofs.lemmas.Bool.{both_ways}
-use Rattle.std.proofs.lemmas.List.Elements.{All-head}
 use Rattle.std.proofs.lemmas.List.Sums.{fold-append}
 use Rattle.std.proofs.lemmas.List.{length-append, length-map, length-take-le, map-append, take_all, take_more}
 use Rattle.outer_io.specs.Files.{Files}
@@ -22,12 +20,8 @@ use Rattle.point_codec.specs.Order.{in_order}
 use Rattle.point_codec.specs.Points.{ordered_points}
 use Rattle.point_codec.specs.Seen.{coordinates_of}
 use Rattle.point_codec.specs.declared.coordinates.Point.{Point}
-use Rattle.file_names.specs.Names.{NameList, is_named}
-use Rattle.file_names.proofs.Listed.{is_named-none}
-use Rattle.outer_io.specs.declared.file_name.FileName.TheVariants.{Segment}
 use Rattle.index_model.specs.State.{Index}
 use Rattle.stored_index.proofs.KeptFiles.{kept_after, kept_itself}
-use Rattle.segment_view.specs.LiveSegments.{LiveSegment}
 use Rattle.segment_set.specs.Sets.{IsNamed, SetData}
 use Rattle.segment_set.specs.Seen.{Sees}
 use Rattle.segment_set.specs.Kept.{AreCanonical, Follows, KeepsNamed, StaysButCache}
@@ -38,12 +32,15 @@ use Rattle.index_opening.proofs.Evident.{on_evident_less}
 use Rattle.segment_set.specs.Faults.{HasCauseOf, OnAddDamage}
 use Rattle.segment_set.specs.declared.faults.AddFault.{AddFault}
 use Rattle.segment_set.specs.declared.faults.AddFault.TheVariants as add
+use Rattle.index_core.specs.Lasting.{Lasts}
 use Rattle.index_core.specs.Sessions.{Guards, SessionData, Trusts}
 use Rattle.index_core.specs.Whole.{Adds, SessionMoment, add_result, with_point, with_points}
 use Rattle.index_core.proofs.Answering.{no_cause}
 use Rattle.index_core.proofs.FaultCauses.{fault_to, memory_cause}
 use Rattle.index_core.proofs.Bringing.{brings_same, brings_then, brings_written}
 use Rattle.index_core.proofs.Guarding.{Grows, grows_like, guards_after, kept_after_calls}
+use Rattle.index_core.proofs.Lasting.{NoneGoes, lasts_itself}
+use Rattle.index_core.proofs.LosingNone.{lasts_then}
 use Rattle.index_core.proofs.Tracing.{traced_by, traced_shows}
 use Rattle.segment_set.proofs.Rearranged.{empty_list}
 use Rattle.segment_set.proofs.Saving.{cause_after}
@@ -56,6 +53,7 @@ adds_none D told at x = record {
   points_given = omega arith;
   stays = record { guards = λ t guards. guards; faithful = λ t faithful. faithful; traced = λ t trusts. trusts.traced };
   kept = λ t guards. kept_itself at.files;
+  lasts = λ t faithful. lasts_itself D NoneGoes at.files at.session.set;
   canon = λ t. brings_same D at.files at.files at.session.set.parts at.session.set.parts refl refl;
   faults = record { cause = no_cause at.faults x; whole = λ t i seen. tt; evident = tt };
 }
@@ -72,6 +70,7 @@ adds_no_memory D told points at = record {
   points_given = tt;
   stays = record { guards = λ t guards. guards; faithful = λ t faithful. faithful; traced = λ t trusts. trusts.traced };
   kept = λ t guards. kept_itself at.files;
+  lasts = λ t faithful. lasts_itself D NoneGoes at.files at.session.set;
   canon = λ t. brings_same D at.files at.files at.session.set.parts at.session.set.parts refl refl;
   faults = record { cause = memory_cause at.faults at.faults (omega arith); whole = λ t i seen. tt; evident = tt };
 }
@@ -89,6 +88,8 @@ adds_then D told xs ys a b c x r first second = record {
     traced = λ t trusts. second.stays.traced t (trusts_then t trusts);
   };
   kept = λ t guards. kept_after a.files b.files c.files (first.kept t guards) (second.kept t (first.stays.guards t guards));
+  lasts = λ t faithful. lasts_then D NoneGoes a.files b.files a.session.set b.session.set (first.lasts t faithful) NoneGoes NoneGoes c.files c.session.set
+      (λ number goes. goes) (λ number goes. goes) (second.lasts t (first.stays.faithful t faithful));
   canon = λ t. brings_then D a.files b.files c.files a.session.set.parts b.session.set.parts c.session.set.parts (first.canon t) (second.canon t);
   faults = record {
     cause = cause_after a.faults b.faults c.faults r first.faults.cause.on_ok second.faults.cause;
@@ -111,6 +112,7 @@ adds_stopped {T = T} {U = U} D told xs ys a b fault r is adds = subst (Adds D to
   points_given = tt;
   stays = adds.stays;
   kept = adds.kept;
+  lasts = adds.lasts;
   canon = adds.canon;
   faults = record {
     cause = fault_to a.faults b.faults fault adds.faults.cause;
@@ -135,6 +137,7 @@ pub record IsPut (D : ℕ) (told : Type 0) (point : List ℤ) (old new : Session
   pub follows : Follows old.session.set.names old.session.set.parts new.session.set.parts
   pub named : All (IsNamed old.session.set.names) old.session.set.parts
   pub second : told → AreCanonical D new.files old.session.set.names new.session.set.parts
+  pub lasts : told → IsFaithful D old.files old.session.set → Lasts D NoneGoes old.files new.files old.session.set new.session.set
   pub seen : told → (i : Index) → Sees D old.files old.session.set i → OnOk r (Sees D new.files new.session.set (with_point i point))
   pub points_given : OnOk r (new.session.set.points_given ≡ old.session.set.points_given + 1)
   pub cause : HasCauseOf add.Failed old.faults new.faults r
@@ -174,6 +177,7 @@ adds_one D told point old new r put = record {
     traced = λ t trusts. traced_by D told old.files new.files old.session new.session.set t put.keeps put.follows (put.second t) trusts;
   };
   kept = λ t guards. kept_after_calls D told old.files new.files old.session.set new.session.set.names t put.keeps guards.set;
+  lasts = put.lasts;
   canon = λ t. brings_written D told old.files new.files old.session.set.names new.session.set.names old.session.set.parts new.session.set.parts t put.keeps
       put.follows (put.second t);
   faults = record {
@@ -281,12 +285,3 @@ pub guards_same : (D : ℕ) (files : Files) (s u : SessionData) (t : SetData) �
 guards_same D files s u t is names grows follows guards =
     guards_after D (Unit {0}) files files u (record { set = t; commit = u.commit; refused = u.refused }) tt refl refl
     (keeps_calm (Unit {0}) u.set.names t.names files files names (λ told. refl)) follows grows (subst (Guards D files) (sym is) guards)
-
--- ---- a new set
-
--- segments whose files are all in an empty list of names are none
-pub bare_parts : (names : NameList) (parts : List LiveSegment) → names ≡ record { names = []; next_segment = 0 } → All (IsNamed names) parts → parts ≡ []
-bare_parts names [] is all = refl
-bare_parts names (p ∷ ps) is all =
-    absurd (both_ways (is_named [] (Segment p.head.id)) (is_named-none (Segment p.head.id))
-    (subst (λ (n : NameList). IsNamed n p) is (All-head (IsNamed names) p ps all)))

@@ -1,8 +1,11 @@
 -- The set of a commit that the Commit file says guards it.
-use Rattle.std.proofs.Common.{◌≡◌, ◌↔◌, ℕ, true, false, List, [], ◌∷◌, length, map, Option, Some, Result, Ok, Err, IfOk, sym, ap, subst, ◌∙◌, inr, arith}
+use Rattle.std.proofs.Common.{◌≡◌, ◌↔◌, ℕ, true, false, List, [], ◌∷◌, All, length, map, Option, Some, Result, Ok, Err, IfOk, refl, sym, ap, subst, ◌∙◌}
+use Rattle.std.proofs.Common.{inr, arith}
 use Rattle.std.specs.List.{AllZip}
+use Rattle.std.proofs.lemmas.Bool.{both_ways}
+use Rattle.std.proofs.lemmas.List.Elements.{All-head}
 use Rattle.outer_io.specs.declared.file_name.FileName.{FileName}
-use Rattle.outer_io.specs.declared.file_name.FileName.TheVariants.{Commit}
+use Rattle.outer_io.specs.declared.file_name.FileName.TheVariants.{Commit, Segment}
 use Rattle.outer_io.specs.Files.{Files, bytes_of}
 use Rattle.commit_list.specs.declared.listed.Listed.{Listed}
 use Rattle.commit_list.specs.Commits.{CommitData}
@@ -10,8 +13,9 @@ use Rattle.commit_list.specs.CommitFiles.{IsCommitFile}
 use Rattle.stored_index.specs.Kept.{ListsFile}
 use Rattle.stored_index.specs.Stored.{HasLive, HaveLive}
 use Rattle.segment_view.specs.LiveSegments.{LiveSegment, lives_of}
-use Rattle.file_names.specs.Names.{is_named}
-use Rattle.segment_set.specs.Sets.{SetData}
+use Rattle.file_names.specs.Names.{NameList, is_named}
+use Rattle.file_names.proofs.Listed.{is_named-none}
+use Rattle.segment_set.specs.Sets.{IsNamed, SetData}
 use Rattle.segment_set.specs.Kept.{IsAtRest}
 use Rattle.index_core.specs.Sessions.{Guards, IsLast, SessionData}
 use Rattle.segment_set.proofs.Covered.{IsListedAs}
@@ -72,3 +76,12 @@ pub guards_anew : {E : Type 0} (D : ℕ) (files : Files) (s u : SessionData) (c 
 guards_anew D files s u c (Ok t) same is dims says rest names lives =
     guards_attached D files (record s { set = t }) c (ap (λ (v : SessionData). v.commit) (sym same) ∙ is) dims says rest names lives
 guards_anew D files s u c (Err e) same is dims says rest names lives = tt
+
+-- ---- a new set
+
+-- segments whose files are all in an empty list of names are none
+pub bare_parts : (names : NameList) (parts : List LiveSegment) → names ≡ record { names = []; next_segment = 0 } → All (IsNamed names) parts → parts ≡ []
+bare_parts names [] is all = refl
+bare_parts names (p ∷ ps) is all =
+    absurd (both_ways (is_named [] (Segment p.head.id)) (is_named-none (Segment p.head.id))
+    (subst (λ (n : NameList). IsNamed n p) is (All-head (IsNamed names) p ps all)))

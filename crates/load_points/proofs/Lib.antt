@@ -1,3 +1,4 @@
 pub mod Counted
 pub mod Loading
+pub mod Opening
 pub mod LoadAnswers

@@ -1,6 +1,5 @@
 -- What a load answers, by what its calls answered.
 use Rattle.std.proofs.Common.{◌≡◌, ◌+◌, ◌++◌, ℕ, Bool, List, [], length, None, Result, Ok, Err, refl, sym, ap, subst, ◌∙◌, inl, ℤ}
-use Rattle.std.specs.List.{Contains}
 use Rattle.outer_io.specs.declared.file_name.FileName.TheVariants.{Commit}
 use Rattle.outer_io.specs.Files.{Files, bytes_of}
 use Rattle.page_cache.specs.declared.faults.PageFault.{PageFault}
@@ -12,18 +11,17 @@ use Rattle.commit_list.proofs.CommitPages.{one_file}
 use Rattle.index_model.specs.State.{Index, State}
 use Rattle.index_model.specs.Script.{Answer}
 use Rattle.stored_index.specs.Stored.{IsStored}
-use Rattle.documents.proofs.Lists.{nil_none}
-use Rattle.segment_view.specs.LiveSegments.{LiveSegment}
 use Rattle.index_opening.specs.Evidence.{IsEvident, IsTwice}
-use Rattle.segment_set.specs.Faithful.{IsFaithful}
 use Rattle.index_opening.proofs.Evident.{on_commit_evident, on_evident_at, on_evident_less}
-use Rattle.index_core.specs.Sessions.{AreTraced, Guards, IsTraced, SessionData, Trusts}
+use Rattle.index_core.specs.Sessions.{SessionData}
 use Rattle.csv_load.specs.Loading.{points_of, records_of}
 use Rattle.csv_load.specs.declared.CsvFault.{CsvFault}
 use Rattle.load_points.specs.Loaded.{dims_text, load_answer, loaded_by, loaded_text, columns_answer, refusal}
 use Rattle.load_points.specs.Loads.{HasIndexDims, IsLoading, Loads, LoadMoment, StartsFrom, StartsNone}
 use Rattle.load_points.proofs.Counted.{loaded_fault, loaded_points, matched_not}
 use Rattle.index_core.proofs.Brought.{commit_equal}
+use Rattle.index_core.proofs.Lasting.{NoneGoes}
+use Rattle.index_core.proofs.LosingNone.{keeps_same}
 use Rattle.index_core.proofs.Undone.{fault_kept, kept_equal}
 use Rattle.load_points.proofs.Loading.{Starting, loads_fault, loads_as, loads_told}
 
@@ -59,6 +57,7 @@ unread_commit {T = T} told answer old new fault r is same whole cause damage sho
     (on_evident_at {X = T} IsTwice told (told × Unit {0}) old.files new.files (Err fault) (λ h. h.0) (λ h. same h.0)
     (on_commit_evident {X = T} told old.files (Err fault) damage shown))
     (λ t h. fault_kept old.files new.files (kept_equal old.files new.files (same t)) fault) (λ t h. commit_equal old.files new.files (same t))
+    (λ t h. keeps_same NoneGoes old.files new.files (kept_equal old.files new.files (same t)))
 
 -- a damage of files that are the same
 pub evident_still : (told trusts : Type 0) (old new : Files) (fault : PageFault) → (told → new ≡ old) → FaultShows (IsEvident (told × trusts) old) fault
@@ -70,21 +69,6 @@ evident_still told trusts old new fault same evident =
 pub evident_all : (told : Type 0) (files : Files) (r : Result Bool PageFault) → OnDamage r (IsEvident (told × Unit {0}) files)
     → OnDamage r (IsEvident told files)
 evident_all told files r = on_evident_less (told × Unit {0}) told files r (λ t. (t, tt))
-
--- where it starts the files are trusted, where what a session is made of is so; it has no segment
-pub made_trusts : (D : ℕ) (files : Files) (s : SessionData) → (files Commit ≡ None → Guards D files s) → IsFaithful D files s.set → s.set.parts ≡ []
-    → files Commit ≡ None → Trusts D files s
-made_trusts D files s guards faithful bare none = record {
-  guards = guards none;
-  faithful = faithful;
-  traced = λ p there. nil_none p (IsTraced D files p) (subst (λ (ps : List LiveSegment). Contains ps p) bare there);
-}
-
--- where the files are the same, a session that is trusted there is so still
-pub trusts_still : (D : ℕ) (old new : Files) (s : SessionData) → new ≡ old → Guards D old s → IsFaithful D old s.set → AreTraced D old s.set.parts
-    → Trusts D new s
-trusts_still D old new s same guards faithful traced =
-    subst (λ (f : Files). Trusts D f s) (sym same) (record { guards = guards; faithful = faithful; traced = traced })
 
 pub none_keeps : (files : Files) (stored : State) → StartsNone files stored → IsStored files stored
 none_keeps files stored (none, absent) = subst (IsStored files) (sym none) absent

@@ -11,32 +11,29 @@ use Rattle.page_cache.specs.Evidence.{NotDamaged, OnDamage}
 use Rattle.commit_list.specs.declared.listed.Listed.{Listed}
 use Rattle.commit_list.specs.Commits.{CommitData}
 use Rattle.commit_list.specs.CommitFiles.{IsCommitFile}
-use Rattle.commit_list.proofs.CommitPages.{file_there}
-use Rattle.index_model.specs.State.{Index, State, at_rest, new_index}
+use Rattle.index_model.specs.State.{Index, State, at_rest}
 use Rattle.index_model.specs.Script.{Answer}
-use Rattle.script_lang.specs.Reading.{greatest_leaf}
 use Rattle.script_lang.specs.Replies.{text_line}
-use Rattle.stored_index.specs.Stored.{IsStored, index_of}
+use Rattle.stored_index.specs.Stored.{IsStored}
 use Rattle.stored_index.proofs.KeptFiles.{kept_itself, stored_still}
-use Rattle.stored_index.proofs.Whole.{held_for}
-use Rattle.documents.proofs.Lists.{nil_none}
-use Rattle.segment_view.specs.LiveSegments.{LiveSegment}
-use Rattle.segment_set.specs.Seen.{Sees}
 use Rattle.index_opening.specs.Evidence.{IsEvident}
 use Rattle.index_opening.proofs.Evident.{on_evident_less}
 use Rattle.index_core.specs.Brought.{KeepsCommit}
-use Rattle.index_core.specs.Sessions.{Guards, IsUnchanged, SessionData, Trusts}
+use Rattle.index_core.specs.KeptLive.{KeepsLive}
+use Rattle.index_core.specs.Sessions.{SessionData, Trusts}
 use Rattle.index_core.specs.Light.{KeepsLevels}
 use Rattle.index_core.specs.Steps.{FaultKeeps, KeepsUndone}
 use Rattle.index_core.specs.Whole.{Adds, DoesWhole, HasNewCanonical, IsNewSegment, SessionMoment, with_point, with_points}
 use Rattle.index_core.proofs.Answering.{no_cause}
 use Rattle.index_core.proofs.FaultCauses.{fault_to, memory_cause}
 use Rattle.load_points.specs.Loaded.{full_text, loaded_text, columns_answer, opened_state, refusal}
-use Rattle.load_points.specs.Loads.{IsLoading, Loads, LoadMoment, StartsFrom, StartsNone}
+use Rattle.load_points.specs.Loads.{HasKept, IsLoading, Loads, LoadMoment}
 use Rattle.load_points.proofs.Counted.{added_is, done_answer, full_is, matched_is, rest_done}
 use Rattle.index_core.proofs.Bringing.{brings_then}
 use Rattle.index_core.proofs.Brought.{commit_after, commit_itself}
-use Rattle.index_core.proofs.Listed.{attached_listed, new_canonical}
+use Rattle.index_core.proofs.Lasting.{NoneGoes}
+use Rattle.index_core.proofs.Listed.{new_canonical}
+use Rattle.index_core.proofs.LosingNone.{found_keeps, keeps_same, kept_then, own_keeps}
 use Rattle.index_core.proofs.Undone.{begins_none, fault_kept, levels_after, undone_after}
 use Rattle.index_core.proofs.Wholes.{CommitSays, does_fault}
 use Rattle.segment_set.proofs.Saving.{cause_after}
@@ -53,8 +50,8 @@ pub loads_fault : {T : Type 0} (told trusts : Type 0) (Starts : Starting) (answe
     → (told → (stored : State) → Starts stored → NotDamaged {T = T} (Err fault))
     → HasPageCause {T = T} old.faults new.faults (Err fault) → OnDamage {T = T} (Err fault) (IsEvident (told × trusts) new.files)
     → (told → trusts → FaultKeeps old.files new.files fault) → (told → trusts → KeepsCommit old.files new.files)
-    → Loads told trusts Starts answer old new r
-loads_fault {T = T} told trusts Starts answer old new fault r is stored whole cause evident undone lasting =
+    → (told → trusts → KeepsLive NoneGoes old.files new.files) → Loads told trusts Starts answer old new r
+loads_fault {T = T} told trusts Starts answer old new fault r is stored whole cause evident undone lasting lasts =
     subst (Loads told trusts Starts answer old new) (sym is) (record {
       does = λ t state h. does_fault new.files state (answer state) old.text new.text fault (other fault (whole t state h)) (stored t state h);
       unchanged = λ t. tt;
@@ -62,6 +59,7 @@ loads_fault {T = T} told trusts Starts answer old new fault r is stored whole ca
       levels = λ t state h. tt;
       undone = undone;
       lasting = lasting;
+      lasts = lasts;
       cause = fault_to old.faults new.faults fault cause;
       evident = evident;
     })
@@ -79,6 +77,7 @@ pub loads_no_memory : (told trusts : Type 0) (Starts : Starting) (answer : State
 loads_no_memory told trusts Starts answer files faults before after r is keeps =
     loads_fault {T = Bool} told trusts Starts answer _ _ page.Memory r is (λ t state h. inl (keeps state h)) (λ t state h. tt)
     (memory_cause faults faults (omega arith)) tt (λ t h. inl (kept_itself files)) (λ t h. commit_itself files)
+    (λ t h. keeps_same NoneGoes files files (kept_itself files))
 
 -- ---- refusals
 
@@ -94,6 +93,7 @@ loads_refused told trusts Starts answer files faults before after cause grew kee
   levels = λ t state h. inl refl;
   undone = λ t h. tt;
   lasting = λ t h. commit_itself files;
+  lasts = λ t h. keeps_same NoneGoes files files (kept_itself files);
   cause = no_cause faults true;
   evident = tt;
 }
@@ -116,6 +116,7 @@ loads_as told trusted trusts From Starts other answer old new r more starts same
   levels = λ t state h. loads.levels t state (starts state h);
   undone = λ t h. loads.undone t (more h);
   lasting = λ t h. loads.lasting t (more h);
+  lasts = λ t h. loads.lasts t (more h);
   cause = loads.cause;
   evident = on_evident_less (told × trusts) (told × trusted) new.files r (λ h. (h.0, more h.1)) loads.evident;
 }
@@ -130,6 +131,7 @@ loads_told told trusts Starts answer old new r loads = record {
   levels = λ t. loads.levels tt;
   undone = λ t h. loads.undone tt h;
   lasting = λ t h. loads.lasting tt h;
+  lasts = λ t h. loads.lasts tt h;
   cause = loads.cause;
   evident = on_evident_less (Unit {0} × trusts) (told × trusts) new.files r (λ h. (tt, h.1)) loads.evident;
 }
@@ -147,44 +149,9 @@ loads_after told trusted trusts From Starts answer old middle new x r same text 
   levels = λ t state h. subst (λ (f : Files). OnOk r (KeepsLevels f new.files)) (same t) (loads.levels t state (starts t state h));
   undone = λ t h. subst (λ (f : Files). KeepsUndone f new.files r) (same t) (loads.undone t (more t h));
   lasting = λ t h. subst (λ (f : Files). KeepsCommit f new.files) (same t) (loads.lasting t (more t h));
+  lasts = λ t h. subst (λ (f : Files). KeepsLive NoneGoes f new.files) (same t) (loads.lasts t (more t h));
   cause = cause_after old.faults middle.faults new.faults r cause.on_ok loads.cause;
   evident = on_evident_less (told × trusts) (told × trusted) new.files r (λ h. (h.0, more h.0 h.1)) loads.evident;
-}
-
--- ---- a session is opened
-
--- a folder without a Commit file stores no index, and one whose Commit file says a commit stores one
-pub none_stored : (files : Files) (state : State) → files Commit ≡ None → IsStored files state → StartsNone files state
-none_stored files None none h = (refl, none)
-none_stored files (Some i) none h = absurd (let there = (file_there (files Commit) h.commit h.holds.commit).0 in cc)
-
-pub some_stored : (files : Files) (c : CommitData) (state : State) → IsCommitFile (bytes_of (files Commit)) c → IsStored files state → StartsFrom files c state
-some_stored files c state says h =
-    let held = held_for files c state h says in
-    (says, (index_of c held.0, held.2, subst (IsStored files) held.2 h))
-
-pub made_loading : (D leaf_size : ℕ) (files : Files) (s : SessionData) (stored : State) → leaf_size ≡ greatest_leaf D
-    → Sees D files s.set (new_index D leaf_size) → (files Commit ≡ None → Guards D files s)
-    → s.set.parts ≡ [] → StartsNone files stored → IsLoading D files s stored
-made_loading D leaf_size files s stored is seen guards bare (none, absent) = record {
-  index = new_index D leaf_size;
-  seen = seen;
-  guards = guards absent;
-  keeps = subst (IsStored files) (sym none) absent;
-  is = ap (opened_state D) none ∙ ap (λ n. Some (new_index D n)) (sym is);
-  listed = λ p there apart. nil_none p ⊥ (subst (λ (ps : List LiveSegment). Contains ps p) bare there);
-}
-
-pub attached_loading : (D : ℕ) (files : Files) (c : CommitData) (s : SessionData) (stored : State)
-    → ((i : Index) → IsStored files (Some i) → Sees D files s.set i) → Guards D files s → IsUnchanged s
-    → StartsFrom files c stored → IsLoading D files s stored
-attached_loading D files c s stored seen guards unchanged (says, (i, is, holds)) = record {
-  index = i;
-  seen = seen i holds;
-  guards = guards;
-  keeps = subst (IsStored files) (sym is) holds;
-  is = ap (opened_state D) is;
-  listed = attached_listed D files s guards unchanged;
 }
 
 -- what is stored is at rest, and so is a new index
@@ -229,26 +196,38 @@ adds_trusts : {T : Type 0} (D : ℕ) (told : Type 0) (points : List (List ℤ)) 
 adds_trusts D told points a b r adds t trusts =
     record { guards = adds.stays.guards t trusts.guards; faithful = adds.stays.faithful t trusts.faithful; traced = adds.stays.traced t trusts }
 
+-- and what was kept live is so after the commit, whatever it answers
+commit_keeps : {T U : Type 0} (D : ℕ) (told : Type 0) (points : List (List ℤ)) (a b c : SessionMoment) (x : U) (r : Result T PageFault)
+    → Adds D told points a b (Ok x) → CommitSays D told b c r → told → HasKept D a.files a.session → KeepsLive NoneGoes a.files c.files
+commit_keeps D told points a b c x r adds commits t h = found_keeps D NoneGoes a.files c.files a.session.set h.finds
+    (kept_then D NoneGoes NoneGoes NoneGoes a.files b.files c.files a.session.set b.session.set (λ number goes. goes) (λ number goes. goes)
+    (adds.lasts t h.trusts.faithful) (inl (adds.kept t h.trusts.guards))
+    (own_keeps D told b.files c.files b.session.set (adds.stays.faithful t h.trusts.faithful)
+    (commits.durable.own t (adds.stays.guards t h.trusts.guards))))
+
 -- a fault while they are added: what was stored is
 pub adding_stopped : {T : Type 0} (D : ℕ) (told : Type 0) (answer : State → Answer) (points : List (List ℤ)) (a b : SessionMoment) (before after : List ℕ)
     (fault : PageFault) (r : Result Bool PageFault) → r ≡ Err fault
     → Adds {T = T} D told points a b (Err fault)
-    → Loads told (Trusts D a.files a.session) (IsLoading D a.files a.session) answer (record { files = a.files; faults = a.faults; text = before })
+    → Loads told (HasKept D a.files a.session) (IsLoading D a.files a.session) answer (record { files = a.files; faults = a.faults; text = before })
     (record { files = b.files; faults = b.faults; text = after }) r
 adding_stopped {T = T} D told answer points a b before after fault r is adds =
-    loads_fault told (Trusts D a.files a.session) (IsLoading D a.files a.session) answer _ _ fault r is
+    loads_fault told (HasKept D a.files a.session) (IsLoading D a.files a.session) answer _ _ fault r is
     (λ t stored l. inl (stored_still a.files b.files stored (adds.kept t l.guards) l.keeps))
-    (λ t stored l. adds.faults.whole t l.index l.seen) adds.faults.cause adds.faults.evident (λ t h. fault_kept a.files b.files (adds.kept t h.guards) fault)
-    (λ t h. inl (adds.kept t h.guards))
+    (λ t stored l. adds.faults.whole t l.index l.seen) adds.faults.cause
+    (on_evident_less {X = T} (told × Trusts D a.files a.session) (told × HasKept D a.files a.session) b.files (Err fault) (λ h. (h.0, h.1.trusts))
+    adds.faults.evident)
+    (λ t h. fault_kept a.files b.files (adds.kept t h.trusts.guards) fault) (λ t h. inl (adds.kept t h.trusts.guards))
+    (λ t h. keeps_same NoneGoes a.files b.files (adds.kept t h.trusts.guards))
 
 -- a fault of the commit after them: what was stored is, or all of it
 pub commit_stopped : {T U : Type 0} (D : ℕ) (told : Type 0) (points : List (List ℤ)) (a b c : SessionMoment) (x : U) (before after : List ℕ) (fault : PageFault)
     (r : Result Bool PageFault) → r ≡ Err fault
     → a.session.set.points_given + length points ≤ 2 ^ 24 → Adds D told points a b (Ok x) → CommitSays {T = T} D told b c (Err fault)
-    → Loads told (Trusts D a.files a.session) (IsLoading D a.files a.session) (λ stored. columns_answer D stored points)
+    → Loads told (HasKept D a.files a.session) (IsLoading D a.files a.session) (λ stored. columns_answer D stored points)
     (record { files = a.files; faults = a.faults; text = before }) (record { files = c.files; faults = c.faults; text = after }) r
 commit_stopped {T = T} D told points a b c x before after fault r is fits adds commits =
-    loads_fault told (Trusts D a.files a.session) (IsLoading D a.files a.session) _ _ _ fault r is
+    loads_fault told (HasKept D a.files a.session) (IsLoading D a.files a.session) _ _ _ fault r is
     (λ t stored l. ⊎_elim
     (λ same. inl (stored_still b.files c.files stored same (stored_still a.files b.files stored (adds.kept t l.guards) l.keeps)))
     (λ there. inr (subst (IsStored c.files) (sym (ap (λ (n : Answer). n.state) (fitting D a.files a.session stored points l fits)))
@@ -256,16 +235,19 @@ commit_stopped {T = T} D told points a b c x before after fault r is fits adds c
     (commits.durable.stored t (with_points l.index points) (adds.seen t l.index l.seen) (adds.stays.guards t l.guards)))
     (λ t stored l. commits.faults.whole t (with_points l.index points) (adds.seen t l.index l.seen))
     (cause_after a.faults b.faults c.faults (Err fault) adds.faults.cause.on_ok commits.faults.cause)
-    (on_evident_less {X = T} (told × Trusts D b.files b.session) (told × Trusts D a.files a.session) c.files (Err fault)
-    (λ h. (h.0, adds_trusts D told points a b (Ok x) adds h.0 h.1)) commits.faults.evident)
-    (λ t h. undone_after {T = T} a.files b.files c.files (Err fault) (adds.kept t h.guards) (commits.durable.undone t (adds.stays.guards t h.guards)))
-    (λ t h. commit_after a.files b.files c.files (adds.kept t h.guards) (commits.durable.lasting t (adds_trusts D told points a b (Ok x) adds t h)))
+    (on_evident_less {X = T} (told × Trusts D b.files b.session) (told × HasKept D a.files a.session) c.files (Err fault)
+    (λ h. (h.0, adds_trusts D told points a b (Ok x) adds h.0 h.1.trusts)) commits.faults.evident)
+    (λ t h. undone_after {T = T} a.files b.files c.files (Err fault) (adds.kept t h.trusts.guards)
+    (commits.durable.undone t (adds.stays.guards t h.trusts.guards)))
+    (λ t h. commit_after a.files b.files c.files (adds.kept t h.trusts.guards)
+    (commits.durable.lasting t (adds_trusts D told points a b (Ok x) adds t h.trusts)))
+    (λ t h. commit_keeps {T = T} D told points a b c x (Err fault) adds commits t h)
 
 -- all came, and are stored
 pub all_loaded : {T U : Type 0} (D : ℕ) (told : Type 0) (points : List (List ℤ)) (a b c : SessionMoment) (x : U) (y : T) (next : ℕ) (before after : List ℕ)
     → a.session.set.points_given + length points ≤ 2 ^ 24 → next ≡ a.session.set.next → after ≡ before ++ loaded_text (length points) (next + length points)
     → Adds D told points a b (Ok x) → CommitSays D told b c (Ok y)
-    → Loads told (Trusts D a.files a.session) (IsLoading D a.files a.session) (λ stored. columns_answer D stored points)
+    → Loads told (HasKept D a.files a.session) (IsLoading D a.files a.session) (λ stored. columns_answer D stored points)
     (record { files = a.files; faults = a.faults; text = before }) (record { files = c.files; faults = c.faults; text = after }) (Ok false)
 all_loaded D told points a b c x y next before after fits first grew adds commits = record {
   does = λ t stored l.
@@ -289,7 +271,9 @@ all_loaded D told points a b c x y next before after fits first grew adds commit
       (points_begun l.index points ∙ ap (λ (i : Index). i.begun) (sym (loading_rests D a.files a.session stored l))) in
       levels_after a.files b.files c.files (adds.kept t l.guards) (commits.done.few t (adds.stays.guards t l.guards) begun);
   undone = λ t h. tt;
-  lasting = λ t h. commit_after a.files b.files c.files (adds.kept t h.guards) (commits.durable.lasting t (adds_trusts D told points a b (Ok x) adds t h));
+  lasting = λ t h. commit_after a.files b.files c.files (adds.kept t h.trusts.guards)
+      (commits.durable.lasting t (adds_trusts D told points a b (Ok x) adds t h.trusts));
+  lasts = λ t h. commit_keeps D told points a b c x (Ok y) adds commits t h;
   cause =
       let one = adds.faults.cause.on_ok in
       let two = commits.faults.cause.on_ok in

@@ -14,7 +14,8 @@ use Rattle.segment_view.specs.LiveSegments.{LiveSegment}
 use Rattle.segment_set.specs.Seen.{Sees}
 use Rattle.index_opening.specs.Evidence.{IsEvident}
 use Rattle.index_core.specs.Brought.{KeepsCommit}
-use Rattle.index_core.specs.Sessions.{SessionData, Guards}
+use Rattle.index_core.specs.KeptLive.{FindsKept, KeepsLive}
+use Rattle.index_core.specs.Sessions.{SessionData, Guards, Trusts}
 use Rattle.index_core.specs.Light.{KeepsLevels}
 use Rattle.index_core.specs.Steps.{KeepsUndone}
 use Rattle.index_core.specs.Whole.{DoesWhole, HasNewCanonical, IsNewSegment}
@@ -28,8 +29,8 @@ pub record LoadMoment : Type 0 where
 
 -- From the one place to the other a load that starts so is answered so. A refused one changes no file, each segment
 -- that is listed anew is canonical, few of each level are listed, what isn't done loses nothing that is kept by files
--- that are trusted, a commit that takes its place is whole, and a damage is shown by what it carries, and is true of
--- such files.
+-- that are trusted, a commit that takes its place is whole and keeps all live that was, and a damage is shown by what
+-- it carries, and is true of such files.
 pub record Loads (told trusts : Type 0) (Starts : State → Type 0) (answer : State → Answer) (old new : LoadMoment)
     (result : Result Bool PageFault) : Type 0 where
   pub does : told → (stored : State) → Starts stored
@@ -39,6 +40,7 @@ pub record Loads (told trusts : Type 0) (Starts : State → Type 0) (answer : St
   pub levels : told → (stored : State) → Starts stored → OnOk result (KeepsLevels old.files new.files)
   pub undone : told → trusts → KeepsUndone old.files new.files result
   pub lasting : told → trusts → KeepsCommit old.files new.files
+  pub lasts : told → trusts → KeepsLive (λ number. ⊥) old.files new.files
   pub cause : HasPageCause old.faults new.faults result
   pub evident : OnDamage result (IsEvident (told × trusts) new.files)
 
@@ -66,3 +68,8 @@ pub record IsLoading (D : ℕ) (files : Files) (s : SessionData) (stored : State
   pub keeps : IsStored files stored
   pub is : opened_state D stored ≡ Some index
   pub listed : (p : LiveSegment) → Contains s.set.parts p → IsNewSegment files p.head.id → ⊥
+
+-- the session can be trusted with the files, and has what their commit keeps live
+pub record HasKept (D : ℕ) (files : Files) (s : SessionData) : Type 0 where
+  pub trusts : Trusts D files s
+  pub finds : FindsKept D files s.set

@@ -12,12 +12,12 @@ ghost use Rattle.index_model.specs.State.{State};
 ghost use Rattle.stored_index.specs.Stored.{IsStored};
 ghost use Rattle.index_opening.specs.Evidence.{IsEvident};
 ghost use Rattle.index_core.specs.Brought.{KeepsCommit};
-ghost use Rattle.index_core.specs.Sessions.{Trusts};
+ghost use Rattle.index_core.specs.KeptLive.{KeepsLive};
 ghost use Rattle.index_core.specs.Light.{KeepsLevels};
 ghost use Rattle.index_core.specs.Steps.{KeepsUndone};
 ghost use Rattle.index_core.specs.Whole.{DoesWhole, HasNewCanonical};
 ghost use Rattle.load_points.specs.Loaded.{load_answer, columns_answer};
-ghost use Rattle.load_points.specs.Loads.{HasIndexDims, IsLoading, Loads, StartsFrom, StartsNone};
+ghost use Rattle.load_points.specs.Loads.{HasIndexDims, HasKept, IsLoading, Loads, StartsFrom, StartsNone};
 
 use crate::refusals::{refuse_dims, refuse_file};
 use crate::texts::{put_full, put_loaded};
@@ -58,6 +58,7 @@ pub fn load<R: Threads + Sync, F: Folder, G: Gate>(
     // whatever the folder holds
     ensures undone { IsTrue F.told → KeepsUndone (F.files folder.old) (F.files folder.new) result }
     ensures lasting { IsTrue F.told → KeepsCommit (F.files folder.old) (F.files folder.new) }
+    ensures lasts { IsTrue F.told → KeepsLive (λ number. ⊥) (F.files folder.old) (F.files folder.new) }
     ensures cause { HasPageCause (F.faults folder.old) (F.faults folder.new) result }
     ensures evident { OnDamage result (IsEvident (IsTrue F.told) (F.files folder.new)) }
 {
@@ -184,7 +185,7 @@ fn load_open<const D: usize, R: Threads + Sync, F: Folder, G: Gate>(
     requires most_dims { D ≤ 8 }
     requires some { 1 ≤ length columns.now }
     requires few { length columns.now ≤ 8 }
-    ensures { Loads (IsTrue F.told) (Trusts D (F.files folder.old) session.old)
+    ensures { Loads (IsTrue F.told) (HasKept D (F.files folder.old) session.old)
         (λ stored. IsLoading D (F.files folder.old) session.old stored × HasIndexDims (F.files folder.old) D stored)
         (λ stored. load_answer stored input.now columns.now)
         (record { files = F.files folder.old; faults = F.faults folder.old; text = text.old.items })
@@ -210,7 +211,7 @@ fn load_into<const D: usize, R: Threads + Sync, F: Folder, G: Gate>(
     requires some { 1 ≤ D }
     requires few { D ≤ 8 }
     requires named { length columns.now ≡ D }
-    ensures { Loads (IsTrue F.told) (Trusts D (F.files folder.old) session.old)
+    ensures { Loads (IsTrue F.told) (HasKept D (F.files folder.old) session.old)
         (IsLoading D (F.files folder.old) session.old) (λ stored. load_answer stored input.now columns.now)
         (record { files = F.files folder.old; faults = F.faults folder.old; text = text.old.items })
         (record { files = F.files folder.new; faults = F.faults folder.new; text = text.new.items }) result }
@@ -231,7 +232,7 @@ fn add_all<const D: usize, R: Threads + Sync, F: Folder, G: Gate>(
     text: &mut Vec<u8>,
 ) -> Result<bool, PageFault>
     requires { D ≤ 8 }
-    ensures { Loads (IsTrue F.told) (Trusts D (F.files folder.old) session.old)
+    ensures { Loads (IsTrue F.told) (HasKept D (F.files folder.old) session.old)
         (IsLoading D (F.files folder.old) session.old) (λ stored. columns_answer D stored (coordinates_of points.now))
         (record { files = F.files folder.old; faults = F.faults folder.old; text = text.old.items })
         (record { files = F.files folder.new; faults = F.faults folder.new; text = text.new.items }) result }
@@ -268,7 +269,7 @@ fn add_fitting<const D: usize, R: Threads + Sync, F: Folder, G: Gate>(
     requires few { D ≤ 8 }
     requires counted { count ≡ length points.now }
     requires fits { session.old.set.points_given + length points.now ≤ 2 ^ 24 }
-    ensures { Loads (IsTrue F.told) (Trusts D (F.files folder.old) session.old)
+    ensures { Loads (IsTrue F.told) (HasKept D (F.files folder.old) session.old)
         (IsLoading D (F.files folder.old) session.old) (λ stored. columns_answer D stored (coordinates_of points.now))
         (record { files = F.files folder.old; faults = F.faults folder.old; text = text.old.items })
         (record { files = F.files folder.new; faults = F.faults folder.new; text = text.new.items }) result }

@@ -9,6 +9,8 @@ use Rattle.index_core.specs.Light.{KeepsLevels}
 use Rattle.index_core.specs.Steps.{KeepsUndone}
 use Rattle.index_core.specs.Whole.{DoesWhole, HasNewCanonical}
 use Rattle.index_core.proofs.Brought.{commit_equal, commit_then}
+use Rattle.index_core.proofs.Lasting.{NoneGoes}
+use Rattle.index_core.proofs.LosingNone.{keeps_none, keeps_same}
 use Rattle.index_core.proofs.Undone.{fault_kept, kept_equal, undone_kept}
 use Rattle.index_core.proofs.FaultCauses.{done_cause, fault_to, memory_cause}
 use Rattle.index_model.specs.State.{State}
@@ -129,3 +131,21 @@ returns-in-Ok-Some-clause-lasting g c = λ told. commit_equal _ _ (c.in-Ok-Some.
 
 pub returns-in_err-put_exists-in-Ok-Some-clause-lasting : goal.returns-in_err-put_exists-in-Ok-Some-clause-lasting
 returns-in_err-put_exists-in-Ok-Some-clause-lasting g c = λ told. commit_equal _ _ (c.in-Ok-Some.ensures.files told)
+
+-- what is kept stays live, since no file changes where anything is kept
+pub returns-in-Ok-None-clause-lasts : goal.returns-in-Ok-None-clause-lasts
+returns-in-Ok-None-clause-lasts g c = λ told.
+    keeps_none NoneGoes (g.F.Pages.files c.args.folder.now) (g.F.Pages.files c.generate_first.new.folder)
+    (rw c.in-Ok-None.field-0-is at (c.in-Ok-None.ensures.found told))
+
+pub returns-clause-lasts : goal.returns-clause-lasts
+returns-clause-lasts g c = λ told.
+    keeps_same NoneGoes (g.F.Pages.files c.args.folder.now) (g.F.Pages.files c.read_commit.new.folder) (kept_equal _ _ (c.in-Err.ensures.files told))
+
+pub returns-in-Ok-Some-clause-lasts : goal.returns-in-Ok-Some-clause-lasts
+returns-in-Ok-Some-clause-lasts g c = λ told.
+    keeps_same NoneGoes (g.F.Pages.files c.args.folder.now) (g.F.Pages.files c.read_commit.new.folder) (kept_equal _ _ (c.in-Ok-Some.ensures.files told))
+
+pub returns-in_err-put_exists-in-Ok-Some-clause-lasts : goal.returns-in_err-put_exists-in-Ok-Some-clause-lasts
+returns-in_err-put_exists-in-Ok-Some-clause-lasts g c = λ told.
+    keeps_same NoneGoes (g.F.Pages.files c.args.folder.now) (g.F.Pages.files c.read_commit.new.folder) (kept_equal _ _ (c.in-Ok-Some.ensures.files told))

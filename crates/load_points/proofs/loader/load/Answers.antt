@@ -5,7 +5,8 @@ use Rattle.outer_io.specs.Files.{Files, bytes_of}
 use Rattle.commit_list.specs.CommitFiles.{IsCommitFile}
 use Rattle.stored_index.specs.Stored.{IsStored}
 use Rattle.load_points.specs.Loaded.{load_answer}
-use Rattle.load_points.proofs.Loading.{loads_after, none_stored, some_stored}
+use Rattle.load_points.proofs.Loading.{loads_after}
+use Rattle.load_points.proofs.Opening.{none_stored, some_stored}
 use Rattle.load_points.proofs.LoadAnswers.{evident_all, stored_still_there, unread_commit}
 use Rattle.load_points.proofs.loader.load.Goals as goal
 use Rattle.stored_index.proofs.Whole.{not_damaged}
@@ -28,6 +29,7 @@ returns-in-Ok-Some g c =
       levels = whole.levels;
       undone = λ told. whole.undone told tt;
       lasting = λ told. whole.lasting told tt;
+      lasts = λ told. whole.lasts told tt;
       cause = whole.cause;
       evident = evident_all (IsTrue g.F.Pages.told) (g.F.Pages.files c.load_stored.new.folder) c.load_stored.result whole.evident;
     }
@@ -47,6 +49,7 @@ returns-in-Ok-None g c =
       levels = whole.levels;
       undone = λ told. whole.undone told tt;
       lasting = λ told. whole.lasting told tt;
+      lasts = λ told. whole.lasts told tt;
       cause = whole.cause;
       evident = evident_all (IsTrue g.F.Pages.told) (g.F.Pages.files c.load_first.new.folder) c.load_first.result whole.evident;
     }
@@ -66,6 +69,7 @@ returns-in-Err g c =
       levels = whole.levels;
       undone = λ told. whole.undone told tt;
       lasting = λ told. whole.lasting told tt;
+      lasts = λ told. whole.lasts told tt;
       cause = whole.cause;
       evident = evident_all (IsTrue g.F.Pages.told) (g.F.Pages.files c.read_commit.new.folder) (Err c.in-Err.fault) whole.evident;
     }

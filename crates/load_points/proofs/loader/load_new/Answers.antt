@@ -2,8 +2,9 @@
 use Rattle.std.proofs.Common.{◌≤◌, ℕ, zero, suc, refl, sym, subst, arith}
 use Rattle.leaf_codec.specs.Leaves.{leaf_limit}
 use Rattle.index_core.proofs.Sizes.{session_fits}
-use Rattle.load_points.proofs.Loading.{loads_as, loads_no_memory, made_loading}
-use Rattle.load_points.proofs.LoadAnswers.{made_trusts, none_keeps}
+use Rattle.load_points.proofs.Loading.{loads_as, loads_no_memory}
+use Rattle.load_points.proofs.Opening.{made_loading, made_trusts}
+use Rattle.load_points.proofs.LoadAnswers.{none_keeps}
 use Rattle.load_points.proofs.loader.load_new.Goals as goal
 
 -- a leaf has room for two entries at least

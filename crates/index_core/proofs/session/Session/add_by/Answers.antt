@@ -3,6 +3,7 @@ use Rattle.std.proofs.Common.{refl, lit<}
 use Rattle.segment_set.proofs.Sizes.{point_fits, set_fits}
 use Rattle.index_core.proofs.Adding.{adds_as, adds_one, adds_seen, put_given, put_seen}
 use Rattle.index_core.proofs.Guarding.{grows_added}
+use Rattle.index_core.proofs.Lasting.{writes_last}
 use Rattle.index_core.proofs.session.Session.add_by.Goals as goal
 
 pub add-requires-after_bounds : goal.add-requires-after_bounds
@@ -26,6 +27,7 @@ returns g c =
       follows = c.add.ensures.rewrites.follows;
       named = c.leaf_size-leaf_size.ensures.well.named;
       second = c.add.ensures.rewrites.canon;
+      lasts = writes_last _ _ _ _ _ _ c.leaf_size-leaf_size.ensures.well c.add.ensures.rewrites;
       seen = put_seen _ _ _ _ _ _ _ _ _ c.set_one.ensures c.add.ensures.seen;
       points_given = put_given _ _ _ _ _ _ c.set_one.ensures c.add.ensures.gives.points_given;
       cause = c.add.ensures.cause;

@@ -8,6 +8,7 @@ use Rattle.point_codec.specs.declared.coordinates.Point.{Point}
 use Rattle.segment_set.proofs.Sizes.{point_fits, set_fits}
 use Rattle.index_core.proofs.Adding.{adds_as, adds_memory_as, adds_one, adds_seen, one_ordered, put_given, put_seen}
 use Rattle.index_core.proofs.Guarding.{grows_added}
+use Rattle.index_core.proofs.Lasting.{writes_last}
 use Rattle.index_core.proofs.session.Session.add_point.Given as given
 use Rattle.index_core.proofs.session.Session.add_point.Goals as goal
 use Rattle.index_core.proofs.session.Session.add_point.Goals.{After-drop-of}
@@ -43,6 +44,7 @@ returns g c =
       follows = c.add-2.ensures.rewrites.follows;
       named = c.leaf_size-leaf_size.ensures.well.named;
       second = c.add-2.ensures.rewrites.canon;
+      lasts = writes_last _ _ _ _ _ _ c.leaf_size-leaf_size.ensures.well c.add-2.ensures.rewrites;
       seen = put_seen _ _ _ _ _ _ _ _ _ (made g c) c.add-2.ensures.seen;
       points_given = put_given _ _ _ _ _ _ (made g c) c.add-2.ensures.gives.points_given;
       cause = c.add-2.ensures.cause;

@@ -1,7 +1,7 @@
 -- A new session guards files without a Commit file, and has no segment.
 use Rattle.std.proofs.Common.{inl}
 use Rattle.segment_set.proofs.Sizes.{set_fits}
-use Rattle.index_core.proofs.Adding.{bare_parts}
+use Rattle.index_core.proofs.SetGuards.{bare_parts}
 use Rattle.index_core.proofs.session.Session.create.Goals as goal
 
 pub returns-clause-guards : goal.returns-clause-guards
