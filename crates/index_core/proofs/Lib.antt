@@ -24,3 +24,4 @@ pub mod Brought
 pub mod Owned
 pub mod Arranging
 pub mod Lasting
+pub mod LosingNone

@@ -10,6 +10,7 @@ use Rattle.page_cache.specs.declared.faults.PageFault.{PageFault}
 use Rattle.commit_list.specs.Commits.{CommitData}
 use Rattle.commit_list.specs.CommitFiles.{IsCommitFile}
 use Rattle.script_lang.specs.Requests.{Request}
+use Rattle.script_lang.specs.Requests as asks
 use Rattle.index_model.specs.State.{Index}
 use Rattle.index_model.specs.declared.session.Applied.{Applied}
 use Rattle.stored_index.specs.Stored.{IsStored}
@@ -20,11 +21,12 @@ use Rattle.segment_set.specs.Seen.{Sees}
 use Rattle.segment_set.specs.Faithful.{IsFaithful}
 use Rattle.segment_set.specs.Kept.{IsNeeded}
 use Rattle.index_core.specs.Arranged.{FaultLeaves}
-use Rattle.index_core.specs.Lasting.{Lasts, LastsBut}
+use Rattle.index_core.specs.Lasting.{Lasts, TakesOut}
 use Rattle.index_core.specs.Brought.{KeepsCommit, KeepsOwn}
 use Rattle.index_core.specs.Closed.{IsTracked, NamesOnlyListed}
 use Rattle.index_core.specs.Costs.{ReadsAtMost}
 use Rattle.index_core.specs.Effects.{KeepsStill, OnRefused}
+use Rattle.index_core.specs.KeptLive.{FindsKept}
 use Rattle.index_core.specs.Light.{CommitsFewOfLevels, IsBarred, KeepsLevels, StaysLight, is_light, points_in}
 use Rattle.index_core.specs.Sessions.{AreTraced, Guards, IsCommitAnew, IsUnchanged, SessionData, Trusts}
 use Rattle.index_core.specs.Steps.{KeepsOver, KeepsUndone, Stores}
@@ -50,8 +52,8 @@ pub record IsCommitted (D : ℕ) (told : Type 0) (old new : Files) (s t : Sessio
   pub few : told → Guards D old s → s.set.begun ≡ None → KeepsLevels old new
   pub tracked : told → (m : FileName) → IsTracked old new s.set.names t.set.names m
 
--- The session over a commit that the file says is seen as the index that is stored. It knows the files, nothing is
--- changed since this commit, and its list of names has but what the commit lists.
+-- The session over a commit that the file says is seen as the index that is stored. It knows the files, has what the
+-- commit keeps live, nothing is changed since this commit, and its list of names has but what the commit lists.
 pub record Attaches (D : ℕ) (told : Type 0) (files : Files) (commit : CommitData)
     (result : Result SessionData PageFault) : Type 0 where
   pub seen : told → IsCommitFile (bytes_of (files Commit)) commit → (i : Index) → IsStored files (Some i)
@@ -59,6 +61,7 @@ pub record Attaches (D : ℕ) (told : Type 0) (files : Files) (commit : CommitDa
   pub guards : told → IsCommitFile (bytes_of (files Commit)) commit → IfOk result (Guards D files)
   pub faithful : told → IfOk result (λ s. IsFaithful D files s.set)
   pub traced : told → IsCommitFile (bytes_of (files Commit)) commit → IfOk result (λ s. AreTraced D files s.set.parts)
+  pub finds : told → IsCommitFile (bytes_of (files Commit)) commit → IfOk result (λ s. FindsKept D files s.set)
   pub unchanged : IfOk result IsUnchanged
   pub listed : IfOk result NamesOnlyListed
 
@@ -104,4 +107,5 @@ pub record Spares (D : ℕ) (told : Type 0) (r : Request) (old new : Files) (s t
       → StaysLight told (points_in r) old new s t
   pub barred : IsBarred r s.set → IsOk result
   pub left : OnErr result (FaultLeaves D told r old new s.set t.set)
-  pub lasts : told → IsFaithful D old s.set → LastsBut D r old new s.set t.set
+  pub lasts : told → IsFaithful D old s.set → (r ≡ asks.Reopen → Guards D old s)
+      → Lasts D (TakesOut r) old new s.set t.set

@@ -8,6 +8,7 @@ use Rattle.segment_view.specs.LiveSegments.{LiveSegment}
 use Rattle.segment_set.specs.Sets.{SetData, is_live_in}
 use Rattle.segment_set.specs.Kept.{FindsLive, IsSubset}
 use Rattle.segment_set.specs.Losing.{HasNoEntry}
+use Rattle.index_core.specs.KeptLive.{KeepsSet}
 
 -- the segment is one of before, with its file as it was and no number more live
 pub record WasThere (old new : Files) (parts : List LiveSegment) (p : LiveSegment) : Type 0 where
@@ -24,9 +25,13 @@ pub record Lasts (D : ℕ) (Goes : ℕ → Type 0) (old new : Files) (s t : SetD
       → (is_live_in t number ≡ true) ⊎ (∥ HasNoEntry D old s.parts number ∥₁ ⊎ Goes number)
   pub parts : (p : LiveSegment) → Contains t.parts p → WasThere old new s.parts p ⊎ FindsLive D new p
 
--- no document goes but the one that is deleted, those that a box takes out, and what a new opening of the index lets go
-abbrev pub LastsBut : ℕ → Request → (old new : Files) → (s t : SetData) → Type 0
-LastsBut D (asks.Delete doc) old new s t = Lasts D (λ number. number ≡ doc) old new s t
-LastsBut D (asks.DeleteBox lo hi) old new s t = Unit {0}
-LastsBut D asks.Reopen old new s t = Unit {0}
-LastsBut D _ old new s t = Lasts D (λ number. ⊥) old new s t
+-- the numbers that a request takes out: the one that is deleted; of a box it isn't said which
+abbrev pub TakesOut : Request → ℕ → Type 0
+TakesOut (asks.Delete doc) number = number ≡ doc
+TakesOut (asks.DeleteBox lo hi) number = Unit {0}
+TakesOut _ number = ⊥
+
+-- No document goes but those: the set has the others, and what is kept is the same, or the new commit has them.
+pub record LosesNone (D : ℕ) (Goes : ℕ → Type 0) (old new : Files) (s t : SetData) : Type 0 where
+  pub lasts : Lasts D Goes old new s t
+  pub kept : KeepsSet D Goes old new s

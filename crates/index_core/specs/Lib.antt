@@ -2,6 +2,7 @@ pub mod Sessions
 pub mod Steps
 pub mod Replies
 pub mod Arranged
+pub mod KeptLive
 pub mod Lasting
 pub mod Effects
 pub mod Whole

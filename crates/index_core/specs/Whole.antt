@@ -13,12 +13,14 @@ use Rattle.index_model.specs.State.{Index, State}
 use Rattle.index_model.specs.Script.{Answer}
 use Rattle.stored_index.specs.Kept.{ListsFile, SameKept}
 use Rattle.stored_index.specs.Stored.{HasHead, IsStored}
+use Rattle.segment_set.specs.Faithful.{IsFaithful}
 use Rattle.segment_set.specs.Kept.{HasCanonical}
 use Rattle.segment_set.specs.Seen.{Sees}
 use Rattle.segment_set.specs.declared.faults.AddFault.{AddFault}
 use Rattle.segment_set.specs.declared.faults.AddFault.TheVariants as add
 use Rattle.index_core.specs.Sessions.{Guards, SessionData, StaysTrue}
 use Rattle.index_core.specs.Effects.{BringsCanonical}
+use Rattle.index_core.specs.Lasting.{Lasts}
 use Rattle.index_core.specs.Calls.{ShowsFault}
 
 -- the index with a document of one point more
@@ -42,7 +44,7 @@ pub record SessionMoment : Type 0 where
   pub faults : ℕ
 
 -- From the one place to the other a document came for each point, where it is done; after a fault some of them may
--- have come. What is kept stays, and each segment that is written is canonical.
+-- have come. What is kept stays, no document goes, and each segment that is written is canonical.
 pub record Adds {T : Type 0} (D : ℕ) (told : Type 0) (points : List (List ℤ)) (old new : SessionMoment)
     (result : Result T PageFault) : Type 0 where
   pub seen : told → (i : Index) → Sees D old.files old.session.set i
@@ -50,6 +52,8 @@ pub record Adds {T : Type 0} (D : ℕ) (told : Type 0) (points : List (List ℤ)
   pub points_given : OnOk result (new.session.set.points_given ≡ old.session.set.points_given + length points)
   pub stays : StaysTrue D told old.files new.files old.session new.session
   pub kept : told → Guards D old.files old.session → SameKept old.files new.files
+  pub lasts : told → IsFaithful D old.files old.session.set
+      → Lasts D (λ number. ⊥) old.files new.files old.session.set new.session.set
   pub canon : told → BringsCanonical D old.files new.files old.session.set.parts new.session.set.parts
   pub faults : ShowsFault D told old.files new.files old.session old.faults new.faults result
 
