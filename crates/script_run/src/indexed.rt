@@ -112,14 +112,11 @@ fn run_made<const D: usize, S: Source, R: Threads + Sync, F: Folder, K: Sink, G:
     ensures cause { HasHaltCause (F.faults folder.old) (F.faults folder.new) (K.faults out.old)
         (K.faults out.new) result }
     ensures source { HasSourceCause (S.faults input.old) (S.faults input.new) result }
-    ensures undone { IsTrue F.told
-        → OfLines (IsTrue S.told) reader.old (S.left input.old)
-        (λ lines. Trusts D (F.files folder.old) session.old → NoneCommits work.now.language D lines
-        → HaltKeeps (F.files folder.old) (F.files folder.new) result) }
-    ensures lasts { IsTrue F.told
+    ensures keeps { IsTrue F.told
         → OfLines (IsTrue S.told) reader.old (S.left input.old)
         (λ lines. Trusts D (F.files folder.old) session.old
-        → KeepsSet D (IsTakenOut work.now.language D lines)
+        → (NoneCommits work.now.language D lines → HaltKeeps (F.files folder.old) (F.files folder.new) result)
+        × KeepsSet D (IsTakenOut work.now.language D lines)
         (F.files folder.old) (F.files folder.new) session.old.set) }
     ensures lasting { IsTrue F.told → Trusts D (F.files folder.old) session.old
         → KeepsCommit (F.files folder.old) (F.files folder.new) }
