@@ -7,7 +7,9 @@ use Rattle.index_core.specs.Sessions.{SessionData}
 use Rattle.page_cache.specs.declared.faults.PageFault.{PageFault}
 use Rattle.page_cache.specs.declared.faults.PageFault.TheVariants as page
 use Rattle.index_core.specs.Steps.{FaultKeeps, HasCommit, KeepsOver}
+use Rattle.index_core.proofs.LosingNone.{keeps_same}
 use Rattle.script_run.specs.Kept.{RunCosts, StatusKeeps, StopKeeps}
+use Rattle.script_run.specs.Taking.{IsTakenOutOf}
 use Rattle.run_status.specs.Ends.{IsAnswer}
 use Rattle.run_status.specs.Stops.{status_of, stop_of}
 use Rattle.run_status.specs.declared.stop.Stop.{Stop}
@@ -36,6 +38,7 @@ nothing_costs lang lines files reads s other = record {
   still = λ state h asks. refl;
   reads = λ s scope pages opening which n touches. omega arith;
   undone = λ quiet. (same_status files s, λ e. kept_itself files);
+  lasts = keeps_same (IsTakenOutOf lang files lines) files files (kept_itself files);
 }
 
 keeps_counted : (old new : Files) (b : Bool) (count : ℕ) → StatusKeeps old new (counted b count)

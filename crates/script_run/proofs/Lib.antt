@@ -16,6 +16,7 @@ pub mod Starting
 pub mod StartStored
 pub mod Halting
 pub mod Reading
+pub mod Taken
 pub mod Shown
 pub mod Statuses
 pub mod RangeStates

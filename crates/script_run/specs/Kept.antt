@@ -7,6 +7,7 @@ use Rattle.commit_list.specs.CommitFiles.{IsCommitFile}
 use Rattle.index_model.specs.State.{State}
 use Rattle.stored_index.specs.Kept.{SameKept}
 use Rattle.stored_index.specs.Stored.{IsStored}
+use Rattle.index_core.specs.KeptLive.{KeepsLive}
 use Rattle.index_core.specs.Light.{KeepsLevels}
 use Rattle.index_core.specs.Steps.{HasCommit}
 use Rattle.run_status.specs.Ends.{IsAnswer}
@@ -18,6 +19,7 @@ use Rattle.script_run.specs.declared.halt.Halt.{Halt}
 use Rattle.script_run.specs.Halted.{OnLines}
 use Rattle.script_run.specs.declared.language.Language.{Language}
 use Rattle.script_run.specs.Costs.{AllAsk, NoneCommits, RunReadsFew, begins_no_merge, is_query}
+use Rattle.script_run.specs.Taking.{IsTakenOutOf}
 
 -- After a damage or a fault of the source all that is kept is the same; after a fault of the folder or for want of
 -- memory it is too, or the commit in flight has taken its place.
@@ -44,6 +46,13 @@ HaltKeeps old new result = OnLines (StopKeeps old new) (SameKept old new) result
 abbrev pub ScriptKeeps : Files → Files → Status → Type 0
 ScriptKeeps old new s = StatusKeeps old new s × (s ≡ status.SinkFault → SameKept old new)
 
+-- Lines that ask for no commit, and stop, keep what is kept. Whatever they ask for, no document goes that they don't
+-- take out
+pub record LinesKeep {T : Type 0} (quiet : Type 0) (Goes : ℕ → Type 0) (old new : Files) (result : Result T Halt)
+    : Type 0 where
+  pub undone : quiet → HaltKeeps old new result
+  pub lasts : KeepsLive Goes old new
+
 -- there is a Commit file, and none of the lines asks for a commit, where it says one
 pub record AsksNoCommit (lang : Language) (files : Files) (lines : List (List ℕ)) : Type 0 where
   pub there : files Commit ≢ None
@@ -51,8 +60,8 @@ pub record AsksNoCommit (lang : Language) (files : Files) (lines : List (List �
 
 -- a script that begins no merge leaves few segments of each level; one of queries changes no file; it, or one that
 -- needs no segment to be merged, reads little.
--- One that asks for no commit before its end loses nothing that is kept where it isn't done, whatever the folder of the
--- commit holds
+-- Whatever the folder of the commit holds, one that asks for no commit before its end loses nothing that is kept where
+-- it isn't done, and none loses a document that it doesn't take out
 pub record RunCosts (lang : Language) (lines : List (List ℕ)) (old new : Files) (before now : ℕ) (s : Status)
     : Type 0 where
   pub levels : (state : State) → IsStored old state → AllAsk lang begins_no_merge 1 state lines → IsAnswer s
@@ -60,3 +69,4 @@ pub record RunCosts (lang : Language) (lines : List (List ℕ)) (old new : Files
   pub still : (state : State) → IsStored old state → AllAsk lang is_query 1 state lines → new ≡ old
   pub reads : RunReadsFew lang old lines before now
   pub undone : AsksNoCommit lang old lines → ScriptKeeps old new s
+  pub lasts : KeepsLive (IsTakenOutOf lang old lines) old new

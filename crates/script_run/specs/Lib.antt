@@ -2,6 +2,7 @@ pub mod Script
 pub mod Languages
 pub mod LineAnswers
 pub mod Costs
+pub mod Taking
 pub mod Halted
 pub mod Kept
 pub mod Leads

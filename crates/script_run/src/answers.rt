@@ -7,6 +7,7 @@ ghost use Rattle.page_cache.specs.Causes.{HasPageCause};
 ghost use Rattle.page_cache.specs.Evidence.{OnDamage};
 ghost use Rattle.index_opening.specs.Evidence.{IsEvident};
 ghost use Rattle.index_core.specs.Brought.{KeepsCommit};
+ghost use Rattle.index_core.specs.Lasting.{LosesNone, TakesOut};
 ghost use Rattle.index_core.specs.Sessions.{Trusts};
 ghost use Rattle.index_core.specs.Steps.{is_committing};
 ghost use Rattle.script_lang.specs.Replies.{refused_text};
@@ -19,6 +20,7 @@ ghost use Rattle.stored_index.specs.Kept.{SameKept};
 ghost use Rattle.script_run.specs.Costs.{asks_commit};
 ghost use Rattle.script_run.specs.Languages.{answer, line_request};
 ghost use Rattle.script_run.specs.Leads.{Passes};
+ghost use Rattle.script_run.specs.Taking.{TakesOutBy};
 ghost use Rattle.run_status.specs.Ends.{HasStopCause, OnStopDamage};
 
 use crate::language::Language;
@@ -79,6 +81,9 @@ pub fn answer_line<const D: usize, R: Threads + Sync, F: Folder, K: Sink, G: Gat
         → SameKept (F.files folder.old) (F.files folder.new) }
     ensures lasting { IsTrue F.told → Trusts D (F.files folder.old) session.old
         → KeepsCommit (F.files folder.old) (F.files folder.new) }
+    ensures lasts { IsTrue F.told → Trusts D (F.files folder.old) session.old
+        → LosesNone D (TakesOutBy (line_request work.now.language (Some D) line.now)) (F.files folder.old)
+        (F.files folder.new) session.old.set session.new.set }
     ensures evident { OnStopDamage result
         (IsEvident (IsTrue F.told × Trusts D (F.files folder.old) session.old) (F.files folder.new)) }
 {
@@ -121,6 +126,9 @@ fn reply_to<const D: usize, R: Threads + Sync, F: Folder, G: Gate>(
         → SameKept (F.files folder.old) (F.files folder.new) }
     ensures lasting { IsTrue F.told → Trusts D (F.files folder.old) session.old
         → KeepsCommit (F.files folder.old) (F.files folder.new) }
+    ensures lasts { IsTrue F.told → Trusts D (F.files folder.old) session.old
+        → LosesNone D (TakesOutBy (line_request work.now.language (Some D) line.now)) (F.files folder.old)
+        (F.files folder.new) session.old.set session.new.set }
     ensures evident { OnDamage result
         (IsEvident (IsTrue F.told × Trusts D (F.files folder.old) session.old) (F.files folder.new)) }
 {
@@ -159,6 +167,9 @@ fn obey<const D: usize, R: Threads + Sync, F: Folder, G: Gate>(
         → is_committing (request_of command.now) ≡ false → SameKept (F.files folder.old) (F.files folder.new) }
     ensures lasting { IsTrue F.told → Trusts D (F.files folder.old) session.old
         → KeepsCommit (F.files folder.old) (F.files folder.new) }
+    ensures lasts { IsTrue F.told → Trusts D (F.files folder.old) session.old
+        → LosesNone D (TakesOut (request_of command.now)) (F.files folder.old)
+        (F.files folder.new) session.old.set session.new.set }
     ensures evident { OnDamage result
         (IsEvident (IsTrue F.told × Trusts D (F.files folder.old) session.old) (F.files folder.new)) }
 {

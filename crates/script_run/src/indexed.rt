@@ -3,17 +3,19 @@
 ghost use Rattle.std.specs.Prelude.{◌≡◌, ◌≤◌, Some, [], IsTrue, OnOk, ℕ};
 ghost use Rattle.index_opening.specs.Evidence.{IsEvident};
 ghost use Rattle.index_core.specs.Brought.{KeepsCommit};
+ghost use Rattle.index_core.specs.KeptLive.{KeepsSet};
 ghost use Rattle.index_core.specs.Sessions.{Trusts};
 ghost use Rattle.index_model.specs.State.{Index, State};
 ghost use Rattle.line_source.specs.Reader.{KnowsEnd};
 ghost use Rattle.script_run.specs.LineAnswers.{IsEnd, IsSessionOf};
 ghost use Rattle.script_run.specs.Costs.{NoneCommits};
 ghost use Rattle.script_run.specs.Halted.{HasHaltCause, HasSourceCause, OfLines, OnHaltDamage};
-ghost use Rattle.script_run.specs.Kept.{HaltKeeps, StopKeeps};
+ghost use Rattle.script_run.specs.Kept.{HaltKeeps, LinesKeep, StopKeeps};
 ghost use Rattle.script_run.specs.Languages.{meaning};
 ghost use Rattle.script_run.specs.Leads.{Closes, Leads, LeadsFrom};
 ghost use Rattle.script_run.specs.Origins.{dims_of, IsFrom, IsAllowed, IsOriginOf};
 ghost use Rattle.script_run.specs.Runs.{EndsRead};
+ghost use Rattle.script_run.specs.Taking.{IsTakenOut};
 ghost use Rattle.run_status.specs.Ends.{HasStopCause, OnStopDamage};
 
 use crate::answers::answer_line;
@@ -61,10 +63,12 @@ pub(crate) fn run_over<const D: usize, S: Source, R: Threads + Sync, F: Folder, 
     ensures cause { HasHaltCause (F.faults folder.old) (F.faults folder.new) (K.faults out.old)
         (K.faults out.new) result }
     ensures source { HasSourceCause (S.faults input.old) (S.faults input.new) result }
-    ensures undone { IsTrue F.told
+    ensures keeps { IsTrue F.told
         → OfLines (IsTrue S.told) reader.old (S.left input.old)
-        (λ lines. IsOriginOf (F.files folder.old) origin → NoneCommits work.now.language (dims_of origin) lines
-        → HaltKeeps (F.files folder.old) (F.files folder.new) result) }
+        (λ lines. IsOriginOf (F.files folder.old) origin
+        → LinesKeep (NoneCommits work.now.language (dims_of origin) lines)
+        (IsTakenOut work.now.language (dims_of origin) lines)
+        (F.files folder.old) (F.files folder.new) result) }
     ensures lasting { IsTrue F.told → IsOriginOf (F.files folder.old) origin
         → KeepsCommit (F.files folder.old) (F.files folder.new) }
     ensures evident { OnHaltDamage result
@@ -108,10 +112,12 @@ fn run_made<const D: usize, S: Source, R: Threads + Sync, F: Folder, K: Sink, G:
     ensures cause { HasHaltCause (F.faults folder.old) (F.faults folder.new) (K.faults out.old)
         (K.faults out.new) result }
     ensures source { HasSourceCause (S.faults input.old) (S.faults input.new) result }
-    ensures undone { IsTrue F.told
+    ensures keeps { IsTrue F.told
         → OfLines (IsTrue S.told) reader.old (S.left input.old)
-        (λ lines. Trusts D (F.files folder.old) session.old → NoneCommits work.now.language D lines
-        → HaltKeeps (F.files folder.old) (F.files folder.new) result) }
+        (λ lines. Trusts D (F.files folder.old) session.old
+        → (NoneCommits work.now.language D lines → HaltKeeps (F.files folder.old) (F.files folder.new) result)
+        × KeepsSet D (IsTakenOut work.now.language D lines)
+        (F.files folder.old) (F.files folder.new) session.old.set) }
     ensures lasting { IsTrue F.told → Trusts D (F.files folder.old) session.old
         → KeepsCommit (F.files folder.old) (F.files folder.new) }
     ensures evident { OnHaltDamage result
@@ -160,6 +166,8 @@ fn finish<const D: usize, R: Threads + Sync, F: Folder, G: Gate>(
     ensures cause { (sink : ℕ) → HasStopCause (F.faults folder.old) (F.faults folder.new) sink sink result }
     ensures undone { IsTrue F.told → Trusts D (F.files folder.old) session.old
         → StopKeeps (F.files folder.old) (F.files folder.new) result }
+    ensures lasts { IsTrue F.told → Trusts D (F.files folder.old) session.old
+        → KeepsSet D (λ number. ⊥) (F.files folder.old) (F.files folder.new) session.old.set }
     ensures lasting { IsTrue F.told → Trusts D (F.files folder.old) session.old
         → KeepsCommit (F.files folder.old) (F.files folder.new) }
     ensures evident { OnStopDamage result

@@ -9,12 +9,13 @@ ghost use Rattle.stored_index.specs.Stored.{IsStored};
 ghost use Rattle.line_source.specs.Reader.{KnowsEnd};
 ghost use Rattle.script_run.specs.Costs.{NoneCommits};
 ghost use Rattle.script_run.specs.Halted.{HasHaltCause, HasSourceCause, OfLines, OfSource, OnHaltDamage};
-ghost use Rattle.script_run.specs.Kept.{AsksNoCommit, HaltKeeps};
+ghost use Rattle.script_run.specs.Kept.{AsksNoCommit, LinesKeep};
 ghost use Rattle.script_run.specs.Languages.{meaning};
 ghost use Rattle.script_run.specs.Leads.{LeadsAll, LeadsFrom};
 ghost use Rattle.script_run.specs.Origins.{dims_of, IsFrom, IsAllowed, IsOriginOf};
 ghost use Rattle.script_run.specs.Progress.{start};
 ghost use Rattle.script_run.specs.Runs.{EndsRead};
+ghost use Rattle.script_run.specs.Taking.{IsTakenOut, IsTakenOutOf};
 
 use crate::answers::{Opening, answer_first};
 use crate::halt::{Halt, halt_result};
@@ -67,10 +68,11 @@ pub fn run_lines<S: Source, R: Threads + Sync, F: Folder, K: Sink, G: Gate>(
     ensures cause { HasHaltCause (F.faults folder.old) (F.faults folder.new) (K.faults out.old)
         (K.faults out.new) result }
     ensures source { HasSourceCause (S.faults input.old) (S.faults input.new) result }
-    ensures undone { IsTrue F.told
+    ensures keeps { IsTrue F.told
         → OfSource (IsTrue S.told) (S.left input.old)
-        (λ lines. AsksNoCommit work.now.language (F.files folder.old) lines
-        → HaltKeeps (F.files folder.old) (F.files folder.new) result) }
+        (λ lines. LinesKeep (AsksNoCommit work.now.language (F.files folder.old) lines)
+        (IsTakenOutOf work.now.language (F.files folder.old) lines)
+        (F.files folder.old) (F.files folder.new) result) }
     // whatever it ends with, what was kept is, or a commit has taken its place of which each listed file is whole
     ensures lasting { IsTrue F.told → KeepsCommit (F.files folder.old) (F.files folder.new) }
     ensures evident { OnHaltDamage result (IsEvident (IsTrue F.told) (F.files folder.new)) }
@@ -100,10 +102,11 @@ fn run_read<S: Source, R: Threads + Sync, F: Folder, K: Sink, G: Gate>(
     ensures cause { HasHaltCause (F.faults folder.old) (F.faults folder.new) (K.faults out.old)
         (K.faults out.new) result }
     ensures source { HasSourceCause (S.faults input.old) (S.faults input.new) result }
-    ensures undone { IsTrue F.told
+    ensures keeps { IsTrue F.told
         → OfLines (IsTrue S.told) reader.old (S.left input.old)
-        (λ lines. AsksNoCommit work.now.language (F.files folder.old) lines
-        → HaltKeeps (F.files folder.old) (F.files folder.new) result) }
+        (λ lines. LinesKeep (AsksNoCommit work.now.language (F.files folder.old) lines)
+        (IsTakenOutOf work.now.language (F.files folder.old) lines)
+        (F.files folder.old) (F.files folder.new) result) }
     ensures lasting { IsTrue F.told → KeepsCommit (F.files folder.old) (F.files folder.new) }
     ensures evident { OnHaltDamage result (IsEvident (IsTrue F.told) (F.files folder.new)) }
 {
@@ -218,10 +221,12 @@ fn run_from<S: Source, R: Threads + Sync, F: Folder, K: Sink, G: Gate>(
     ensures cause { HasHaltCause (F.faults folder.old) (F.faults folder.new) (K.faults out.old)
         (K.faults out.new) result }
     ensures source { HasSourceCause (S.faults input.old) (S.faults input.new) result }
-    ensures undone { IsTrue F.told
+    ensures keeps { IsTrue F.told
         → OfLines (IsTrue S.told) reader.old (S.left input.old)
-        (λ lines. IsOriginOf (F.files folder.old) origin → NoneCommits work.now.language (dims_of origin) lines
-        → HaltKeeps (F.files folder.old) (F.files folder.new) result) }
+        (λ lines. IsOriginOf (F.files folder.old) origin
+        → LinesKeep (NoneCommits work.now.language (dims_of origin) lines)
+        (IsTakenOut work.now.language (dims_of origin) lines)
+        (F.files folder.old) (F.files folder.new) result) }
     ensures lasting { IsTrue F.told → IsOriginOf (F.files folder.old) origin
         → KeepsCommit (F.files folder.old) (F.files folder.new) }
     ensures evident { OnHaltDamage result

@@ -4,6 +4,7 @@ ghost use Rattle.std.specs.Prelude.{◌≡◌, ◌≤◌, IsTrue, IfOk};
 ghost use Rattle.page_cache.specs.Causes.{HasPageCause};
 ghost use Rattle.page_cache.specs.Evidence.{NotDamaged, OnDamage};
 ghost use Rattle.index_opening.specs.Evidence.{IsEvident};
+ghost use Rattle.index_core.specs.KeptLive.{FindsKept};
 ghost use Rattle.index_core.specs.Sessions.{Trusts};
 ghost use Rattle.index_model.specs.State.{Index, State};
 ghost use Rattle.script_run.specs.LineAnswers.{IsSessionOf};
@@ -61,6 +62,8 @@ pub fn open<const D: usize, F: Folder>(
         → NotDamaged result }
     ensures trusts { IsTrue F.told → IsOriginOf (F.files folder.old) origin
         → IfOk result (Trusts D (F.files folder.new)) }
+    ensures finds { IsTrue F.told → IsOriginOf (F.files folder.old) origin
+        → IfOk result (λ s. FindsKept D (F.files folder.new) s.set) }
     ensures evident { OnDamage result
         (IsEvident (IsTrue F.told × IsOriginOf (F.files folder.old) origin) (F.files folder.new)) }
 {

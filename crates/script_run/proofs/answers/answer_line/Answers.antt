@@ -62,3 +62,9 @@ returns-in-Ok-clause-lasting g c = c.in-Ok.ensures.lasting
 
 pub returns-in-Err-clause-lasting : goal.returns-in-Err-clause-lasting
 returns-in-Err-clause-lasting g c = c.in-Err.ensures.lasting
+
+pub returns-in-Ok-clause-lasts : goal.returns-in-Ok-clause-lasts
+returns-in-Ok-clause-lasts g c = c.in-Ok.ensures.lasts
+
+pub returns-in-Err-clause-lasts : goal.returns-in-Err-clause-lasts
+returns-in-Err-clause-lasts g c = c.in-Err.ensures.lasts

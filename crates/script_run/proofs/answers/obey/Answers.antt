@@ -7,6 +7,7 @@ use Rattle.script_run.proofs.Lined.{page_then, page_same}
 use Rattle.index_model.specs.declared.session.Applied.{Applied}
 use Rattle.script_run.proofs.Passing.{passes_applied, passes_to}
 use Rattle.script_run.proofs.Shown.{memory_shows}
+use Rattle.script_run.proofs.Taken.{applied_loses}
 use Rattle.script_run.proofs.answers.obey.Goals as goal
 use Rattle.index_core.proofs.FaultCauses.{done_cause}
 
@@ -138,3 +139,21 @@ returns-in-Ok-Refused-clause-lasting g c = c.in-Ok-Refused.ensures.applies.keeps
 
 pub returns-in-Err-clause-lasting : goal.returns-in-Err-clause-lasting
 returns-in-Err-clause-lasting g c = c.in-Err.ensures.applies.keeps.lasting
+
+pub returns-in-Ok-Done-clause-lasts : goal.returns-in-Ok-Done-clause-lasts
+returns-in-Ok-Done-clause-lasts g c = λ told h.
+    applied_loses g.row.D (IsTrue g.F.Pages.told) (request_of c.args.command.now) _ _ c.args.session.now _ h
+    (c.in-Ok-Done.ensures.applies.keeps.own told h.guards)
+    (c.in-Ok-Done.ensures.spares.lasts told h.faithful (λ e. h.guards))
+
+pub returns-in-Ok-Refused-clause-lasts : goal.returns-in-Ok-Refused-clause-lasts
+returns-in-Ok-Refused-clause-lasts g c = λ told h.
+    applied_loses g.row.D (IsTrue g.F.Pages.told) (request_of c.args.command.now) _ _ c.args.session.now _ h
+    (c.in-Ok-Refused.ensures.applies.keeps.own told h.guards)
+    (c.in-Ok-Refused.ensures.spares.lasts told h.faithful (λ e. h.guards))
+
+pub returns-in-Err-clause-lasts : goal.returns-in-Err-clause-lasts
+returns-in-Err-clause-lasts g c = λ told h.
+    applied_loses g.row.D (IsTrue g.F.Pages.told) (request_of c.args.command.now) _ _ c.args.session.now _ h
+    (c.in-Err.ensures.applies.keeps.own told h.guards)
+    (c.in-Err.ensures.spares.lasts told h.faithful (λ e. h.guards))

@@ -1,15 +1,19 @@
 -- A line is done where it can be read, and refused where not.
-use Rattle.std.proofs.Common.{◌≢◌, ◌∙◌, ap, sym, inl, rules}
+use Rattle.std.proofs.Common.{◌≢◌, ◌∙◌, Some, ap, sym, inl, rules}
 use Rattle.index_core.proofs.Sizes.{session_fits}
 use Rattle.script_lang.specs.Seen.{request_of}
 use Rattle.range_docs.specs.declared.faults.RangeFault.TheVariants as range
 use Rattle.stored_index.proofs.KeptFiles.{kept_itself}
 use Rattle.index_core.proofs.Brought.{commit_itself}
+use Rattle.index_core.proofs.LosingNone.{loses_itself}
 use Rattle.script_run.specs.Costs.{asks_commit}
+use Rattle.script_run.specs.Languages.{line_request}
+use Rattle.script_run.specs.Taking.{TakesOutBy}
 use Rattle.script_run.proofs.Answered.{unread_replies, fault_read}
 use Rattle.script_run.proofs.Lined.{page_still}
 use Rattle.script_run.proofs.Passing.{passes_none, passes_unread}
 use Rattle.script_run.proofs.Shown.{memory_shows}
+use Rattle.script_run.proofs.Taken.{read_loses}
 use Rattle.script_run.proofs.answers.reply_to.Goals as goal
 use Rattle.index_model.proofs.Sizes.{command_fits}
 use Rattle.run_status.proofs.Ending.{page_memory}
@@ -80,3 +84,16 @@ returns-in-Err-Memory-clause-lasting g c = λ told h. commit_itself _
 
 pub returns-in-Err-clause-lasting : goal.returns-in-Err-clause-lasting
 returns-in-Err-clause-lasting g c = λ told h. commit_itself _
+
+pub returns-in-Ok-clause-lasts : goal.returns-in-Ok-clause-lasts
+returns-in-Ok-clause-lasts g c = λ told h.
+    read_loses g.row.D (line_request c.args.work.now.language (Some g.row.D) c.args.line.now) _ c.in-Ok.ensures.reads _ _ _ _
+    (c.obey.ensures.lasts told h)
+
+pub returns-in-Err-Memory-clause-lasts : goal.returns-in-Err-Memory-clause-lasts
+returns-in-Err-Memory-clause-lasts g c = λ told h.
+    loses_itself g.row.D (TakesOutBy (line_request c.args.work.now.language (Some g.row.D) c.args.line.now)) _ _
+
+pub returns-in-Err-clause-lasts : goal.returns-in-Err-clause-lasts
+returns-in-Err-clause-lasts g c = λ told h.
+    loses_itself g.row.D (TakesOutBy (line_request c.args.work.now.language (Some g.row.D) c.args.line.now)) _ _

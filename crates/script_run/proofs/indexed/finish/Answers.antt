@@ -1,5 +1,6 @@
 -- What the lines left is committed and the session closed, or the run stops.
-use Rattle.std.proofs.Common.{ℕ, refl}
+use Rattle.std.proofs.Common.{ℕ, IsTrue, refl}
+use Rattle.index_core.proofs.LosingNone.{own_keeps}
 use Rattle.script_run.proofs.Calling.{fault_stops}
 use Rattle.script_run.proofs.Lined.{ok_cause}
 use Rattle.script_run.proofs.SoFar.{stops_end}
@@ -63,3 +64,11 @@ returns-in-Ok-clause-lasting g c = c.in-Ok.ensures.durable.lasting
 
 pub returns-in-Err-clause-lasting : goal.returns-in-Err-clause-lasting
 returns-in-Err-clause-lasting g c = c.in-Err.ensures.durable.lasting
+
+pub returns-in-Ok-clause-lasts : goal.returns-in-Ok-clause-lasts
+returns-in-Ok-clause-lasts g c = λ told h.
+    own_keeps g.row.D (IsTrue g.F.Pages.told) _ _ _ h.faithful (c.in-Ok.ensures.durable.own told h.guards)
+
+pub returns-in-Err-clause-lasts : goal.returns-in-Err-clause-lasts
+returns-in-Err-clause-lasts g c = λ told h.
+    own_keeps g.row.D (IsTrue g.F.Pages.told) _ _ _ h.faithful (c.in-Err.ensures.durable.own told h.guards)

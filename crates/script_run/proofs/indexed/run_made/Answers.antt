@@ -2,6 +2,7 @@
 use Rattle.std.proofs.Common.{◌≡◌, Bool, ℕ, [], ◌∷◌, arith, rules, true, false, refl, sym, ap, ◌∙◌, IsTrue, Err, Some, inl, append_assoc}
 use Rattle.index_core.specs.Sessions.{Trusts}
 use Rattle.index_core.proofs.Brought.{commit_itself, commit_then}
+use Rattle.index_core.proofs.LosingNone.{loses_itself}
 use Rattle.index_core.proofs.Sizes.{session_fits}
 use Rattle.line_source.specs.Reader.{lines_left}
 use Rattle.stored_index.proofs.KeptFiles.{kept_after}
@@ -11,8 +12,10 @@ use Rattle.script_run.proofs.Halting.{halted_no_source, memory_cause, no_source,
 use Rattle.script_run.proofs.Reading.{closes_halted, gives_line, gives_none, going_ends, going_first, going_halts, going_on, going_stops}
 use Rattle.script_run.proofs.Reading.{going_wants, none_read, of_all, of_left, of_line, one_read, quiet_first, quiet_on, reads_alike}
 use Rattle.script_run.proofs.Shown.{stop_less}
+use Rattle.script_run.proofs.Taken.{end_kept, line_kept, lines_kept, one_loses}
 use Rattle.script_run.proofs.indexed.run_made.Goals as goal
 use Rattle.script_run.specs.Languages.{meaning}
+use Rattle.script_run.specs.Taking.{IsTakenOut}
 use Rattle.run_status.proofs.Ending.{rose_from, cause_from, same_stop, cause_to, refused_more, at_most_one}
 use Rattle.index_core.proofs.Committing.{on_ok_any}
 
@@ -32,6 +35,7 @@ lines-init g c = record {
     λ told i stored h more. going_first c.args.work.now.language _ g.row.D _ _ i stored _ _ more h,
     λ told h. quiet_first c.args.work.now.language g.row.D _,
     λ told h. commit_itself _,
+    λ told h. loses_itself g.row.D (IsTakenOut c.args.work.now.language g.row.D []) (g.F.Pages.files c.args.folder.now) c.args.session.now.set,
   );
   trusts = λ told h. h;
   counted = c.requires.refused;
@@ -62,6 +66,10 @@ lines-preserved g c =
             (λ quiet. c.in-Ok.ensures.kept told (c.lines.invariant.trusts told h) (ap asks_commit (sym alike) ∙ quiet)),
         λ told h. commit_then (g.F.Pages.files c.args.folder.now) (g.F.Pages.files c.lines.folder) (g.F.Pages.files c.answer_line.new.folder)
             (so_far.3 told h) (c.in-Ok.ensures.lasting told (c.lines.invariant.trusts told h)),
+        λ told h. one_loses c.args.work.now.language g.row.D so_far.0.lines (g.F.Pages.files c.args.folder.now)
+            (g.F.Pages.files c.lines.folder) c.args.session.now.set c.lines.session.set (so_far.4 told h) gives.line c.as_slice.result.now alike
+            (g.F.Pages.files c.answer_line.new.folder) c.answer_line.new.session.set
+            (c.in-Ok.ensures.lasts told (c.lines.invariant.trusts told h)),
       );
       trusts = λ told h. c.in-Ok.ensures.trusts told (c.lines.invariant.trusts told h);
       counted = omega (arith, c.lines.invariant.counted, at_most_one _ _ c.from-refused.ensures);
@@ -92,18 +100,24 @@ returns-in-Err-clause-cause g c =
 pub returns-in-Err-clause-source : goal.returns-in-Err-clause-source
 returns-in-Err-clause-source g c = no_source _ _ _ (omega (arith, c.lines.invariant.source_later, c.in-Ok-true.ensures.cause.later)) (λ e. cc)
 
-pub returns-in-Err-clause-undone : goal.returns-in-Err-clause-undone
-returns-in-Err-clause-undone g c =
+pub returns-in-Err-clause-keeps : goal.returns-in-Err-clause-keeps
+returns-in-Err-clause-keeps g c =
     let so_far = c.lines.invariant.so_far in
     let yes : c.in-Ok-true.field-0 ≡ true = search rules in
     let gives = gives_line (IsTrue g.S.Source.told) c.lines.reader (g.S.Source.left c.lines.input) c.next_line.new.self (g.S.Source.left c.next_line.new.source)
     c.next_line.new.line.items c.in-Ok-true.field-0 yes c.in-Ok-true.ensures.gives in
     let alike = reads_alike c.args.work.now.language (Some g.row.D) gives.line c.next_line.new.line.items c.as_slice.result.now gives.bytes_are
     c.as_slice.ensures.value in
-    λ told. of_line _ _ _ c.lines.reader _ so_far.0 _ _ _ _ gives (λ h quiet.
-    let next = (so_far.2 told h).kept (gives.line ∷ lines_left c.next_line.new.self (g.S.Source.left c.next_line.new.source)) quiet in
-    stop_kept ℕ _ _ c.in-Err.stop
-    (kept_after _ _ _ next.0 (c.in-Err.ensures.kept told (c.lines.invariant.trusts told h) (ap asks_commit (sym alike) ∙ next.1.0))))
+    λ told. of_line _ _ _ c.lines.reader _ so_far.0 _ _ _ _ gives (λ h. (
+      λ quiet.
+          let next = (so_far.2 told h).kept (gives.line ∷ lines_left c.next_line.new.self (g.S.Source.left c.next_line.new.source)) quiet in
+          stop_kept ℕ _ _ c.in-Err.stop
+          (kept_after _ _ _ next.0 (c.in-Err.ensures.kept told (c.lines.invariant.trusts told h) (ap asks_commit (sym alike) ∙ next.1.0))),
+      line_kept c.args.work.now.language g.row.D so_far.0.lines (g.F.Pages.files c.args.folder.now) (g.F.Pages.files c.lines.folder)
+          c.args.session.now.set c.lines.session.set (so_far.4 told h) gives.line c.as_slice.result.now alike
+          (g.F.Pages.files c.answer_line.new.folder) c.answer_line.new.session.set
+          (c.in-Err.ensures.lasts told (c.lines.invariant.trusts told h)) (lines_left c.next_line.new.self (g.S.Source.left c.next_line.new.source)),
+    ))
 
 pub returns-in-Err-clause-evident : goal.returns-in-Err-clause-evident
 returns-in-Err-clause-evident g c =
@@ -143,15 +157,20 @@ returns-in-Ok-false-clause-source g c =
     no_source _ _ c.halt_result.result (omega (arith, c.lines.invariant.source_later, c.in-Ok-false.ensures.cause.later))
     (halted_no_source c.finish.result c.halt_result.result c.halt_result.ensures)
 
-pub returns-in-Ok-false-clause-undone : goal.returns-in-Ok-false-clause-undone
-returns-in-Ok-false-clause-undone g c =
+pub returns-in-Ok-false-clause-keeps : goal.returns-in-Ok-false-clause-keeps
+returns-in-Ok-false-clause-keeps g c =
     let no : c.in-Ok-false.field-0 ≡ false = search rules in
     let so_far = c.lines.invariant.so_far in
     λ told. of_all _ _ _ c.lines.reader _ so_far.0 _ c.next_line.new.self (g.S.Source.left c.next_line.new.source)
     (gives_none (IsTrue g.S.Source.told) c.lines.reader (g.S.Source.left c.lines.input) c.next_line.new.self (g.S.Source.left c.next_line.new.source)
-    c.next_line.new.line.items c.in-Ok-false.field-0 no c.in-Ok-false.ensures.gives) (λ h quiet.
-    halted_keeps (g.F.Pages.files c.args.folder.now) (g.F.Pages.files c.finish.new.folder) c.finish.result c.halt_result.result c.halt_result.ensures
-    (stop_after _ _ _ c.finish.result ((so_far.2 told h).kept [] quiet).0 (c.finish.ensures.undone told (c.lines.invariant.trusts told h))))
+    c.next_line.new.line.items c.in-Ok-false.field-0 no c.in-Ok-false.ensures.gives) (λ h. (
+      λ quiet.
+          halted_keeps (g.F.Pages.files c.args.folder.now) (g.F.Pages.files c.finish.new.folder) c.finish.result c.halt_result.result c.halt_result.ensures
+          (stop_after _ _ _ c.finish.result ((so_far.2 told h).kept [] quiet).0 (c.finish.ensures.undone told (c.lines.invariant.trusts told h))),
+      end_kept c.args.work.now.language g.row.D so_far.0.lines (g.F.Pages.files c.args.folder.now) (g.F.Pages.files c.lines.folder)
+          c.args.session.now.set c.lines.session.set (so_far.4 told h) (g.F.Pages.files c.finish.new.folder)
+          (c.finish.ensures.lasts told (c.lines.invariant.trusts told h)) [],
+    ))
 
 pub returns-in-Ok-false-clause-evident : goal.returns-in-Ok-false-clause-evident
 returns-in-Ok-false-clause-evident g c =
@@ -175,10 +194,14 @@ returns-in-Err-Failed-clause-source g c =
       failed = λ e. rose_from _ _ _ c.lines.invariant.source_later (cause.failed refl);
     }
 
-pub returns-in-Err-Failed-clause-undone : goal.returns-in-Err-Failed-clause-undone
-returns-in-Err-Failed-clause-undone g c =
+pub returns-in-Err-Failed-clause-keeps : goal.returns-in-Err-Failed-clause-keeps
+returns-in-Err-Failed-clause-keeps g c =
     let so_far = c.lines.invariant.so_far in
-    λ told. of_left _ _ _ c.lines.reader _ so_far.0 _ (λ h quiet. ((so_far.2 told h).kept _ quiet).0)
+    λ told. of_left _ _ _ c.lines.reader _ so_far.0 _ (λ h. (
+      λ quiet. ((so_far.2 told h).kept _ quiet).0,
+      lines_kept c.args.work.now.language g.row.D so_far.0.lines (g.F.Pages.files c.args.folder.now) (g.F.Pages.files c.lines.folder)
+          c.args.session.now.set c.lines.session.set (so_far.4 told h) (lines_left c.lines.reader (g.S.Source.left c.lines.input)),
+    ))
 
 pub returns-in-Err-Memory-clause-does : goal.returns-in-Err-Memory-clause-does
 returns-in-Err-Memory-clause-does g c =
@@ -193,10 +216,14 @@ returns-in-Err-Memory-clause-cause g c = memory_cause _ _ _ _ c.lines.invariant.
 pub returns-in-Err-Memory-clause-source : goal.returns-in-Err-Memory-clause-source
 returns-in-Err-Memory-clause-source g c = no_source _ _ _ (omega (arith, c.lines.invariant.source_later, c.in-Err-Memory.ensures.cause.later)) (λ e. cc)
 
-pub returns-in-Err-Memory-clause-undone : goal.returns-in-Err-Memory-clause-undone
-returns-in-Err-Memory-clause-undone g c =
+pub returns-in-Err-Memory-clause-keeps : goal.returns-in-Err-Memory-clause-keeps
+returns-in-Err-Memory-clause-keeps g c =
     let so_far = c.lines.invariant.so_far in
-    λ told. of_left _ _ _ c.lines.reader _ so_far.0 _ (λ h quiet. inl ((so_far.2 told h).kept _ quiet).0)
+    λ told. of_left _ _ _ c.lines.reader _ so_far.0 _ (λ h. (
+      λ quiet. inl ((so_far.2 told h).kept _ quiet).0,
+      lines_kept c.args.work.now.language g.row.D so_far.0.lines (g.F.Pages.files c.args.folder.now) (g.F.Pages.files c.lines.folder)
+          c.args.session.now.set c.lines.session.set (so_far.4 told h) (lines_left c.lines.reader (g.S.Source.left c.lines.input)),
+    ))
 
 pub returns-clause-does : goal.returns-clause-does
 returns-clause-does g c =
@@ -211,10 +238,14 @@ returns-clause-cause g c = memory_cause _ _ _ _ c.lines.invariant.folder_later c
 pub returns-clause-source : goal.returns-clause-source
 returns-clause-source g c = no_source _ _ _ c.lines.invariant.source_later (λ e. cc)
 
-pub returns-clause-undone : goal.returns-clause-undone
-returns-clause-undone g c =
+pub returns-clause-keeps : goal.returns-clause-keeps
+returns-clause-keeps g c =
     let so_far = c.lines.invariant.so_far in
-    λ told. of_left _ _ _ c.lines.reader _ so_far.0 _ (λ h quiet. inl ((so_far.2 told h).kept _ quiet).0)
+    λ told. of_left _ _ _ c.lines.reader _ so_far.0 _ (λ h. (
+      λ quiet. inl ((so_far.2 told h).kept _ quiet).0,
+      lines_kept c.args.work.now.language g.row.D so_far.0.lines (g.F.Pages.files c.args.folder.now) (g.F.Pages.files c.lines.folder)
+          c.args.session.now.set c.lines.session.set (so_far.4 told h) (lines_left c.lines.reader (g.S.Source.left c.lines.input)),
+    ))
 
 pub returns-in-Err-clause-lasting : goal.returns-in-Err-clause-lasting
 returns-in-Err-clause-lasting g c = λ told h.

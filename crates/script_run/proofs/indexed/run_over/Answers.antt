@@ -2,17 +2,21 @@
 use Rattle.std.proofs.Common.{ℕ, IsTrue, arith, refl, subst, ap, ◌∙◌}
 use Rattle.outer_io.specs.Files.{Files}
 use Rattle.index_core.proofs.Brought.{commit_equal, commit_then}
+use Rattle.index_core.proofs.LosingNone.{keeps_same}
 use Rattle.index_core.proofs.Sizes.{session_fits}
 use Rattle.index_core.proofs.Undone.{fault_kept, kept_equal}
 use Rattle.script_run.specs.Costs.{NoneCommits}
 use Rattle.script_run.specs.Halted.{halt_result}
 use Rattle.script_run.specs.Kept.{HaltKeeps}
+use Rattle.script_run.specs.Origins.{dims_of}
+use Rattle.script_run.specs.Taking.{IsTakenOut}
 use Rattle.script_run.proofs.Calling.{fault_stops}
 use Rattle.script_run.proofs.Halting.{halt_cause_from, halt_less, halted_no_source, no_source, halted_cause, halted_ends, halted_keeps, halted_shows}
 use Rattle.script_run.proofs.Lined.{unopened, origin_keeps}
 use Rattle.script_run.proofs.SoFar.{place_on}
 use Rattle.script_run.proofs.Reading.{of_any, of_same}
 use Rattle.script_run.proofs.Starting.{open_fails, open_leads}
+use Rattle.script_run.proofs.Taken.{opened_keeps}
 use Rattle.script_run.proofs.indexed.run_over.Goals as goal
 use Rattle.script_run.specs.Languages.{meaning}
 use Rattle.run_status.proofs.Ending.{fault_shows, fault_cause}
@@ -68,19 +72,29 @@ returns-in-Err-clause-evident g c =
     halted_shows _ c.stopped.result c.halt_result.result c.halt_result.ensures
     (fault_shows _ c.in-Err.fault c.in-Err.ensures.evident c.stopped.result c.stopped.ensures)
 
-pub returns-in-Ok-clause-undone : goal.returns-in-Ok-clause-undone
-returns-in-Ok-clause-undone g c = λ told.
-    of_same _ c.args.reader.now (g.S.Source.left c.args.input.now) _ _ (λ lines undone there quiet.
-    subst (λ (f : Files). HaltKeeps f (g.F.Pages.files c.run_made.new.folder) c.run_made.result) (c.in-Ok.ensures.files told)
-    (undone (c.in-Ok.ensures.trusts told there) (subst (λ (n : ℕ). NoneCommits c.args.work.now.language n lines) c.requires.dims quiet)))
-    (c.run_made.ensures.undone told)
+pub returns-in-Ok-clause-keeps : goal.returns-in-Ok-clause-keeps
+returns-in-Ok-clause-keeps g c = λ told.
+    of_same _ c.args.reader.now (g.S.Source.left c.args.input.now) _ _ (λ lines keeps there.
+    let made = keeps (c.in-Ok.ensures.trusts told there) in
+    record {
+      undone = λ quiet.
+          subst (λ (f : Files). HaltKeeps f (g.F.Pages.files c.run_made.new.folder) c.run_made.result) (c.in-Ok.ensures.files told)
+          (made.0 (subst (λ (n : ℕ). NoneCommits c.args.work.now.language n lines) c.requires.dims quiet));
+      lasts = opened_keeps c.args.work.now.language g.row.D (dims_of c.args.origin) lines (g.F.Pages.files c.args.folder.now)
+          (g.F.Pages.files c.open.new.folder) (g.F.Pages.files c.run_made.new.folder) c.in-Ok.session.set c.requires.dims (c.in-Ok.ensures.files told)
+          (c.in-Ok.ensures.finds told there) made.1;
+    })
+    (c.run_made.ensures.keeps told)
 
-pub returns-in-Err-clause-undone : goal.returns-in-Err-clause-undone
-returns-in-Err-clause-undone g c = λ told. of_any _ c.args.reader.now (g.S.Source.left c.args.input.now) _ (λ lines there quiet.
-    halted_keeps (g.F.Pages.files c.args.folder.now) (g.F.Pages.files c.open.new.folder) c.stopped.result c.halt_result.result c.halt_result.ensures
-    (rw c.stopped.ensures
-    (fault_stops ℕ (g.F.Pages.files c.args.folder.now) (g.F.Pages.files c.open.new.folder) c.in-Err.fault
-    (fault_kept _ _ (kept_equal _ _ (c.in-Err.ensures.files told)) c.in-Err.fault))))
+pub returns-in-Err-clause-keeps : goal.returns-in-Err-clause-keeps
+returns-in-Err-clause-keeps g c = λ told. of_any _ c.args.reader.now (g.S.Source.left c.args.input.now) _ (λ lines there. record {
+  undone = λ quiet.
+      halted_keeps (g.F.Pages.files c.args.folder.now) (g.F.Pages.files c.open.new.folder) c.stopped.result c.halt_result.result c.halt_result.ensures
+      (rw c.stopped.ensures
+      (fault_stops ℕ (g.F.Pages.files c.args.folder.now) (g.F.Pages.files c.open.new.folder) c.in-Err.fault
+      (fault_kept _ _ (kept_equal _ _ (c.in-Err.ensures.files told)) c.in-Err.fault)));
+  lasts = keeps_same (IsTakenOut c.args.work.now.language (dims_of c.args.origin) lines) _ _ (kept_equal _ _ (c.in-Err.ensures.files told));
+})
 
 pub returns-in-Ok-clause-lasting : goal.returns-in-Ok-clause-lasting
 returns-in-Ok-clause-lasting g c = λ told there.

@@ -1,6 +1,7 @@
 -- The lines are done on what the folder stores: no index, or the one whose commit was read.
 use Rattle.std.proofs.Common.{ℕ, IsTrue, refl, arith, Option, Err, ap, subst, ◌∙◌}
 use Rattle.index_core.proofs.Brought.{commit_equal, commit_then}
+use Rattle.index_core.proofs.LosingNone.{keeps_none, keeps_same}
 use Rattle.index_core.proofs.Undone.{fault_kept, kept_equal}
 use Rattle.outer_io.specs.declared.file_name.FileName.TheVariants.{Commit}
 use Rattle.outer_io.specs.Files.{Files}
@@ -9,12 +10,14 @@ use Rattle.index_opening.proofs.Evident.{on_commit_evident, says_after}
 use Rattle.script_run.specs.Halted.{halt_result}
 use Rattle.script_run.specs.Kept.{HaltKeeps}
 use Rattle.script_run.specs.Progress.{start}
+use Rattle.script_run.specs.Taking.{IsTakenOutOf}
 use Rattle.script_run.proofs.Calling.{fault_stops}
 use Rattle.script_run.proofs.Halting.{halt_cause_from, halt_less, halted_no_source, no_source, halted_cause, halted_ends, halted_keeps, halted_shows}
 use Rattle.script_run.proofs.Lined.{unopened, from_none, from_some}
 use Rattle.script_run.proofs.Reading.{of_any, of_same}
 use Rattle.script_run.proofs.Shown.{fault_at}
 use Rattle.script_run.proofs.StartStored.{leads_first, leads_some, leads_unread}
+use Rattle.script_run.proofs.Taken.{commit_keeps}
 use Rattle.script_run.proofs.lines.run_read.Goals as goal
 use Rattle.script_run.specs.Languages.{meaning}
 use Rattle.run_status.proofs.Ending.{fault_shows, fault_cause}
@@ -90,26 +93,39 @@ returns-in-Err-clause-evident g c =
     c.in-Err.ensures.shown))
     c.stopped.result c.stopped.ensures)
 
-pub returns-in-Ok-None-clause-undone : goal.returns-in-Ok-None-clause-undone
-returns-in-Ok-None-clause-undone g c = λ told.
-    of_any _ c.args.reader.now (g.S.Source.left c.args.input.now)
-    _ (λ lines quiet. absurd (quiet.there (rw c.in-Ok-None.field-0-is at (c.in-Ok-None.ensures.found told))))
+pub returns-in-Ok-None-clause-keeps : goal.returns-in-Ok-None-clause-keeps
+returns-in-Ok-None-clause-keeps g c = λ told.
+    let none = rw c.in-Ok-None.field-0-is at (c.in-Ok-None.ensures.found told) in
+    of_any _ c.args.reader.now (g.S.Source.left c.args.input.now) _ (λ lines. record {
+      undone = λ quiet. absurd (quiet.there none);
+      lasts = keeps_none (IsTakenOutOf c.args.work.now.language (g.F.Pages.files c.args.folder.now) lines) _ _ none;
+    })
 
-pub returns-in-Ok-Some-clause-undone : goal.returns-in-Ok-Some-clause-undone
-returns-in-Ok-Some-clause-undone g c = λ told.
+pub returns-in-Ok-Some-clause-keeps : goal.returns-in-Ok-Some-clause-keeps
+returns-in-Ok-Some-clause-keeps g c = λ told.
     let found = rw c.in-Ok-Some.field-0-is at (c.in-Ok-Some.ensures.found told) in
-    of_same _ c.args.reader.now (g.S.Source.left c.args.input.now) _ _ (λ lines undone quiet.
-    subst (λ (f : Files). HaltKeeps f (g.F.Pages.files c.run_from.new.folder) c.run_from.result) (c.in-Ok-Some.ensures.files told)
-    (undone (says_after _ _ c.in-Ok-Some.commit (c.in-Ok-Some.ensures.files told) found) (quiet.none c.in-Ok-Some.commit found)))
-    (c.run_from.ensures.undone told)
+    of_same _ c.args.reader.now (g.S.Source.left c.args.input.now) _ _ (λ lines keeps.
+    let done = keeps (says_after _ _ c.in-Ok-Some.commit (c.in-Ok-Some.ensures.files told) found) in
+    record {
+      undone = λ quiet.
+          subst (λ (f : Files). HaltKeeps f (g.F.Pages.files c.run_from.new.folder) c.run_from.result) (c.in-Ok-Some.ensures.files told)
+          (done.undone (quiet.none c.in-Ok-Some.commit found));
+      lasts = commit_keeps c.args.work.now.language c.in-Ok-Some.commit lines (g.F.Pages.files c.args.folder.now) (g.F.Pages.files c.read_commit.new.folder)
+          (g.F.Pages.files c.run_from.new.folder) found (c.in-Ok-Some.ensures.files told) done.lasts;
+    })
+    (c.run_from.ensures.keeps told)
 
-pub returns-in-Err-clause-undone : goal.returns-in-Err-clause-undone
-returns-in-Err-clause-undone g c = λ told.
-    of_any _ c.args.reader.now (g.S.Source.left c.args.input.now) _ (λ lines quiet.
-    halted_keeps (g.F.Pages.files c.args.folder.now) (g.F.Pages.files c.read_commit.new.folder) c.stopped.result c.halt_result.result c.halt_result.ensures
-    (rw c.stopped.ensures
-    (fault_stops ℕ (g.F.Pages.files c.args.folder.now) (g.F.Pages.files c.read_commit.new.folder) c.in-Err.fault
-    (fault_kept _ _ (kept_equal _ _ (c.in-Err.ensures.files told)) c.in-Err.fault))))
+pub returns-in-Err-clause-keeps : goal.returns-in-Err-clause-keeps
+returns-in-Err-clause-keeps g c = λ told.
+    of_any _ c.args.reader.now (g.S.Source.left c.args.input.now) _ (λ lines. record {
+      undone = λ quiet.
+          halted_keeps (g.F.Pages.files c.args.folder.now) (g.F.Pages.files c.read_commit.new.folder) c.stopped.result c.halt_result.result
+          c.halt_result.ensures
+          (rw c.stopped.ensures
+          (fault_stops ℕ (g.F.Pages.files c.args.folder.now) (g.F.Pages.files c.read_commit.new.folder) c.in-Err.fault
+          (fault_kept _ _ (kept_equal _ _ (c.in-Err.ensures.files told)) c.in-Err.fault)));
+      lasts = keeps_same (IsTakenOutOf c.args.work.now.language (g.F.Pages.files c.args.folder.now) lines) _ _ (kept_equal _ _ (c.in-Err.ensures.files told));
+    })
 
 pub returns-in-Ok-None-clause-lasting : goal.returns-in-Ok-None-clause-lasting
 returns-in-Ok-None-clause-lasting g c = λ told.
