@@ -19,6 +19,7 @@ use Rattle.bkd_top.specs.Checking.{EndsCheck}
 use Rattle.bkd_top.specs.Commands.{Before, EndsTask, EndsWhole, reads_input, reads_whole}
 use Rattle.run_status.specs.Causes.{ReadsInput}
 use Rattle.index_core.proofs.Brought.{commit_itself}
+use Rattle.index_core.proofs.LosingNone.{keeps_same}
 use Rattle.script_run.proofs.Calling.{nothing_costs}
 use Rattle.stored_index.proofs.KeptFiles.{kept_itself}
 use Rattle.script_run.specs.Languages.{meaning}
@@ -206,7 +207,7 @@ pub left_by : (w : Words) (a : Task) (c : Call) (s : Status) → task_of w ≡ a
 left_by w a c s is leaves = subst (λ (b : Task). LeavesTask b c s) (sym is) leaves
 
 no_whole : (files : Files) → WholeLeaves files files status.Memory
-no_whole files = record { levels = λ state h a. absurd a; undone = inl (kept_itself files) }
+no_whole files = record { levels = λ state h a. absurd a; undone = inl (kept_itself files); lasts = keeps_same _ files files (kept_itself files) }
 
 no_merge : (files : Files) → MergeLeaves files files status.Memory
 no_merge files = record {

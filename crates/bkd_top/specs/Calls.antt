@@ -8,6 +8,7 @@ use Rattle.command_words.specs.Commands.{MergingBatch}
 use Rattle.index_model.specs.State.{State}
 use Rattle.stored_index.specs.Stored.{IsStored}
 use Rattle.index_opening.specs.Evidence.{IsEvident}
+use Rattle.index_core.specs.KeptLive.{KeepsLive}
 use Rattle.index_core.specs.Light.{KeepsLevels}
 use Rattle.run_status.specs.Ends.{IsAnswer, IsDamaged, OnStatusDamage}
 use Rattle.run_status.specs.declared.status.Status.{Status}
@@ -65,11 +66,12 @@ pub record CountCosts (source : Type 0) (lines : List (List ℕ)) (old new : Fil
   pub files : new ≡ old
   pub reads : source → counts.ReadsFew old lines before now
 
--- a command that is done as a whole leaves few segments of each level, and where it isn't done it loses nothing that is
--- kept, whatever the folder holds
+-- A command that is done as a whole leaves few segments of each level. Whatever the folder holds, it loses nothing that
+-- is kept where it isn't done, and no document that is kept live
 pub record WholeLeaves (old new : Files) (s : Status) : Type 0 where
   pub levels : (state : State) → IsStored old state → IsAnswer s → KeepsLevels old new
   pub undone : StatusKeeps old new s
+  pub lasts : KeepsLive (λ number. ⊥) old new
 
 -- ---- what each command leaves, whatever the folder holds
 

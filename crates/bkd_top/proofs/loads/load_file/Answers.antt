@@ -28,6 +28,7 @@ pub returns-clause-whole : goal.returns-clause-whole
 returns-clause-whole g c = λ told. record {
   levels = λ state h answer. of_done c.load-done.result (c.tell.ensures.answer answer) (c.load-done.ensures.levels told state h);
   undone = c.tell.ensures.undone _ _ (c.load-done.ensures.undone told);
+  lasts = c.load-done.ensures.lasts told;
 }
 
 pub returns-clause-lasting : goal.returns-clause-lasting

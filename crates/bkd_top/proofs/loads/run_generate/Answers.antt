@@ -28,6 +28,7 @@ pub returns-clause-whole : goal.returns-clause-whole
 returns-clause-whole g c = λ told. record {
   levels = λ state h answer. of_done c.generate-done.result (c.tell.ensures.answer answer) (c.generate-done.ensures.levels told state h);
   undone = c.tell.ensures.undone _ _ (c.generate-done.ensures.undone told);
+  lasts = c.generate-done.ensures.lasts told;
 }
 
 pub returns-clause-lasting : goal.returns-clause-lasting

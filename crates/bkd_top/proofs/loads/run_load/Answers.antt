@@ -1,6 +1,7 @@
 -- The file that was read is the source's bytes.
 use Rattle.std.proofs.Common.{inl, refl, sym, subst, ◌∙◌, ◌≤◌, ◌^◌, ℕ, List, length}
 use Rattle.index_core.proofs.Brought.{commit_itself}
+use Rattle.index_core.proofs.LosingNone.{keeps_same}
 use Rattle.stored_index.proofs.KeptFiles.{kept_itself}
 use Rattle.run_status.specs.Ends.{DoesNothing}
 use Rattle.bkd_top.proofs.loads.run_load.Goals as goal
@@ -38,13 +39,13 @@ returns-in-Ok-clause-causes g c = record {
 }
 
 pub returns-in-Err-Failed-clause-whole : goal.returns-in-Err-Failed-clause-whole
-returns-in-Err-Failed-clause-whole g c = λ told. record { levels = λ state h a. absurd a; undone = kept_itself _ }
+returns-in-Err-Failed-clause-whole g c = λ told. record { levels = λ state h a. absurd a; undone = kept_itself _; lasts = keeps_same _ _ _ (kept_itself _) }
 
 pub returns-in-Err-TooLarge-clause-whole : goal.returns-in-Err-TooLarge-clause-whole
-returns-in-Err-TooLarge-clause-whole g c = λ told. record { levels = λ state h a. absurd a; undone = tt }
+returns-in-Err-TooLarge-clause-whole g c = λ told. record { levels = λ state h a. absurd a; undone = tt; lasts = keeps_same _ _ _ (kept_itself _) }
 
 pub returns-in-Err-Memory-clause-whole : goal.returns-in-Err-Memory-clause-whole
-returns-in-Err-Memory-clause-whole g c = λ told. record { levels = λ state h a. absurd a; undone = inl (kept_itself _) }
+returns-in-Err-Memory-clause-whole g c = λ told. record { levels = λ state h a. absurd a; undone = inl (kept_itself _); lasts = keeps_same _ _ _ (kept_itself _) }
 
 pub returns-in-Ok-clause-lasting : goal.returns-in-Ok-clause-lasting
 returns-in-Ok-clause-lasting g c = c.load_file.ensures.lasting

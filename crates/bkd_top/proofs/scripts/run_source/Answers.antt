@@ -31,7 +31,8 @@ returns-clause-costs g c = λ source told.
       still = λ state h asks. (with_lines _ _ _ source (c.run_lines.ensures.does told) state h).1.still asks;
       reads = λ s scope. (with_lines _ _ _ source (c.run_lines.ensures.does told) s.state scope.stored).1.reads s scope;
       undone = λ quiet.
-          rw c.status_of_lines.ensures (read_script _ _ c.run_lines.result (with_lines _ _ _ source (c.run_lines.ensures.undone told) quiet));
+          rw c.status_of_lines.ensures (read_script _ _ c.run_lines.result ((with_lines _ _ _ source (c.run_lines.ensures.keeps told)).undone quiet));
+      lasts = (with_lines _ _ _ source (c.run_lines.ensures.keeps told)).lasts;
     }
 
 pub returns-clause-damage : goal.returns-clause-damage
