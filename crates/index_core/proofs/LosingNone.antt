@@ -1,6 +1,6 @@
 -- That no document goes says the same of calls one after another, and of what a folder's commit keeps live.
-use Rattle.std.proofs.Common.{◌≡◌, ℕ, Bool, true, false, cond, List, [], Option, None, refl, sym, ap, subst, ◌∙◌, ◌⊎◌, inl, inr, ⊎_elim}
-use Rattle.std.proofs.Math.Logic.{∥∥₁_elim, ∥∥₁_map, ∥∥₁_prop}
+use Rattle.std.proofs.Common.{◌≡◌, ℕ, Bool, true, false, cond, List, Option, None, refl, sym, subst, ◌∙◌, ◌⊎◌, inl, inr, ⊎_elim}
+use Rattle.std.proofs.Math.Logic.{∥∥₁_map}
 use Rattle.std.specs.List.{Contains}
 use Rattle.std.proofs.lemmas.Bool.{both_ways}
 use Rattle.outer_io.specs.declared.file_name.FileName.TheVariants.{Commit, Live, Segment}
@@ -21,7 +21,7 @@ use Rattle.segment_set.specs.Faithful.{IsFaithful}
 use Rattle.segment_set.proofs.Carried.{finds_file}
 use Rattle.segment_set.proofs.Needed.{any_found}
 use Rattle.index_core.specs.Brought.{KeepsOwn}
-use Rattle.index_core.specs.KeptLive.{FindsKept, IsKeptLive, IsKeptWithout, KeepsLive, KeepsSet}
+use Rattle.index_core.specs.KeptLive.{FindsKept, IsKeptLive, KeepsLive, KeepsSet}
 use Rattle.index_core.specs.Lasting.{Lasts, LosesNone, WasThere}
 use Rattle.index_core.proofs.Guarding.{says_some}
 use Rattle.index_core.proofs.Lasting.{NoneGoes, lasts_itself}
