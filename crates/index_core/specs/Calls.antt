@@ -43,9 +43,9 @@ pub record IsDurable {T : Type 0} (D : ℕ) (told : Type 0) (old new : Files) (s
   pub lasting : told → Trusts D old s → KeepsCommit old new
   pub lasts : told → IsFaithful D old s.set → Lasts D (λ number. ⊥) old new s.set t.set
 
--- A done commit: nothing is changed since, its files of live bits hold just what is live, and the list of names has each
--- file that came. Where something was changed it was written anew; with no merge begun it lists few segments of each
--- level.
+-- A done commit: nothing is changed since, its files of live bits hold just what is live, and the list of names has
+-- each file that came. Where something was changed it was written anew; with no merge begun it lists few segments of
+-- each level.
 pub record IsCommitted (D : ℕ) (told : Type 0) (old new : Files) (s t : SessionData) : Type 0 where
   pub unchanged : IsUnchanged t
   pub lives : told → Guards D old s → (c : CommitData) → t.commit ≡ Some c → HaveLive new c (lives_of t.set.parts)
