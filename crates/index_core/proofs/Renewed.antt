@@ -23,15 +23,16 @@ use Rattle.stored_index.specs.Stored.{HasLive, HaveLive}
 use Rattle.stored_index.proofs.Pairwise.{partner_of, zip_map, zip_once}
 use Rattle.segment_view.specs.LiveSegments.{LiveSegment, has_live, ids_of, lives_of}
 use Rattle.index_opening.specs.Evidence.{IsHeadIn}
-use Rattle.segment_set.specs.Faithful.{HasFileHead}
+use Rattle.segment_set.specs.Faithful.{HasFileHead, IsFaithful}
 use Rattle.segment_set.specs.Sets.{SetData}
 use Rattle.segment_set.specs.Kept.{IsAsCommitted, IsSubset, StaysButFiles}
 use Rattle.segment_set.specs.Saved.{CoversPart}
 use Rattle.segment_set.proofs.Carried.{within_itself}
 use Rattle.segment_set.proofs.Covered.{live_file_set}
 use Rattle.segment_set.proofs.Numbers.{same_live}
+use Rattle.index_core.specs.Brought.{KeepsCommit, KeepsOwn}
 use Rattle.index_core.specs.Lasting.{Lasts}
-use Rattle.index_core.specs.Sessions.{Guards, IsLast, IsLastCommit, IsSound, IsUnchanged, SessionData}
+use Rattle.index_core.specs.Sessions.{AreTraced, Guards, IsLast, IsLastCommit, IsSound, IsUnchanged, SessionData, StaysTrue, Trusts}
 use Rattle.index_core.specs.Steps.{SaysCommit}
 use Rattle.index_core.proofs.Committing.{some_same}
 use Rattle.index_core.proofs.Guarding.{cons_first, cons_rest}
@@ -139,3 +140,20 @@ attached_last D files m t u c parts buffer was is heads anew first then = record
         (zip_once (HasLive files)
         (λ l a b x y. one_live_set l.segment l.generation (bytes_of (files (Live l.segment l.generation))) a b x y) c.listed (lives_of m.parts)
         (lives_of t.parts) first then)
+
+-- ---- where the files stay
+
+module _ (D : ℕ) (told : Type 0) (old mid new : Files) (s t : SessionData) (same : told → new ≡ mid) where
+  pub stays_read : StaysTrue D told old mid s t → StaysTrue D told old new s t
+  stays_read stays = record {
+    guards = λ is_told guards. subst (λ (f : Files). Guards D f t) (sym (same is_told)) (stays.guards is_told guards);
+    faithful = λ is_told faithful. subst (λ (f : Files). IsFaithful D f t.set) (sym (same is_told)) (stays.faithful is_told faithful);
+    traced = λ is_told trusts. subst (λ (f : Files). AreTraced D f t.set.parts) (sym (same is_told)) (stays.traced is_told trusts);
+  }
+
+module _ (D : ℕ) (told : Type 0) (old mid new : Files) (s : SessionData) (same : told → new ≡ mid) where
+  pub own_read : (told → Guards D old s → KeepsOwn D told old mid s.set) → told → Guards D old s → KeepsOwn D told old new s.set
+  own_read own is_told guards = subst (λ (f : Files). KeepsOwn D told old f s.set) (sym (same is_told)) (own is_told guards)
+
+  pub lasting_read : (told → Trusts D old s → KeepsCommit old mid) → told → Trusts D old s → KeepsCommit old new
+  lasting_read lasting is_told trusts = subst (KeepsCommit old) (sym (same is_told)) (lasting is_told trusts)

@@ -69,8 +69,7 @@ returns-then-not-is_changed g c =
       flight = λ told guards. inl (kept_itself _);
       done = record {
         unchanged = unchanged;
-        lives = λ told guards last is.
-            unchanged_lives g.row.D _ _ unchanged (c.is_changed.ensures.sound c.if-not-is_changed.true) guards last is;
+        lives = λ told guards last is. unchanged_lives g.row.D _ _ unchanged (c.is_changed.ensures.sound c.if-not-is_changed.true) guards last is;
         anew = λ changed. absurd (changed unchanged);
         levels = λ changed none. absurd (changed unchanged);
         few = λ told guards none. inl refl;
@@ -213,6 +212,7 @@ returns g c =
     let swept = g.F.Pages.files c.sweep.new.folder in
     let kept = kept_opened g.row.D (IsTrue g.F.Pages.told) old saved _ _ _ c.self.view_is c.save.ensures.rewrites.kept in
     let same = c.sweep.ensures.written.0 ∙ c.in_ok-write.ensures.written.0 in
+    let committed = as_committed _ _ _ _ _ c.in_ok-commit.ensures.saves.commit c.in_ok-commit.ensures.emptied c.write.ensures.set c.sweep.ensures.rest in
     let flown = ap (λ (u : SetData). u.saved) c.sweep.ensures.rest.is
     ∙ (ap (λ (u : SetData). u.saved) c.write.ensures.set ∙ c.in_ok-commit.ensures.saves.saved ∙ sym c.in_ok-write.ensures.written.0)
     ∙ sym c.sweep.ensures.written.0 in
@@ -267,23 +267,16 @@ returns g c =
       flight = λ told guards. inr (says_still written swept _ _ (c.sweep.ensures.kept told (guarded told guards)) (flown ∙ c.sweep.ensures.written.0)
           (c.in_ok-write.ensures.kept told));
       done = on_ok_any c.sweep.result (record {
-        unchanged = record {
-          commit = c.in_ok-commit.commit;
-          is = same;
-          done = c.sweep.ensures.written.1;
-          same = as_committed _ _ _ _ _ c.in_ok-commit.ensures.saves.commit c.in_ok-commit.ensures.emptied c.write.ensures.set c.sweep.ensures.rest;
-        };
-        lives = λ told guards last is. swept_lives saved written swept c.save.new.self c.write.new.self.set c.sweep.new.self.set c.in_ok-commit.commit last
-            c.write.new.self.commit c.sweep.new.self.commit (c.in_ok-commit.ensures.saves.live told (covers guards)) (c.write.ensures.others told)
-            (c.in_ok-write.ensures.kept told) c.in_ok-write.ensures.written.0 (c.sweep.ensures.kept told (guarded told guards)) c.write.ensures.set
-            c.sweep.ensures.rest same is;
+        unchanged = record { commit = c.in_ok-commit.commit; is = same; done = c.sweep.ensures.written.1; same = committed };
+        lives = λ told guards last is. swept_lives saved written swept _ _ _ _ last _ _ (c.in_ok-commit.ensures.saves.live told (covers guards))
+            (c.write.ensures.others told) (c.in_ok-write.ensures.kept told) c.in_ok-write.ensures.written.0 (c.sweep.ensures.kept told (guarded told guards))
+            c.write.ensures.set c.sweep.ensures.rest same is;
         anew = λ changed. subst (λ (u : SessionData). IsCommitAnew u c.sweep.new.self) c.self.view_is
             (commit_anew _ _ c.in_ok-commit.commit _ c.last_lines-last.ensures same c.in_ok-commit.ensures.saves.fresh c.in_ok-commit.ensures.saves.kept);
         levels = λ changed none. few none;
         few = λ told guards none. few_listed old swept c.sweep.new.self.commit (says told guards) (few none);
         tracked = λ told m. subst (λ (u : SessionData). IsTracked old swept u.set.names c.sweep.new.self.set.names m) c.self.view_is
-            (tracked_commit _ old saved written swept c.self.inside.set.names c.save.new.self.names c.write.new.self.set.names
-            c.sweep.new.self.set.names m told c.save.ensures.rewrites.kept (ap (λ (u : SetData). u.names) c.write.ensures.set)
+            (tracked_commit _ old saved written swept _ _ _ _ m told c.save.ensures.rewrites.kept (ap (λ (u : SetData). u.names) c.write.ensures.set)
             (c.write.ensures.others told) (c.in_ok-write.ensures.gone told) (c.sweep.ensures.removes.tracked told m));
       });
       idle = λ unchanged. absurd (both_ways c.is_changed.result (c.is_changed.ensures.unchanged.1 unchanged) c.if-not-is_changed.false);

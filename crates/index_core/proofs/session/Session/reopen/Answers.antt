@@ -14,7 +14,6 @@ use Rattle.index_opening.specs.Evidence.{IsTwice}
 use Rattle.segment_set.specs.Faithful.{IsFaithful}
 use Rattle.index_opening.proofs.Evident.{on_evident_at}
 use Rattle.index_core.specs.Sessions.{AreTraced, Guards, IsCommitAnew, IsUnchanged, SessionData}
-use Rattle.index_core.specs.Brought.{KeepsCommit, KeepsOwn}
 use Rattle.index_core.specs.Effects.{BringsCanonical}
 use Rattle.index_core.proofs.Bringing.{brings_anew, brings_then}
 use Rattle.index_core.specs.Steps.{SaysCommit}
@@ -35,7 +34,7 @@ use Rattle.index_core.proofs.Arranging.{on_err_any}
 use Rattle.index_core.specs.Lasting.{Lasts}
 use Rattle.index_core.proofs.Lasting.{NoneGoes}
 use Rattle.index_core.proofs.LosingNone.{lasts_then}
-use Rattle.index_core.proofs.Renewed.{attached_last}
+use Rattle.index_core.proofs.Renewed.{attached_last, lasting_read, own_read, stays_read}
 use Rattle.index_core.proofs.session.Session.reopen.Given as given
 use Rattle.index_core.proofs.session.Session.reopen.Goals as goal
 use Rattle.segment_set.proofs.Saving.{cause_after}
@@ -75,31 +74,18 @@ pub returns-in_err-set-clause-applies : goal.returns-in_err-set-clause-applies
 returns-in_err-set-clause-applies g c =
     let p = err_from_is_err_and c.from_residual-in_err-set.result c.from_residual-in_err-set.ensures.1 in
     applies_is _ _ _ _ _ _ _ _ (p.1 ∙ ap (λ (e : PageFault). Err e) p.2) (record {
-      does = λ told i seen guards.
-          does_fault _ _ _ i
-          _ _ _ _ (subst (λ (f : Files). Sees g.row.D f c.commit.new.self.set i) (sym (c.attach_anew.ensures.files told)) (c.commit.ensures.seen told i seen));
+      does = λ told i seen guards. does_fault _ _ _ i _ _ _ _
+          (subst (λ (f : Files). Sees g.row.D f c.commit.new.self.set i) (sym (c.attach_anew.ensures.files told)) (c.commit.ensures.seen told i seen));
       begins = begins_itself _;
-      stays = record {
-        guards = λ told guards.
-            subst (λ (f : Files). Guards g.row.D f c.commit.new.self) (sym (c.attach_anew.ensures.files told)) (c.commit.ensures.stays.guards told guards);
-        faithful = λ told faithful.
-            subst (λ (f : Files). IsFaithful g.row.D f c.commit.new.self.set) (sym (c.attach_anew.ensures.files told))
-            (c.commit.ensures.stays.faithful told faithful);
-        traced = λ told trusts.
-            subst (λ (f : Files). AreTraced g.row.D f c.commit.new.self.set.parts) (sym (c.attach_anew.ensures.files told))
-            (c.commit.ensures.stays.traced told trusts);
-      };
+      stays = stays_read _ _ _ _ _ _ _ c.attach_anew.ensures.files c.commit.ensures.stays;
       keeps = record {
         kept = λ told guards. subst (λ (f : Files). SameKept (g.F.Pages.files c.args.folder.now) f ⊎ SaysCommit f c.commit.new.self.set.saved)
             (sym (c.attach_anew.ensures.files told)) (c.commit.ensures.flight told guards);
         stored = λ told i seen guards e.
             inr (subst (λ (f : Files). IsStored f (Some (at_rest i))) (sym (c.attach_anew.ensures.files told))
             (c.in_ok-commit.ensures.durable.stored told i seen guards).0);
-        own = λ told guards.
-            subst (λ (f : Files). KeepsOwn g.row.D (IsTrue g.F.Pages.told) (g.F.Pages.files c.args.folder.now) f c.args.self.now.set)
-            (sym (c.attach_anew.ensures.files told)) (c.commit.ensures.durable.own told guards);
-        lasting = λ told trusts.
-            subst (KeepsCommit (g.F.Pages.files c.args.folder.now)) (sym (c.attach_anew.ensures.files told)) (c.commit.ensures.durable.lasting told trusts);
+        own = own_read _ _ _ _ _ _ c.attach_anew.ensures.files c.commit.ensures.durable.own;
+        lasting = lasting_read _ _ _ _ _ _ c.attach_anew.ensures.files c.commit.ensures.durable.lasting;
       };
       commits = λ e. record {
         idle = λ told unchanged. c.attach_anew.ensures.files told ∙ (c.commit.ensures.idle unchanged).2;
@@ -126,31 +112,18 @@ pub returns-in_err-put_ok-clause-applies : goal.returns-in_err-put_ok-clause-app
 returns-in_err-put_ok-clause-applies g c =
     let p = err_from_is_err_and c.from_residual-in_err-put_ok.result c.from_residual-in_err-put_ok.ensures.1 in
     applies_is _ _ _ _ _ _ _ _ (p.1 ∙ ap (λ (e : PageFault). Err e) p.2) (record {
-      does = λ told i seen guards.
-          does_fault _ _ _ i
-          _ _ _ _ (subst (λ (f : Files). Sees g.row.D f c.commit.new.self.set i) (sym (c.attach_anew.ensures.files told)) (c.commit.ensures.seen told i seen));
+      does = λ told i seen guards. does_fault _ _ _ i _ _ _ _
+          (subst (λ (f : Files). Sees g.row.D f c.commit.new.self.set i) (sym (c.attach_anew.ensures.files told)) (c.commit.ensures.seen told i seen));
       begins = begins_same _ _ c.in_err-put_ok.ensures.memory;
-      stays = record {
-        guards = λ told guards.
-            subst (λ (f : Files). Guards g.row.D f c.commit.new.self) (sym (c.attach_anew.ensures.files told)) (c.commit.ensures.stays.guards told guards);
-        faithful = λ told faithful.
-            subst (λ (f : Files). IsFaithful g.row.D f c.commit.new.self.set) (sym (c.attach_anew.ensures.files told))
-            (c.commit.ensures.stays.faithful told faithful);
-        traced = λ told trusts.
-            subst (λ (f : Files). AreTraced g.row.D f c.commit.new.self.set.parts) (sym (c.attach_anew.ensures.files told))
-            (c.commit.ensures.stays.traced told trusts);
-      };
+      stays = stays_read _ _ _ _ _ _ _ c.attach_anew.ensures.files c.commit.ensures.stays;
       keeps = record {
         kept = λ told guards. subst (λ (f : Files). SameKept (g.F.Pages.files c.args.folder.now) f ⊎ SaysCommit f c.commit.new.self.set.saved)
             (sym (c.attach_anew.ensures.files told)) (c.commit.ensures.flight told guards);
         stored = λ told i seen guards e.
             inr (subst (λ (f : Files). IsStored f (Some (at_rest i))) (sym (c.attach_anew.ensures.files told))
             (c.in_ok-commit.ensures.durable.stored told i seen guards).0);
-        own = λ told guards.
-            subst (λ (f : Files). KeepsOwn g.row.D (IsTrue g.F.Pages.told) (g.F.Pages.files c.args.folder.now) f c.args.self.now.set)
-            (sym (c.attach_anew.ensures.files told)) (c.commit.ensures.durable.own told guards);
-        lasting = λ told trusts.
-            subst (KeepsCommit (g.F.Pages.files c.args.folder.now)) (sym (c.attach_anew.ensures.files told)) (c.commit.ensures.durable.lasting told trusts);
+        own = own_read _ _ _ _ _ _ c.attach_anew.ensures.files c.commit.ensures.durable.own;
+        lasting = lasting_read _ _ _ _ _ _ c.attach_anew.ensures.files c.commit.ensures.durable.lasting;
       };
       commits = λ e. record {
         idle = λ told unchanged. c.attach_anew.ensures.files told ∙ (c.commit.ensures.idle unchanged).2;
@@ -216,11 +189,8 @@ returns-clause-applies g c = record {
       ap (λ (u : SetData). u.buffer) (kept g c) ∙ (c.in_ok-set.ensures.unchanged c.in_ok-commit.ensures.done.unchanged.commit
           c.in_ok-commit.ensures.done.unchanged.is).empty,
     );
-    own = λ told guards.
-        subst (λ (f : Files). KeepsOwn g.row.D (IsTrue g.F.Pages.told) (g.F.Pages.files c.args.folder.now) f c.args.self.now.set)
-        (sym (c.attach_anew.ensures.files told)) (c.commit.ensures.durable.own told guards);
-    lasting = λ told trusts.
-        subst (KeepsCommit (g.F.Pages.files c.args.folder.now)) (sym (c.attach_anew.ensures.files told)) (c.commit.ensures.durable.lasting told trusts);
+    own = own_read _ _ _ _ _ _ c.attach_anew.ensures.files c.commit.ensures.durable.own;
+    lasting = lasting_read _ _ _ _ _ _ c.attach_anew.ensures.files c.commit.ensures.durable.lasting;
   };
   commits = λ e. record {
     idle = λ told unchanged. c.attach_anew.ensures.files told ∙ (c.commit.ensures.idle unchanged).2;
