@@ -206,8 +206,7 @@ returns-in_err-write g c =
 -- the commit is written, and what it doesn't need was swept away as far as the folder let
 pub returns : goal.returns
 returns g c =
-    let old = g.F.Pages.files c.args.folder.now in
-    let saved = g.F.Pages.files c.save.new.folder in
+    let old = g.F.Pages.files c.args.folder.now in let saved = g.F.Pages.files c.save.new.folder in
     let written = g.F.Pages.files c.write.new.folder in
     let swept = g.F.Pages.files c.sweep.new.folder in
     let kept = kept_opened g.row.D (IsTrue g.F.Pages.told) old saved _ _ _ c.self.view_is c.save.ensures.rewrites.kept in
@@ -276,7 +275,8 @@ returns g c =
         levels = λ changed none. few none;
         few = λ told guards none. few_listed old swept c.sweep.new.self.commit (says told guards) (few none);
         tracked = λ told m. subst (λ (u : SessionData). IsTracked old swept u.set.names c.sweep.new.self.set.names m) c.self.view_is
-            (tracked_commit _ old saved written swept _ _ _ _ m told c.save.ensures.rewrites.kept (ap (λ (u : SetData). u.names) c.write.ensures.set)
+            (tracked_commit _ old saved written swept c.self.inside.set.names c.save.new.self.names c.write.new.self.set.names
+            c.sweep.new.self.set.names m told c.save.ensures.rewrites.kept (ap (λ (u : SetData). u.names) c.write.ensures.set)
             (c.write.ensures.others told) (c.in_ok-write.ensures.gone told) (c.sweep.ensures.removes.tracked told m));
       });
       idle = λ unchanged. absurd (both_ways c.is_changed.result (c.is_changed.ensures.unchanged.1 unchanged) c.if-not-is_changed.false);
