@@ -11,6 +11,7 @@ FUNCTION calls, however far below. So calls get stubs: in a copy the body of FUN
 BODY, as Err(PageFault::Memory), and its proof a hole; then `depends on a hole in ..` of stubs alone is as good as
 proved. It gives no verdict: `rt check` and the gate do. It asks the kit's own rtlib.py for the words of a check.
 """
+import glob
 import importlib.machinery
 import importlib.util
 import os
@@ -70,8 +71,11 @@ def stub(root, place, body):
         text.write(f"{source[:begin.end()]}{indent}    {body}{source[end:]}")
     # its proof stands below the type's module, which need not be that of the file
     proofs = f"{root}/crates/{crate}/proofs"
-    [folder] = [at for at, _, _ in os.walk(proofs) if at.endswith(f"/{function}") and is_of(at, source)]
-    shutil.rmtree(folder)
+    places = [at for at, _, _ in os.walk(proofs) if is_of(f"{at}/{function}", source)]
+    [folder] = ([f"{at}/{function}" for at in places if glob.glob(f"{at}/{function}/*.antt")]
+                # one that search proves has no folder: beside another one of its type
+                or [f"{at}/{function}" for at in places if os.path.basename(at)[:1].isupper()])
+    shutil.rmtree(folder, ignore_errors=True)
     os.makedirs(folder)
     module = ".".join(["Rattle", crate, "proofs", *os.path.relpath(folder, proofs).split("/"), "Statement"])
     with open(f"{folder}/Proof.antt", "w", encoding="utf-8") as text:

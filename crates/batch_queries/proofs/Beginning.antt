@@ -1,12 +1,13 @@
 -- A batch that is answered while a merge begins, by what the calls answered.
 use Rattle.std.proofs.Common.{◌≡◌, ◌≤◌, ◌⊎◌, ⊎_elim, ℕ, zero, suc, Bool, true, false, if◌then◌else◌, List, [], ◌∷◌, map, take, length, Some, None, Result, Ok}
-use Rattle.std.proofs.Common.{Err, OnOk, refl, sym, ap, subst, ◌∙◌, arith}
+use Rattle.std.proofs.Common.{Err, OnOk, inl, inr, refl, sym, ap, subst, ◌∙◌, arith}
 use Rattle.std.specs.List.{Contains}
 use Rattle.std.proofs.lemmas.Bool.{false≢true}
 use Rattle.outer_io.specs.declared.file_name.FileName.TheVariants.{Segment}
 use Rattle.outer_io.specs.Files.{Files}
 use Rattle.documents.specs.Entries.{is_among}
 use Rattle.documents.proofs.Kept.{among_to}
+use Rattle.std.proofs.lemmas.Grind.{merely}
 use Rattle.documents.proofs.Lists.{cons_cases, cons_head, cons_tail, nil_none, of_map}
 use Rattle.page_cache.specs.declared.faults.PageFault.{PageFault}
 use Rattle.page_cache.specs.declared.faults.PageFault.TheVariants as page
@@ -18,16 +19,19 @@ use Rattle.index_model.specs.Step.{Refused, done_ok, step_on}
 use Rattle.index_model.specs.declared.session.Applied.{Applied}
 use Rattle.index_model.specs.declared.session.Applied.TheVariants as applied
 use Rattle.stored_index.proofs.KeptFiles.{kept_itself}
-use Rattle.index_opening.proofs.Evident.{on_evident_less}
+use Rattle.index_opening.specs.Evidence.{IsTwice}
+use Rattle.index_opening.proofs.Evident.{on_evident_named}
 use Rattle.segment_view.specs.LiveSegments.{ids_of}
 use Rattle.file_names.specs.Names.{is_named}
 use Rattle.segment_set.specs.Merged.{chosen_ids}
 use Rattle.segment_set.specs.Seen.{Sees}
 use Rattle.segment_set.specs.Sets.{SetData}
+use Rattle.index_core.specs.Carried.{IsFileOf}
 use Rattle.index_core.specs.Effects.{HasBegun, OnDone}
 use Rattle.index_core.specs.Sessions.{IsLast, SessionData, Trusts}
 use Rattle.index_core.specs.Steps.{Applies, DoesOver, StepMoment}
 use Rattle.index_core.specs.Whole.{SessionMoment}
+use Rattle.index_core.proofs.Carrying.{listed_file, listed_kept}
 use Rattle.index_core.proofs.FaultCauses.{done_cause, fault_to, memory_cause}
 use Rattle.index_core.proofs.Bringing.{brings_same}
 use Rattle.index_core.proofs.Guarding.{names_listed}
@@ -104,8 +108,11 @@ module _ (D : ℕ) (told : Type 0) (r : Resident D) where
       kept = λ t o. begins.keeps.kept t o.trusts.guards;
       whole = λ t o. begins.faults.whole t o.index (o.seen o.index o.stored) (λ e. o.trusts.guards);
       cause = fault_to a.faults b.faults fault begins.faults.cause;
-      evident = on_evident_less {X = Applied} (told × Trusts D a.files a.session) (told × AreOpen D a.files r a.session) b.files (Err fault)
-          (λ h. (h.0, h.1.trusts)) begins.faults.evident;
+      evident = on_evident_named {X = Applied} (IsFileOf a.files b.files a.session.set) (λ _. ⊥) (IsTwice b.files) (told × Trusts D a.files a.session)
+          (told × AreOpen D a.files r a.session) b.files (Err fault) (λ h. (h.0, h.1.trusts))
+          (λ h file o. merely (inl (inr (listed_kept a.files b.files file (begins.keeps.kept h.0 h.1.trusts.guards)
+          (listed_file a.files b.files a.session.set h.1.own file o)))))
+          begins.faults.evident;
     })
 
     -- the merge of the positions below the count is begun

@@ -19,6 +19,7 @@ use Rattle.segment_set.specs.Seen.{Sees}
 use Rattle.index_core.specs.Brought.{KeepsCommit}
 use Rattle.index_core.specs.Effects.{BringsCanonical}
 use Rattle.index_core.specs.Light.{KeepsLevels}
+use Rattle.index_core.specs.Carried.{AreOfListed}
 use Rattle.index_core.specs.Sessions.{Guards, IsUnchanged, SessionData, Trusts}
 use Rattle.index_core.specs.Steps.{KeepsUndone, SaysCommit}
 use Rattle.index_core.specs.Whole.{SessionMoment}
@@ -61,6 +62,7 @@ pub record AreOpen (D : ℕ) (files : Files) (r : Resident D) (s : SessionData) 
   pub copy : (i : Index) → IsStored files (Some i) → IsCopyOf i.docs r
   pub seen : (i : Index) → IsStored files (Some i) → Sees D files s.set i
   pub trusts : Trusts D files s
+  pub own : AreOfListed files s.set
   pub unchanged : IsUnchanged s
 
 -- the ids of its first segments

@@ -7,7 +7,7 @@ use Rattle.command_words.specs.Commands.{Task, Run, Load, Explain, Check, Genera
 use Rattle.command_words.specs.Commands.{MergingBatch}
 use Rattle.index_model.specs.State.{State}
 use Rattle.stored_index.specs.Stored.{IsStored}
-use Rattle.index_opening.specs.Evidence.{IsEvident}
+use Rattle.index_opening.specs.Evidence.{IsEvidentSince}
 use Rattle.index_core.specs.KeptLive.{KeepsLive}
 use Rattle.index_core.specs.Light.{KeepsLevels}
 use Rattle.run_status.specs.Ends.{IsAnswer, IsDamaged, OnStatusDamage}
@@ -50,11 +50,11 @@ TakesInput (Generate docs seed forks) left now s = Unit {0}
 
 -- ---- damage
 
--- a folder that stored a state is never found damaged, and a damage is shown by what it carries, and is true of told
--- files
+-- A folder that stored a state is never found damaged. A damage is shown by what it carries, and is true of told files:
+-- of one that the commit of now lists, or that of before, as a snapshot may need it.
 pub record TellsDamage (told : Type 0) (old new : Files) (s : Status) : Type 0 where
   pub never : told → (state : State) → IsStored old state → IsDamaged s → ⊥
-  pub evident : OnStatusDamage s (IsEvident told new)
+  pub evident : OnStatusDamage s (IsEvidentSince old told new)
 
 -- explaining changes no file, whatever the status, and reads little
 pub record ExplainCosts (source : Type 0) (lines : List (List ℕ)) (old new : Files) (before now : ℕ) : Type 0 where

@@ -9,9 +9,8 @@ ghost use Rattle.script_lang.specs.Lines.{lines_of};
 ghost use Rattle.index_model.specs.State.{State};
 ghost use Rattle.stored_index.specs.Stored.{IsStored};
 ghost use Rattle.index_opening.specs.Evidence.{IsEvident};
-ghost use Rattle.segment_set.specs.Faithful.{IsFaithful};
 ghost use Rattle.explain_queries.specs.Explained.{IsScope, Scope, TellsLine, bare};
-ghost use Rattle.explain_queries.specs.Explains.{IsExplaining};
+ghost use Rattle.explain_queries.specs.Explains.{IsExplaining, KnowsFiles};
 ghost use Rattle.run_status.specs.Told.{EndsLines, EndsTold, SendsLine, TellsLines, Told};
 ghost use Rattle.run_status.specs.Causes.{HasCauses, ReadsInput};
 ghost use Rattle.bkd_top.specs.Calls.{TellsDamage};
@@ -228,7 +227,7 @@ fn explain_all<const D: usize, F: Folder, K: Sink>(
     ensures cause { HasStopCause (F.faults folder.old) (F.faults folder.new) (K.faults out.old)
         (K.faults out.new) result }
     ensures evident { OnStopDamage result
-        (IsEvident (IsTrue F.told × IsFaithful D (F.files folder.old) set.old) (F.files folder.new)) }
+        (IsEvident (IsTrue F.told × KnowsFiles D (F.files folder.old) set.old) (F.files folder.new)) }
 {
     let mut reply = Vec::new(alloc);
     let mut rest = lines;
@@ -268,10 +267,10 @@ fn tell_line<const D: usize, F: Folder, K: Sink>(
         → F.reads folder.new ≤ F.reads folder.old + t.touched }
     ensures cause { HasStopCause (F.faults folder.old) (F.faults folder.new) (K.faults out.old)
         (K.faults out.new) result }
-    ensures faithful { IsTrue F.told → IsFaithful D (F.files folder.old) set.old
-        → IsFaithful D (F.files folder.new) set.new }
+    ensures knows { IsTrue F.told → KnowsFiles D (F.files folder.old) set.old
+        → KnowsFiles D (F.files folder.new) set.new }
     ensures evident { OnStopDamage result
-        (IsEvident (IsTrue F.told × IsFaithful D (F.files folder.old) set.old) (F.files folder.new)) }
+        (IsEvident (IsTrue F.told × KnowsFiles D (F.files folder.old) set.old) (F.files folder.new)) }
 {
     reply.clear();
     match explain_line(alloc, set, folder, number, line, reply) {

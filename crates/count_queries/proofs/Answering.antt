@@ -3,8 +3,9 @@ use Rattle.std.proofs.Common.{◌≡◌, ◌≤◌, ◌+◌, ◌++◌, ℕ, Bool
 use Rattle.std.proofs.Common.{subst, ◌∙◌, inl, inr, arith}
 use Rattle.std.specs.Option.{option_map}
 use Rattle.std.proofs.lemmas.Grind.{merely}
-use Rattle.std.proofs.lemmas.List.Elements.{All-weaker}
+use Rattle.std.proofs.lemmas.List.Elements.{All-contains, All-weaker}
 use Rattle.outer_io.specs.Files.{Files}
+use Rattle.outer_io.specs.declared.file_name.FileName.TheVariants.{Segment}
 use Rattle.point_codec.specs.Points.{Region}
 use Rattle.cell_relate.specs.Boxes.{crosses}
 use Rattle.page_cache.specs.declared.cache.PageCache.{PageCache}
@@ -18,8 +19,8 @@ use Rattle.index_model.specs.State.{Index, State}
 use Rattle.segment_view.specs.LiveSegments.{LiveSegment}
 use Rattle.segment_view.specs.Held.{HasOwnHead}
 use Rattle.segment_view.specs.Damages.{IsPartDamage}
-use Rattle.index_opening.specs.Evidence.{IsEvident, IsHeadIn, IsTwice}
-use Rattle.index_opening.proofs.Evident.{on_part_evident}
+use Rattle.index_opening.specs.Evidence.{IsEvident, IsHeadIn, IsOfListed, IsTwice}
+use Rattle.index_opening.proofs.LeafEvident.{on_part_evident}
 use Rattle.script_lang.specs.Replies.{line_fault_text, refusal_text}
 use Rattle.script_lang.specs.declared.faults.LineFault.{LineFault}
 use Rattle.point_counts.specs.Grids.{Judges, Plan}
@@ -168,8 +169,9 @@ pub reads_evident : {T : Type 0} (D : ℕ) (told : Type 0) (files : Files) (part
     → (told → Agrees files cache → OnDamage r (IsLeafDamageOf files)) → OnDamage r (IsPartDamage D parts)
     → OnDamage r (IsEvident (told × AreTrue D files parts cache) files)
 reads_evident D told files parts cache r damage shown =
-    on_part_evident (IsTwice files) (told × AreTrue D files parts cache) D files parts r
-    (λ t. All-weaker (HasOwnHead D files) (λ (p : LiveSegment). ∥ IsHeadIn files D p.head ∥₁) (λ p h. merely h) parts t.1.1)
+    on_part_evident (λ file. ⊥) (IsTwice files) (told × AreTrue D files parts cache) D files parts r
+    (λ t. All-weaker (HasOwnHead D files) (λ (p : LiveSegment). ∥ IsHeadIn files D p.head ∥₁) (λ p h. merely h) parts t.1.1.0)
+    (λ t p there. inl (inr (All-contains (λ (q : LiveSegment). IsOfListed files (Segment q.head.id)) parts p t.1.1.1 there)))
     (λ t. damage t.0 t.1.0) shown
 
 -- ---- a line

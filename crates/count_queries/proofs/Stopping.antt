@@ -9,8 +9,8 @@ use Rattle.page_cache.proofs.Damages.{fault_weaker}
 use Rattle.index_model.specs.State.{State}
 use Rattle.stored_index.specs.Stored.{IsStored, IsUndefined}
 use Rattle.segment_view.specs.LiveSegments.{LiveSegment}
-use Rattle.index_opening.specs.Evidence.{IsEvident, IsTwice}
-use Rattle.index_opening.proofs.Evident.{evident_at}
+use Rattle.index_opening.specs.Evidence.{IsEvident}
+use Rattle.index_opening.proofs.Evident.{evident_files}
 use Rattle.run_status.specs.Ends.{OnStopDamage}
 use Rattle.run_status.specs.declared.stop.Stop.{Stop}
 use Rattle.run_status.proofs.Ending.{stop_weaker}
@@ -18,11 +18,11 @@ use Rattle.count_queries.specs.Counted.{Scope}
 use Rattle.count_queries.specs.Counts.{AreTrue, IsCounting}
 
 pub fault_at : (S T : Type 0) (f g : Files) (fault : PageFault) → (T → S) → (T → g ≡ f) → FaultShows (IsEvident S f) fault → FaultShows (IsEvident T g) fault
-fault_at S T f g fault less same = fault_weaker fault (IsEvident S f) (IsEvident T g) (λ d h. evident_at IsTwice S T f g d less same h)
+fault_at S T f g fault less same = fault_weaker fault (IsEvident S f) (IsEvident T g) (λ d h. evident_files S T f g d less same h)
 
 pub stop_evident : {X : Type 0} (S T : Type 0) (f g : Files) (result : Result X Stop) → (T → S) → (T → g ≡ f) → OnStopDamage result (IsEvident S f)
     → OnStopDamage result (IsEvident T g)
-stop_evident S T f g result less same = stop_weaker (IsEvident S f) (IsEvident T g) result (λ d h. evident_at IsTwice S T f g d less same h)
+stop_evident S T f g result less same = stop_weaker (IsEvident S f) (IsEvident T g) result (λ d h. evident_files S T f g d less same h)
 
 pub agrees_at : (old new : Files) (cache : PageCache) → new ≡ old → Agrees old cache → Agrees new cache
 agrees_at old new cache same = subst (λ (f : Files). Agrees f cache) (sym same)

@@ -1,6 +1,7 @@
 -- How lines are counted over the segments of a stored index, and what counting reads.
 use Rattle.std.specs.Prelude.{ℕ, ◌+◌, ◌≡◌, ◌≤◌, Bool, List, All, Some, Result, IfOk}
 use Rattle.outer_io.specs.Files.{Files}
+use Rattle.outer_io.specs.declared.file_name.FileName.TheVariants.{Segment}
 use Rattle.page_cache.specs.declared.cache.PageCache.{PageCache}
 use Rattle.page_cache.specs.declared.faults.PageFault.{PageFault}
 use Rattle.page_cache.specs.Cache.{Agrees}
@@ -12,7 +13,7 @@ use Rattle.index_model.specs.State.{Index}
 use Rattle.stored_index.specs.Opening.{IsOpening, segments_pages}
 use Rattle.segment_view.specs.LiveSegments.{AreRead, Contents, LiveSegment, heads_of, live_in_parts}
 use Rattle.segment_view.specs.Held.{HasOwnHead}
-use Rattle.index_opening.specs.Evidence.{IsEvident}
+use Rattle.index_opening.specs.Evidence.{IsEvident, IsOfListed}
 use Rattle.run_status.specs.Told.{IsTold, Told, TellsLines}
 use Rattle.count_queries.specs.Counted.{IsScope, Scope, TellsCount}
 
@@ -31,9 +32,10 @@ pub record IsCounting (D : ℕ) (files : Files) (parts : List LiveSegment) (s : 
 abbrev pub InScope : Scope → (Index → Told → Type 0) → Told → Type 0
 InScope s tells t = (i : Index) × (s.state ≡ Some i) × tells i t
 
--- the kept pages agree with the files, and the heads are theirs
+-- the kept pages agree with the files, the heads are theirs, and the commit lists the segments
 abbrev pub AreTrue : ℕ → Files → List LiveSegment → PageCache → Type 0
 AreTrue D files parts cache = Agrees files cache × All (HasOwnHead D files) parts
+    × All (λ p. IsOfListed files (Segment p.head.id)) parts
 
 -- between two lines: the files, the kept pages, the folder's reads and faults, and the text
 pub record CountMoment : Type 0 where

@@ -1,8 +1,10 @@
 -- What is told of a line, by what the calls on the set answered.
 use Rattle.std.proofs.Common.{◌≡◌, ◌≤◌, ◌+◌, ◌++◌, ℕ, Bool, true, false, cond, nat_lt, List, [], ◌∷◌}
-use Rattle.std.proofs.Common.{length, Some, None, Result, Ok, Err, OnErr, IfOk, IsErrOf, ◌≢◌, refl, sym, ap, subst, ◌∙◌, arith, ℤ}
-use Rattle.std.specs.List.{last_or}
+use Rattle.std.proofs.Common.{length, Some, None, Result, Ok, Err, OnErr, IfOk, IsErrOf, ◌≢◌, inl, inr, refl, sym, ap, subst, ◌∙◌, arith}
+use Rattle.std.proofs.lemmas.Grind.{merely}
+use Rattle.std.specs.List.{Contains, last_or}
 use Rattle.outer_io.specs.Files.{Files}
+use Rattle.outer_io.specs.declared.file_name.FileName.TheVariants.{Segment}
 use Rattle.page_cache.specs.declared.faults.PageFault.{PageFault}
 use Rattle.page_cache.specs.declared.faults.PageFault.TheVariants as page
 use Rattle.page_cache.specs.Causes.{HasPageCause}
@@ -12,8 +14,7 @@ use Rattle.documents.specs.Nearest.{found_of}
 use Rattle.nearest_query.specs.Segments.{bound_of, last_of}
 use Rattle.std.proofs.lemmas.List.{length-map}
 use Rattle.point_codec.specs.declared.entries.Near.{Near}
-use Rattle.segment_file.specs.Heads.{Head}
-use Rattle.segment_view.specs.LiveSegments.{heads_of}
+use Rattle.segment_view.specs.LiveSegments.{LiveSegment, heads_of}
 use Rattle.index_model.specs.State.{Index, State}
 use Rattle.std.specs.Option.{option_map}
 use Rattle.script_lang.specs.Reading.{Reading, Says, Fails, read}
@@ -25,10 +26,11 @@ use Rattle.script_lang.specs.Replies.{line_fault_text}
 use Rattle.segment_set.specs.Sets.{SetData}
 use Rattle.segment_set.specs.Seen.{Sees}
 use Rattle.segment_set.specs.Kept.{StaysButCache}
-use Rattle.index_opening.specs.Evidence.{IsEvident}
+use Rattle.index_opening.specs.Evidence.{IsEvident, IsEvidentOf, IsOfListed, IsOfPart, IsTwice}
+use Rattle.index_opening.proofs.Evident.{on_evident_named}
 use Rattle.segment_set.specs.Faithful.{IsFaithful}
 use Rattle.explain_queries.specs.Explained.{Scope, Tells, TellsIn, TellsLine, TellsOn, TellsReading, reach}
-use Rattle.explain_queries.specs.Explains.{Explains, IsExplaining, ExplainMoment}
+use Rattle.explain_queries.specs.Explains.{Explains, IsExplaining, ExplainMoment, KnowsFiles}
 use Rattle.run_status.specs.Told.{Told, refusal, IsTold}
 
 pub some_inj : {X : Type 0} (x y : X) → Some x ≡ Some y → x ≡ y
@@ -42,9 +44,9 @@ Telling = Scope → Told → Type 0
 no_cause : {T : Type 0} (faults : ℕ) (x : T) → HasPageCause faults faults (Ok x)
 no_cause faults x = record { later = omega arith; on_ok = refl; failed = λ e. absurd cc }
 
--- a set that stays is faithful to the files that stay
-faithful_still : (D : ℕ) (old new : ExplainMoment) → new.set ≡ old.set → new.files ≡ old.files → IsFaithful D old.files old.set → IsFaithful D new.files new.set
-faithful_still D old new set files h = subst (λ (u : SetData). IsFaithful D new.files u) (sym set) (subst (λ (f : Files). IsFaithful D f old.set) (sym files) h)
+-- a set that stays knows the files that stay
+knows_still : (D : ℕ) (old new : ExplainMoment) → new.set ≡ old.set → new.files ≡ old.files → KnowsFiles D old.files old.set → KnowsFiles D new.files new.set
+knows_still D old new set files h = subst (λ (u : SetData). KnowsFiles D new.files u) (sym set) (subst (λ (f : Files). KnowsFiles D f old.set) (sym files) h)
 
 -- this is told, whatever the index is
 pub explains_text : (D : ℕ) (told : Type 0) (tells : Telling) (old new : ExplainMoment) (t : Told) (is_refused : Bool) → new.set ≡ old.set
@@ -59,7 +61,7 @@ explains_text D told tells old new t is_refused set files reads faults text refu
   reads = λ told_so s e u h. omega (arith, reads);
   cause = subst (λ n. HasPageCause old.faults n (Ok is_refused)) (sym faults) (no_cause old.faults is_refused);
   whole = λ told_so s e. tt;
-  faithful = λ told_so. faithful_still D old new set files;
+  knows = λ told_so. knows_still D old new set files;
   evident = tt;
 }
 
@@ -75,7 +77,7 @@ explains_no_memory D told tells old new r is set files reads faults = subst (Exp
   reads = λ told_so s e u h. omega (arith, reads);
   cause = memory_cause old.faults new.faults (omega (arith, faults));
   whole = λ told_so s e. tt;
-  faithful = λ told_so. faithful_still D old new set files;
+  knows = λ told_so. knows_still D old new set files;
   evident = tt;
 })
 
@@ -92,7 +94,7 @@ explains_as D told tells others old new r to from explains = record {
   reads = λ told_so s e t h. explains.reads told_so s e t (from s t e h);
   cause = explains.cause;
   whole = explains.whole;
-  faithful = explains.faithful;
+  knows = explains.knows;
   evident = explains.evident;
 }
   where
@@ -111,7 +113,7 @@ pub record Looks {T : Type 0} (D : ℕ) (told : Type 0) (old new : ExplainMoment
   pub cause : HasPageCause old.faults new.faults result
   pub whole : told → (i : Index) → Sees D old.files old.set i → NotDamaged result
   pub faithful : told → IsFaithful D old.files old.set → IsFaithful D new.files new.set
-  pub evident : OnDamage result (IsEvident (told × IsFaithful D old.files old.set) new.files)
+  pub evident : OnDamage result (IsEvidentOf old.set.parts (told × IsFaithful D old.files old.set) new.files)
 
 looks_stays : {T : Type 0} (D : ℕ) (told : Type 0) (old new : ExplainMoment) (tells : Telling) (r : Result T PageFault) → Looks D told old new tells r → told
     → (s : Scope) → IsExplaining D old.files old.set s → IsExplaining D new.files new.set s
@@ -121,6 +123,22 @@ looks_stays D told old new tells r looks t s e = record {
   seen = looks.seen t e.index e.seen;
   heads = ap (λ (u : SetData). heads_of u.parts) looks.rest.is ∙ e.heads;
 }
+
+looks_knows : {T : Type 0} (D : ℕ) (told : Type 0) (old new : ExplainMoment) (tells : Telling) (r : Result T PageFault) → Looks D told old new tells r → told
+    → KnowsFiles D old.files old.set → KnowsFiles D new.files new.set
+looks_knows D told old new tells r looks t knows = record {
+  faithful = looks.faithful t knows.faithful;
+  listed = λ p there. subst (λ (f : Files). IsOfListed f (Segment p.head.id)) (sym (looks.files t))
+      (knows.listed p (subst (λ (ps : List LiveSegment). Contains ps p) (ap (λ (u : SetData). u.parts) looks.rest.is) there));
+}
+
+looks_shows : {T : Type 0} (D : ℕ) (told : Type 0) (old new : ExplainMoment) (tells : Telling) (r : Result T PageFault) → Looks D told old new tells r
+    → OnDamage r (IsEvident (told × KnowsFiles D old.files old.set) new.files)
+looks_shows D told old new tells r looks = on_evident_named (IsOfPart old.set.parts) (λ _. ⊥) (IsTwice new.files) (told × IsFaithful D old.files old.set)
+    (told × KnowsFiles D old.files old.set) new.files r (λ (t, knows). (t, knows.faithful))
+    (λ (t, knows) file (p, there, is). merely (inl (inr (subst (IsOfListed new.files) (sym is)
+    (subst (λ (f : Files). IsOfListed f (Segment p.head.id)) (sym (looks.files t)) (knows.listed p there))))))
+    looks.evident
 
 -- the look at the line failed, and so does its explanation
 pub explains_fault : {T : Type 0} (D : ℕ) (told : Type 0) (tells : Telling) (old new : ExplainMoment) (fault : PageFault) (r : Result Bool PageFault)
@@ -137,8 +155,8 @@ explains_fault {T = T} D told tells old new fault r is looks = subst (Explains D
     failed = λ e. let same : fault ≡ page.Failed = cc in looks.cause.failed (ap (λ (f : PageFault). Err f) same);
   };
   whole = λ t s e. other fault (looks.whole t e.index e.seen);
-  faithful = looks.faithful;
-  evident = looks.evident;
+  knows = looks_knows D told old new tells (Err fault) looks;
+  evident = looks_shows D told old new tells (Err fault) looks;
 })
   where
     other : (f : PageFault) → NotDamaged {T = T} (Err f) → NotDamaged {T = Bool} (Err f)
@@ -156,7 +174,7 @@ explains_unsaid D told tells old new x r is looks = subst (Explains D told tells
   reads = looks.reads;
   cause = memory_cause old.faults new.faults looks.cause.later;
   whole = λ t s e. tt;
-  faithful = looks.faithful;
+  knows = looks_knows D told old new tells (Ok x) looks;
   evident = tt;
 })
 
@@ -170,7 +188,7 @@ explains_done D told tells old new x looks tells_so = record {
   reads = looks.reads;
   cause = record { later = looks.cause.later; on_ok = looks.cause.on_ok; failed = λ e. absurd cc };
   whole = λ t s e. tt;
-  faithful = looks.faithful;
+  knows = looks_knows D told old new tells (Ok x) looks;
   evident = tt;
 }
 

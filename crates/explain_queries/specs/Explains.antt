@@ -1,14 +1,15 @@
 -- How a set whose index is explained goes from one place to another.
-use Rattle.std.specs.Prelude.{ℕ, ◌+◌, ◌≡◌, ◌≤◌, Bool, List, Some, Result, IfOk}
+use Rattle.std.specs.Prelude.{ℕ, ◌+◌, ◌≡◌, ◌≤◌, Bool, List, Some, Result, IfOk, Contains}
+use Rattle.outer_io.specs.declared.file_name.FileName.TheVariants.{Segment}
 use Rattle.outer_io.specs.Files.{Files}
 use Rattle.page_cache.specs.declared.faults.PageFault.{PageFault}
 use Rattle.page_cache.specs.Causes.{HasPageCause}
 use Rattle.page_cache.specs.Evidence.{NotDamaged, OnDamage}
 use Rattle.index_model.specs.State.{Index}
-use Rattle.segment_view.specs.LiveSegments.{heads_of}
+use Rattle.segment_view.specs.LiveSegments.{LiveSegment, heads_of}
 use Rattle.segment_set.specs.Sets.{SetData}
 use Rattle.segment_set.specs.Seen.{Sees}
-use Rattle.index_opening.specs.Evidence.{IsEvident}
+use Rattle.index_opening.specs.Evidence.{IsEvident, IsOfListed}
 use Rattle.segment_set.specs.Faithful.{IsFaithful}
 use Rattle.run_status.specs.Told.{Told, IsTold}
 use Rattle.explain_queries.specs.Explained.{Scope}
@@ -19,6 +20,11 @@ pub record IsExplaining (D : ℕ) (files : Files) (set : SetData) (s : Scope) : 
   pub state : s.state ≡ Some index
   pub seen : Sees D files set index
   pub heads : heads_of set.parts ≡ s.heads
+
+-- what the set keeps of the files is theirs, and the commit lists its segments
+pub record KnowsFiles (D : ℕ) (files : Files) (s : SetData) : Type 0 where
+  pub faithful : IsFaithful D files s
+  pub listed : (p : LiveSegment) → Contains s.parts p → IsOfListed files (Segment p.head.id)
 
 -- this is told of the index that is looked at
 abbrev pub InScope : Scope → (Index → Told → Type 0) → Told → Type 0
@@ -43,5 +49,5 @@ pub record Explains (D : ℕ) (told : Type 0) (tells : Scope → Told → Type 0
       → new.reads ≤ old.reads + t.touched
   pub cause : HasPageCause old.faults new.faults result
   pub whole : told → (s : Scope) → IsExplaining D old.files old.set s → NotDamaged result
-  pub faithful : told → IsFaithful D old.files old.set → IsFaithful D new.files new.set
-  pub evident : OnDamage result (IsEvident (told × IsFaithful D old.files old.set) new.files)
+  pub knows : told → KnowsFiles D old.files old.set → KnowsFiles D new.files new.set
+  pub evident : OnDamage result (IsEvident (told × KnowsFiles D old.files old.set) new.files)

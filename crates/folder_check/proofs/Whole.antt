@@ -29,8 +29,6 @@ use Rattle.segment_view.specs.Held.{HasOwnHead}
 use Rattle.document_checks.specs.Placed.{IsPlacedOnce}
 use Rattle.index_opening.specs.Opened.{IsOpened}
 use Rattle.index_opening.specs.Evidence.{IsHeadIn}
-use Rattle.index_opening.specs.Evidence.{IsOfListed as IsListedFile}
-use Rattle.index_opening.proofs.Evident.{segment_listed}
 use Rattle.index_opening.proofs.Listed.{as_part, opened_heads, opened_lives, parts_held}
 use Rattle.index_opening.proofs.Ordered.{zip_right}
 use Rattle.folder_check.specs.declared.findings.Finding.{Finding}
@@ -76,15 +74,6 @@ all_segments T D files c parts t dims says opened state stored =
       subst (λ n. IsSegment n (bytes_of (files (Segment d.head.id))) d.head d.entries) dims
           (subst (λ id. IsSegment c.dims (bytes_of (files (Segment id))) d.head d.entries) (sym h.id) h.segment),
     )
-
-pub all_listed : (T : Type 0) (files : Files) (c : CommitData) (parts : List LiveSegment) → IsCommitFile (bytes_of (files Commit)) c
-    → AllZip (IsOpened T files c) c.listed parts → All (λ (p : LiveSegment). IsListedFile files (Segment p.head.id)) parts
-all_listed T files c parts says =
-    let P = λ (p : LiveSegment). IsListedFile files (Segment p.head.id) in
-    zip_right (IsOpened T files c) (Contains c.listed) P c.listed parts one (All-contains_itself c.listed)
-  where
-    one : (s : Listed) (p : LiveSegment) → Contains c.listed s → IsOpened T files c s p → IsListedFile files (Segment p.head.id)
-    one s p there o = segment_listed files c s (Segment p.head.id) says there (ap (λ (id : ℕ). Segment id) o.listed.id)
 
 -- ---- what was found, as it is handed on
 

@@ -21,8 +21,8 @@ use Rattle.stored_index.specs.Stored.{IsStored}
 use Rattle.stored_index.proofs.KeptFiles.{stored_still}
 use Rattle.segment_view.specs.LiveSegments.{LiveSegment}
 use Rattle.segment_set.specs.Seen.{Sees}
-use Rattle.index_opening.specs.Evidence.{IsEvident, IsTwice}
-use Rattle.index_opening.proofs.Evident.{on_commit_evident, on_evident_at, on_evident_less}
+use Rattle.index_opening.specs.Evidence.{IsEvident}
+use Rattle.index_opening.proofs.Evident.{on_commit_evident, on_evident_files, on_evident_less}
 use Rattle.index_core.specs.Sessions.{Guards, SessionData}
 use Rattle.index_core.specs.Whole.{DoesWhole, HasNewCanonical, SessionMoment}
 use Rattle.index_core.proofs.Bringing.{brings_then}
@@ -192,4 +192,4 @@ fault_evident told none trusts files fault r is trusted evident = subst (λ (q :
 pub unread_evident : (told : Type 0) (old new : Files) (fault : PageFault) → (told → new ≡ old) → (told → FaultShows (IsCommitDamageOf old) fault)
     → FaultShows IsCommitDamage fault → FaultShows (IsEvident told new) fault
 unread_evident told old new fault same damage shown =
-    on_evident_at {X = Bool} IsTwice told told old new (Err fault) (λ t. t) same (on_commit_evident {X = Bool} told old (Err fault) damage shown)
+    on_evident_files {X = Bool} told told old new (Err fault) (λ t. t) same (on_commit_evident {X = Bool} told old (Err fault) damage shown)

@@ -13,7 +13,7 @@ use Rattle.stored_index.specs.Kept.{SameKept}
 use Rattle.stored_index.proofs.KeptFiles.{kept_after, kept_itself}
 use Rattle.segment_view.specs.LiveSegments.{LiveSegment}
 use Rattle.segment_set.specs.Seen.{Sees}
-use Rattle.index_opening.specs.Evidence.{IsEvident}
+use Rattle.index_opening.specs.Evidence.{IsEvidentOf}
 use Rattle.segment_set.specs.Faithful.{IsFaithful}
 use Rattle.index_opening.proofs.Evident.{on_evident_less}
 use Rattle.index_core.specs.Sessions.{AreTraced, Guards, IsTraced, SessionData, Trusts}
@@ -22,6 +22,7 @@ use Rattle.index_core.specs.Whole.{Adds, SessionMoment, with_points}
 use Rattle.index_core.proofs.Answering.{no_cause}
 use Rattle.index_core.proofs.FaultCauses.{fault_to}
 use Rattle.index_core.proofs.Bringing.{brings_same, brings_then}
+use Rattle.index_core.proofs.Tracing.{parts_shows}
 use Rattle.drawn_points.specs.Draws.{point}
 use Rattle.drawn_points.specs.Generated.{document, documents, kept_docs}
 use Rattle.generate_index.specs.Generates.{IsDrawn, Makes, drawn_index}
@@ -126,7 +127,7 @@ pub makes_reads : {T : Type 0} (told : Type 0) (i : Index) (a b : SessionMoment)
     → (told → Guards 2 a.files a.session → Guards 2 b.files b.session) → (told → b.files ≡ a.files) → b.session.set.parts ≡ a.session.set.parts
     → HasPageCause a.faults b.faults r
     → (told → Sees 2 a.files a.session.set i → NotDamaged r) → (told → IsFaithful 2 a.files a.session.set → IsFaithful 2 b.files b.session.set)
-    → OnDamage r (IsEvident (told × IsFaithful 2 a.files a.session.set) b.files)
+    → OnDamage r (IsEvidentOf a.session.set.parts (told × IsFaithful 2 a.files a.session.set) b.files)
     → Makes told (λ (at : SessionMoment). Sees 2 at.files at.session.set i) (λ (at : SessionMoment). Sees 2 at.files at.session.set i) a b r
 makes_reads told i a b r seen guards files parts cause whole faithful evident = record {
   made = λ t before. on_ok_any r (seen t before);
@@ -139,7 +140,7 @@ makes_reads told i a b r seen guards files parts cause whole faithful evident = 
   traced = λ t trusts.
       subst (λ (ps : List LiveSegment). AreTraced 2 b.files ps) (sym parts)
       (subst (λ (f : Files). AreTraced 2 f a.session.set.parts) (sym (files t)) trusts.traced);
-  evident = on_evident_less (told × IsFaithful 2 a.files a.session.set) (told × Trusts 2 a.files a.session) b.files r (λ h. (h.0, h.1.faithful)) evident;
+  evident = parts_shows 2 told a.files b.files a.session r files evident;
 }
 
 -- documents were taken out, without a call on the folder

@@ -1,6 +1,6 @@
 -- Documents are added without a text for each.
 use Rattle.std.proofs.Common.{◌≡◌, ◌≤◌, ◌<◌, ◌+◌, ◌^◌, ℕ, List, [], ◌∷◌, ◌++◌, length, map, take}
-use Rattle.std.proofs.Common.{get_or, Result, Ok, Err, OnOk, refl, sym, ap, subst, ◌∙◌, arith, All, ℤ}
+use Rattle.std.proofs.Common.{get_or, Result, Ok, Err, OnOk, refl, sym, ap, subst, ◌∙◌, arith, ℤ}
 use Rattle.std.specs.declared.cmp.Ordering.{Ordering}
 use Rattle.std.specs.Ordering.{int_cmp}
 use Rattle.std.specs.Cmp.{IsTotalOrder}
@@ -22,10 +22,10 @@ use Rattle.point_codec.specs.Seen.{coordinates_of}
 use Rattle.point_codec.specs.declared.coordinates.Point.{Point}
 use Rattle.index_model.specs.State.{Index}
 use Rattle.stored_index.proofs.KeptFiles.{kept_after, kept_itself}
-use Rattle.segment_set.specs.Sets.{IsNamed, SetData}
+use Rattle.segment_set.specs.Sets.{IsWell, SetData}
 use Rattle.segment_set.specs.Seen.{Sees}
 use Rattle.segment_set.specs.Kept.{AreCanonical, Follows, KeepsNamed, StaysButCache}
-use Rattle.index_opening.specs.Evidence.{IsEvident, IsEvidentIn}
+use Rattle.index_opening.specs.Evidence.{IsEvidentIn, IsEvidentOf}
 use Rattle.segment_set.specs.Faithful.{IsFaithful}
 use Rattle.segment_set.proofs.Carried.{follows_same, keeps_calm}
 use Rattle.index_opening.proofs.Evident.{on_evident_less}
@@ -38,6 +38,7 @@ use Rattle.index_core.specs.Whole.{Adds, SessionMoment, add_result, with_point, 
 use Rattle.index_core.proofs.Answering.{no_cause}
 use Rattle.index_core.proofs.FaultCauses.{fault_to, memory_cause}
 use Rattle.index_core.proofs.Bringing.{brings_same, brings_then, brings_written}
+use Rattle.index_core.proofs.Carrying.{carries_then, carries_written, stays_itself}
 use Rattle.index_core.proofs.Guarding.{Grows, grows_like, guards_after, kept_after_calls}
 use Rattle.index_core.proofs.Lasting.{NoneGoes, lasts_itself}
 use Rattle.index_core.proofs.LosingNone.{lasts_then}
@@ -51,7 +52,7 @@ pub adds_none : {T : Type 0} (D : ℕ) (told : Type 0) (at : SessionMoment) (x :
 adds_none D told at x = record {
   seen = λ t i seen. seen;
   points_given = omega arith;
-  stays = record { guards = λ t guards. guards; faithful = λ t faithful. faithful; traced = λ t trusts. trusts.traced };
+  stays = stays_itself D told at.files at.session;
   kept = λ t guards. kept_itself at.files;
   lasts = λ t faithful. lasts_itself D NoneGoes at.files at.session.set;
   canon = λ t. brings_same D at.files at.files at.session.set.parts at.session.set.parts refl refl;
@@ -68,7 +69,7 @@ pub adds_no_memory : {T : Type 0} (D : ℕ) (told : Type 0) (points : List (List
 adds_no_memory D told points at = record {
   seen = λ t i seen. tt;
   points_given = tt;
-  stays = record { guards = λ t guards. guards; faithful = λ t faithful. faithful; traced = λ t trusts. trusts.traced };
+  stays = stays_itself D told at.files at.session;
   kept = λ t guards. kept_itself at.files;
   lasts = λ t faithful. lasts_itself D NoneGoes at.files at.session.set;
   canon = λ t. brings_same D at.files at.files at.session.set.parts at.session.set.parts refl refl;
@@ -86,6 +87,7 @@ adds_then D told xs ys a b c x r first second = record {
     guards = λ t guards. second.stays.guards t (first.stays.guards t guards);
     faithful = λ t faithful. second.stays.faithful t (first.stays.faithful t faithful);
     traced = λ t trusts. second.stays.traced t (trusts_then t trusts);
+    carries = λ t. carries_then a.files b.files c.files a.session.set b.session.set c.session.set (first.stays.carries t) (second.stays.carries t);
   };
   kept = λ t guards. kept_after a.files b.files c.files (first.kept t guards) (second.kept t (first.stays.guards t guards));
   lasts = λ t faithful. lasts_then D NoneGoes a.files b.files a.session.set b.session.set (first.lasts t faithful) NoneGoes NoneGoes c.files c.session.set
@@ -135,7 +137,8 @@ pub record IsPut (D : ℕ) (told : Type 0) (point : List ℤ) (old new : Session
   pub grows : Grows old.session.set new.session.set
   pub keeps : KeepsNamed told old.session.set.names new.session.set.names old.files new.files
   pub follows : Follows old.session.set.names old.session.set.parts new.session.set.parts
-  pub named : All (IsNamed old.session.set.names) old.session.set.parts
+  pub well : IsWell D old.session.set
+  pub snapshots : new.session.set.snapshots ≡ old.session.set.snapshots
   pub second : told → AreCanonical D new.files old.session.set.names new.session.set.parts
   pub lasts : told → IsFaithful D old.files old.session.set → Lasts D NoneGoes old.files new.files old.session.set new.session.set
   pub seen : told → (i : Index) → Sees D old.files old.session.set i → OnOk r (Sees D new.files new.session.set (with_point i point))
@@ -175,6 +178,8 @@ adds_one D told point old new r put = record {
     guards = λ t guards. guards_after D told old.files new.files old.session new.session t put.commit put.refused put.keeps put.follows put.grows guards;
     faithful = put.faithful;
     traced = λ t trusts. traced_by D told old.files new.files old.session new.session.set t put.keeps put.follows (put.second t) trusts;
+    carries = λ t. carries_written D told old.files new.files old.session old.session new.session.set refl t put.keeps put.follows (put.second t) put.well
+        put.snapshots;
   };
   kept = λ t guards. kept_after_calls D told old.files new.files old.session.set new.session.set.names t put.keeps guards.set;
   lasts = put.lasts;
@@ -183,7 +188,7 @@ adds_one D told point old new r put = record {
   faults = record {
     cause = put_cause old.faults new.faults r put.cause;
     whole = λ t i seen. put_shows (λ _. ⊥) r (put.whole t i seen);
-    evident = traced_shows D told old.files new.files old.session new.session.set.names (add_result r) put.keeps put.named
+    evident = traced_shows D told old.files new.files old.session new.session.set.names (add_result r) put.keeps put.well.named
         (put_shows (IsEvidentIn D old.session.set.parts (told × IsFaithful D old.files old.session.set) new.files) r put.evident);
   };
 }
@@ -273,9 +278,9 @@ pub faithful_seen : (D : ℕ) (f g : Files) (s u : SessionData) (t : SetData) �
 faithful_seen D f g s u t is faithful was = faithful (subst (λ (v : SessionData). IsFaithful D f v.set) (sym is) was)
 
 pub evident_seen : {T : Type 0} (D : ℕ) (told : Type 0) (f g : Files) (s u : SessionData) (r : Result T PageFault) → u ≡ s
-    → OnDamage r (IsEvident (told × IsFaithful D f u.set) g)
-    → OnDamage r (IsEvident (told × IsFaithful D f s.set) g)
-evident_seen D told f g s u r is evident = subst (λ (v : SessionData). OnDamage r (IsEvident (told × IsFaithful D f v.set) g)) is evident
+    → OnDamage r (IsEvidentOf u.set.parts (told × IsFaithful D f u.set) g)
+    → OnDamage r (IsEvidentOf s.set.parts (told × IsFaithful D f s.set) g)
+evident_seen D told f g s u r is evident = subst (λ (v : SessionData). OnDamage r (IsEvidentOf v.set.parts (told × IsFaithful D f v.set) g)) is evident
 
 -- ---- a call that gives no name
 

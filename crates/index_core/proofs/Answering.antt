@@ -16,13 +16,15 @@ use Rattle.stored_index.proofs.KeptFiles.{kept_itself}
 use Rattle.segment_set.specs.Sets.{IsNamed, SetData}
 use Rattle.segment_set.specs.Seen.{Sees}
 use Rattle.segment_set.specs.Kept.{Follows, KeepsNamed}
-use Rattle.index_opening.specs.Evidence.{IsEvident, IsEvidentIn}
+use Rattle.index_opening.specs.Evidence.{IsEvident, IsEvidentIn, IsTwice}
 use Rattle.segment_set.specs.Faithful.{IsFaithful}
-use Rattle.index_opening.proofs.Evident.{none_evident, on_evident_less}
+use Rattle.index_opening.proofs.Evident.{none_with, on_evident_wider, on_less_with}
+use Rattle.index_core.specs.Carried.{IsEvidentOver, IsFileOf}
 use Rattle.index_core.specs.Sessions.{SessionData, Trusts}
 use Rattle.index_core.specs.Effects.{BringsCanonical}
 use Rattle.index_core.specs.Steps.{Applies, DoesOver, StepMoment}
 use Rattle.index_core.proofs.Bringing.{brings_same}
+use Rattle.index_core.proofs.Carrying.{ViewsStay, carries_by, stays_itself}
 use Rattle.index_core.proofs.Guarding.{Grows, guards_after, kept_after_calls}
 use Rattle.index_core.proofs.Tracing.{calm_shows, traced_after, traced_shows}
 use Rattle.index_core.proofs.FaultCauses.{memory_cause, done_cause, fault_cause}
@@ -70,12 +72,18 @@ pub record IsCalm (D : ℕ) (told : Type 0) (old new : StepMoment) : Type 0 wher
   pub keeps : KeepsNamed told old.session.set.names new.session.set.names old.files new.files
   pub follows : Follows old.session.set.names old.session.set.parts new.session.set.parts
   pub brings : told → BringsCanonical D old.files new.files old.session.set.parts new.session.set.parts
+  pub views : told → ViewsStay old.files new.files old.session.set new.session.set
   pub faithful : told → IsFaithful D old.files old.session.set → IsFaithful D new.files new.session.set
+
+-- where no other file is needed
+strictly : (T : Type 0) (old new : StepMoment) (r : Result Applied PageFault) → OnDamage r (IsEvident T new.files)
+    → OnDamage r (IsEvidentOver old.files old.session.set T new.files)
+strictly T old new r = on_evident_wider (IsFileOf old.files new.files old.session.set) T T new.files r (λ t. t)
 
 applies_with : (D : ℕ) (told : Type 0) (outcome : Index → Outcome) (old new : StepMoment) (r : Result Applied PageFault) → IsCalm D told old new
     → (told → (i : Index) → Sees D old.files old.session.set i → DoesOver D new.files (outcome i) i new.session.set old.text new.text r)
     → Begins old.text new.text → HasPageCause old.faults new.faults r → (told → (i : Index) → Sees D old.files old.session.set i → NotDamaged r)
-    → OnDamage r (IsEvident (told × Trusts D old.files old.session) new.files) → Applies D told outcome false old new r
+    → OnDamage r (IsEvidentOver old.files old.session.set (told × Trusts D old.files old.session) new.files) → Applies D told outcome false old new r
 applies_with D told outcome old new r calm does begins cause whole evident = record {
   does = λ is_told i seen guards. does is_told i seen;
   begins = begins;
@@ -85,6 +93,7 @@ applies_with D told outcome old new r calm does begins cause whole evident = rec
     traced = λ is_told trusts.
         traced_after D told old.files new.files old.session.set new.session.set is_told calm.keeps calm.follows (calm.brings is_told) trusts.guards.set
         trusts.traced;
+    carries = λ is_told. carries_by D old.files new.files old.session.set new.session.set (calm.brings is_told) (calm.views is_told);
   };
   keeps = record {
     kept = λ is_told guards. kept_after_calls D told old.files new.files old.session.set new.session.set.names is_told calm.keeps guards.set;
@@ -101,10 +110,11 @@ applies_with D told outcome old new r calm does begins cause whole evident = rec
 pub applies : (D : ℕ) (told : Type 0) (outcome : Index → Outcome) (old new : StepMoment) (r : Result Applied PageFault) → IsCalm D told old new
     → (told → (i : Index) → Sees D old.files old.session.set i → DoesOver D new.files (outcome i) i new.session.set old.text new.text r)
     → Begins old.text new.text → HasPageCause old.faults new.faults r → (told → (i : Index) → Sees D old.files old.session.set i → NotDamaged r)
-    → OnDamage r (IsEvident (told × IsFaithful D old.files old.session.set) new.files) → Applies D told outcome false old new r
+    → OnDamage r (IsEvidentOver old.files old.session.set (told × IsFaithful D old.files old.session.set) new.files)
+    → Applies D told outcome false old new r
 applies D told outcome old new r calm does begins cause whole evident = applies_with D told outcome old new r calm does begins cause whole
-    (on_evident_less (told × IsFaithful D old.files old.session.set) (told × Trusts D old.files old.session) new.files r
-    (λ (is_told, trusts). (is_told, trusts.faithful)) evident)
+    (on_less_with (IsFileOf old.files new.files old.session.set) (IsTwice new.files) (told × IsFaithful D old.files old.session.set)
+    (told × Trusts D old.files old.session) new.files r (λ (is_told, trusts). (is_told, trusts.faithful)) evident)
 
 -- a call that may merge, whose set has all its segments named
 pub applies_merging : (D : ℕ) (told : Type 0) (outcome : Index → Outcome) (old new : StepMoment) (r : Result Applied PageFault) → IsCalm D told old new
@@ -113,7 +123,8 @@ pub applies_merging : (D : ℕ) (told : Type 0) (outcome : Index → Outcome) (o
     → Begins old.text new.text → HasPageCause old.faults new.faults r → (told → (i : Index) → Sees D old.files old.session.set i → NotDamaged r)
     → OnDamage r (IsEvidentIn D old.session.set.parts (told × IsFaithful D old.files old.session.set) new.files) → Applies D told outcome false old new r
 applies_merging D told outcome old new r calm named does begins cause whole evident = applies_with D told outcome old new r calm does begins cause whole
-    (traced_shows D told old.files new.files old.session new.session.set.names r calm.keeps named evident)
+    (strictly (told × Trusts D old.files old.session) old new r
+    (traced_shows D told old.files new.files old.session new.session.set.names r calm.keeps named evident))
 
 -- and that changes no file
 pub applies_merging_calm : (D : ℕ) (told : Type 0) (outcome : Index → Outcome) (old new : StepMoment) (r : Result Applied PageFault) → IsCalm D told old new
@@ -122,7 +133,7 @@ pub applies_merging_calm : (D : ℕ) (told : Type 0) (outcome : Index → Outcom
     → Begins old.text new.text → HasPageCause old.faults new.faults r → (told → (i : Index) → Sees D old.files old.session.set i → NotDamaged r)
     → OnDamage r (IsEvidentIn D old.session.set.parts (told × IsFaithful D old.files old.session.set) new.files) → Applies D told outcome false old new r
 applies_merging_calm D told outcome old new r calm same does begins cause whole evident = applies_with D told outcome old new r calm does begins cause whole
-    (calm_shows D told old.files new.files old.session r same evident)
+    (strictly (told × Trusts D old.files old.session) old new r (calm_shows D told old.files new.files old.session r same evident))
 
 -- a command is done that changed nothing
 pub applies_still : (D : ℕ) (told : Type 0) (outcome : Index → Outcome) (files : Files) (session : SessionData) (before after : List ℕ) (faults : ℕ)
@@ -134,11 +145,7 @@ pub applies_still : (D : ℕ) (told : Type 0) (outcome : Index → Outcome) (fil
 applies_still D told outcome files session before after faults r does begins cause whole = record {
   does = λ is_told i seen guards. does i seen;
   begins = begins;
-  stays = record {
-    guards = λ is_told guards. guards;
-    faithful = λ is_told faithful. faithful;
-    traced = λ is_told trusts. trusts.traced;
-  };
+  stays = stays_itself D told files session;
   keeps = record {
     kept = λ is_told guards. kept_itself files;
     stored = λ is_told i seen guards e. absurd cc;
@@ -150,7 +157,7 @@ applies_still D told outcome files session before after faults r does begins cau
   faults = record {
     cause = cause;
     whole = λ is_told i seen guards. whole;
-    evident = none_evident (told × Trusts D files session) files r whole;
+    evident = none_with (IsFileOf files files session.set) (IsTwice files) (told × Trusts D files session) files r whole;
   };
 }
 
@@ -171,14 +178,15 @@ pub applies_fault : {T : Type 0} (D : ℕ) (told : Type 0) (outcome : Index → 
     → IsCalm D told old new → r ≡ Err fault
     → (told → (i : Index) → Sees D old.files old.session.set i → Sees D new.files new.session.set i) → Begins old.text new.text
     → HasPageCause {T = T} old.faults new.faults (Err fault) → (told → (i : Index) → Sees D old.files old.session.set i → NotDamaged {T = T} (Err fault))
-    → FaultShows (IsEvident (told × IsFaithful D old.files old.session.set) new.files) fault → Applies D told outcome false old new r
+    → FaultShows (IsEvidentOver old.files old.session.set (told × IsFaithful D old.files old.session.set) new.files) fault
+    → Applies D told outcome false old new r
 applies_fault D told outcome old new r fault calm same seen begins cause whole evident = applies D told outcome old new r calm
     (λ is_told i sees. subst (DoesOver D new.files (outcome i) i new.session.set old.text new.text) (sym same)
     (does_fault D new.files (outcome i) i new.session.set old.text new.text fault (seen is_told i sees)))
     begins
     (fault_cause old.faults new.faults fault r same cause)
     (λ is_told i sees. subst NotDamaged (sym same) (whole is_told i sees))
-    (subst (λ q. OnDamage q (IsEvident (told × IsFaithful D old.files old.session.set) new.files)) (sym same) evident)
+    (subst (λ q. OnDamage q (IsEvidentOver old.files old.session.set (told × IsFaithful D old.files old.session.set) new.files)) (sym same) evident)
 
 -- one that may merge did
 pub applies_merging_fault : {T : Type 0} (D : ℕ) (told : Type 0) (outcome : Index → Outcome) (old new : StepMoment) (r : Result Applied PageFault)
@@ -239,6 +247,7 @@ applies_told D told outcome old new r is = record {
     guards = λ is_told. is.stays.guards tt;
     faithful = λ is_told. is.stays.faithful tt;
     traced = λ is_told. is.stays.traced tt;
+    carries = λ is_told. is.stays.carries tt;
   };
   keeps = record {
     kept = λ is_told. is.keeps.kept tt;
@@ -252,8 +261,8 @@ applies_told D told outcome old new r is = record {
     cause = is.faults.cause;
     whole = λ is_told. is.faults.whole tt;
     evident =
-        on_evident_less (Unit {0} × Trusts D old.files old.session) (told × Trusts D old.files old.session) new.files r (λ (is_told, trusts). (tt, trusts))
-        is.faults.evident;
+        on_less_with (IsFileOf old.files new.files old.session.set) (IsTwice new.files) (Unit {0} × Trusts D old.files old.session)
+        (told × Trusts D old.files old.session) new.files r (λ (is_told, trusts). (tt, trusts)) is.faults.evident;
   };
 }
 

@@ -18,6 +18,7 @@ use Rattle.segment_set.specs.Seen.{Sees}
 use Rattle.segment_set.specs.Kept.{AreCanonical, Follows, HasCanonical, KeepsNamed}
 use Rattle.segment_set.proofs.Carried.{canon_file, canon_named, keeps_calm}
 use Rattle.index_core.specs.Effects.{BringsCanonical, IsOfBefore}
+use Rattle.index_core.specs.Sessions.{SessionData}
 
 -- the same segments, each with its file as it was
 pub brings_still : (D : ℕ) (f g : Files) (s t : List LiveSegment) → ((p : LiveSegment) → Contains s p → g (Segment p.head.id) ≡ f (Segment p.head.id)) → t ≡ s
@@ -50,6 +51,12 @@ brings_written D told f g m n s t is_told keeps follows canon p there = by (is_n
         (λ fresh. absurd (both_ways (is_named m.names (Segment p.head.id)) fresh named))
         (λ (q, here, head, within). inl (record { part = q; was = here; head = sym head; file = keeps.files is_told (Segment p.head.id) named }))
         (follows.each p there)
+
+-- of the session that the code opened
+pub brings_opened : (D : ℕ) (told : Type 0) (f g : Files) (s u : SessionData) (t : SetData) → u ≡ s → told → KeepsNamed told u.set.names t.names f g
+    → Follows u.set.names u.set.parts t.parts → AreCanonical D g u.set.names t.parts → BringsCanonical D f g s.set.parts t.parts
+brings_opened D told f g s u t opened is_told keeps follows canon = subst (λ (v : SessionData). BringsCanonical D f g v.set.parts t.parts) opened
+    (brings_written D told f g u.set.names t.names u.set.parts t.parts is_told keeps follows canon)
 
 -- one that gives no name
 pub brings_named : (D : ℕ) (told : Type 0) (f g : Files) (m n : NameList) (s t : List LiveSegment) → told → (told → g ≡ f) → n ≡ m → Follows m s t

@@ -13,7 +13,7 @@ use Rattle.index_model.specs.declared.session.Applied.TheVariants as applied
 use Rattle.script_lang.specs.declared.faults.Refusal.TheVariants as why
 use Rattle.segment_set.specs.declared.faults.SnapFault.{SnapFault}
 use Rattle.segment_set.specs.declared.faults.SnapFault.TheVariants as snap
-use Rattle.segment_set.specs.Sets.{NamedView, SetData}
+use Rattle.segment_set.specs.Sets.{SetData, set_snapped}
 use Rattle.segment_set.specs.Kept.{Follows, StaysButCache}
 use Rattle.segment_set.specs.Faithful.{IsFaithful}
 use Rattle.segment_set.proofs.Carried.{follows_same, keeps_calm}
@@ -21,6 +21,7 @@ use Rattle.index_core.specs.Effects.{BringsCanonical}
 use Rattle.index_core.specs.Replies.{snap_answer, text_after}
 use Rattle.index_core.proofs.Bringing.{brings_same}
 use Rattle.index_core.proofs.Answering.{no_cause, IsCalm}
+use Rattle.index_core.proofs.Carrying.{ViewsStay, views_more, views_same}
 use Rattle.index_core.proofs.FaultCauses.{memory_cause}
 use Rattle.index_core.proofs.Guarding.{Grows, grows_like}
 
@@ -29,17 +30,18 @@ use Rattle.index_core.proofs.Guarding.{Grows, grows_like}
 -- a call that changes nothing that guards the files, nor a file
 pub calm_like : (D : ℕ) (told : Type 0) (files after : Files) (s t : SetData) (commit : Option CommitData) (refused : Bool) (text new_text : List ℕ)
     (faults new_faults : ℕ) → t.names ≡ s.names → Grows s t
-    → Follows s.names s.parts t.parts → (told → after ≡ files) → (told → BringsCanonical D files after s.parts t.parts)
+    → Follows s.names s.parts t.parts → (told → after ≡ files) → (told → BringsCanonical D files after s.parts t.parts) → (told → ViewsStay files after s t)
     → (told → IsFaithful D files s → IsFaithful D after t)
     → IsCalm D told (record { files = files; session = record { set = s; commit = commit; refused = refused }; text = text; faults = faults })
     (record { files = after; session = record { set = t; commit = commit; refused = refused }; text = new_text; faults = new_faults })
-calm_like D told files after s t commit refused text new_text faults new_faults names grows follows same brings faithful = record {
+calm_like D told files after s t commit refused text new_text faults new_faults names grows follows same brings views faithful = record {
   commit = refl;
   refused = refl;
   grows = grows;
   keeps = keeps_calm told s.names t.names files after names same;
   follows = follows;
   brings = brings;
+  views = views;
   faithful = faithful;
 }
 
@@ -52,7 +54,8 @@ calm_cache D told files after s t commit refused text new_text faults new_faults
     calm_like D told files after s t commit refused text new_text faults new_faults (ap (λ (u : SetData). u.names) stays.is)
     (grows_like s t (record s { cache = t.cache }) stays.is refl refl refl)
     (follows_same s.names s.parts t.parts (ap (λ (u : SetData). u.parts) stays.is)) same
-    (λ is_told. brings_same D files after s.parts t.parts (same is_told) (ap (λ (u : SetData). u.parts) stays.is)) faithful
+    (λ is_told. brings_same D files after s.parts t.parts (same is_told) (ap (λ (u : SetData). u.parts) stays.is))
+    (λ is_told. views_same files after s t (same is_told) (ap (λ (u : SetData). u.snapshots) stays.is)) faithful
 
 -- a text that is cut to its length of before
 pub cut_back : (n : ℕ) (text more : List ℕ) → n ≡ length text → take n (text ++ more) ≡ text
@@ -77,18 +80,20 @@ whole_snap (Err snap.Taken) = tt
 whole_snap (Err snap.TooMany) = tt
 whole_snap (Err snap.Memory) = tt
 
-pub calm_snap : {T : Type 0} (D : ℕ) (told : Type 0) (files : Files) (s t : SetData) (views : List NamedView) (r : Result T SnapFault)
+pub calm_snap : {T : Type 0} (D : ℕ) (told : Type 0) (files : Files) (s t : SetData) (name : List ℕ) (r : Result T SnapFault)
     (commit : Option CommitData) (refused : Bool) (text new_text : List ℕ) (faults : ℕ)
-    → OnOk r (t ≡ record s { snapshots = views }) → OnErr r (t ≡ s) → (IsFaithful D files s → IsFaithful D files t)
+    → OnOk r (t ≡ set_snapped name s) → OnErr r (t ≡ s) → (IsFaithful D files s → IsFaithful D files t)
     → IsCalm D told (record { files = files; session = record { set = s; commit = commit; refused = refused }; text = text; faults = faults })
     (record { files = files; session = record { set = t; commit = commit; refused = refused }; text = new_text; faults = faults })
-calm_snap D told files s t views (Ok x) commit refused text new_text faults done same faithful =
+calm_snap D told files s t name (Ok x) commit refused text new_text faults done same faithful =
     calm_like D told files files s t commit refused text new_text faults faults (ap (λ (u : SetData). u.names) done)
-    (grows_like s t (record s { snapshots = views }) done refl refl refl)
+    (grows_like s t (set_snapped name s) done refl refl refl)
     (follows_same s.names s.parts t.parts (ap (λ (u : SetData). u.parts) done)) (λ is_told. refl)
-    (λ is_told. brings_same D files files s.parts t.parts refl (ap (λ (u : SetData). u.parts) done)) (λ is_told. faithful)
-calm_snap D told files s t views (Err e) commit refused text new_text faults done same faithful =
+    (λ is_told. brings_same D files files s.parts t.parts refl (ap (λ (u : SetData). u.parts) done))
+    (λ is_told. views_more files name s t (ap (λ (u : SetData). u.snapshots) done)) (λ is_told. faithful)
+calm_snap D told files s t name (Err e) commit refused text new_text faults done same faithful =
     calm_like D told files files s t commit refused text new_text faults faults (ap (λ (u : SetData). u.names) same)
     (grows_like s t s same refl refl refl)
     (follows_same s.names s.parts t.parts (ap (λ (u : SetData). u.parts) same)) (λ is_told. refl)
-    (λ is_told. brings_same D files files s.parts t.parts refl (ap (λ (u : SetData). u.parts) same)) (λ is_told. faithful)
+    (λ is_told. brings_same D files files s.parts t.parts refl (ap (λ (u : SetData). u.parts) same))
+    (λ is_told. views_same files files s t refl (ap (λ (u : SetData). u.snapshots) same)) (λ is_told. faithful)

@@ -13,6 +13,7 @@ pub mod Sizes
 pub mod Leaving
 pub mod Adding
 pub mod Bringing
+pub mod Carrying
 pub mod Showing
 pub mod Keeping
 pub mod Listed
@@ -28,3 +29,4 @@ pub mod LosingNone
 pub mod Thinned
 pub mod Attached
 pub mod Renewed
+pub mod Unchanged

@@ -32,6 +32,8 @@ use Rattle.segment_set.proofs.Covered.{live_file_set}
 use Rattle.segment_set.proofs.Numbers.{same_live}
 use Rattle.index_core.specs.Brought.{KeepsCommit, KeepsOwn}
 use Rattle.index_core.specs.Lasting.{Lasts}
+use Rattle.index_core.specs.Carried.{Carries}
+use Rattle.index_core.specs.Effects.{BringsCanonical}
 use Rattle.index_core.specs.Sessions.{AreTraced, Guards, IsLast, IsLastCommit, IsSound, IsUnchanged, SessionData, StaysTrue, Trusts}
 use Rattle.index_core.specs.Steps.{SaysCommit}
 use Rattle.index_core.proofs.Committing.{some_same}
@@ -149,6 +151,7 @@ module _ (D : ℕ) (told : Type 0) (old mid new : Files) (s t : SessionData) (sa
     guards = λ is_told guards. subst (λ (f : Files). Guards D f t) (sym (same is_told)) (stays.guards is_told guards);
     faithful = λ is_told faithful. subst (λ (f : Files). IsFaithful D f t.set) (sym (same is_told)) (stays.faithful is_told faithful);
     traced = λ is_told trusts. subst (λ (f : Files). AreTraced D f t.set.parts) (sym (same is_told)) (stays.traced is_told trusts);
+    carries = λ is_told. subst (λ (f : Files). Carries old f s.set t.set) (sym (same is_told)) (stays.carries is_told);
   }
 
 module _ (D : ℕ) (told : Type 0) (old mid new : Files) (s : SessionData) (same : told → new ≡ mid) where
@@ -157,3 +160,9 @@ module _ (D : ℕ) (told : Type 0) (old mid new : Files) (s : SessionData) (same
 
   pub lasting_read : (told → Trusts D old s → KeepsCommit old mid) → told → Trusts D old s → KeepsCommit old new
   lasting_read lasting is_told trusts = subst (KeepsCommit old) (sym (same is_told)) (lasting is_told trusts)
+
+  pub brings_read : (t : SetData) → told → BringsCanonical D old mid s.set.parts t.parts → BringsCanonical D old new s.set.parts t.parts
+  brings_read t is_told = subst (λ (f : Files). BringsCanonical D old f s.set.parts t.parts) (sym (same is_told))
+
+  pub lasts_read : (t : SetData) → told → Lasts D NoneGoes old mid s.set t → Lasts D NoneGoes old new s.set t
+  lasts_read t is_told = subst (λ (f : Files). Lasts D NoneGoes old f s.set t) (sym (same is_told))

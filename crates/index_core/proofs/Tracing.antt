@@ -1,5 +1,6 @@
 -- Where the segments of a session come from, through calls on its set, a commit, a sweep and attaching; and what a crowd in one of them shows.
 use Rattle.std.proofs.Common.{◌≡◌, ℕ, true, false, ◌↔◌, List, length, Some, Result, Ok, Err, IfOk, refl, sym, ap, subst, ◌∙◌, ◌⊎◌, inl, inr, ⊎_elim}
+use Rattle.std.proofs.Math.Logic.{∥∥₁_map}
 use Rattle.std.proofs.lemmas.Bool.{both_ways}
 use Rattle.std.proofs.lemmas.Grind.{merely}
 use Rattle.std.specs.List.{All, AllZip, Contains}
@@ -24,12 +25,14 @@ use Rattle.segment_view.specs.LiveSegments.{LiveSegment, cleared_parts, lives_of
 use Rattle.file_names.specs.Names.{NameList, is_named}
 use Rattle.segment_set.specs.Sets.{IsNamed, SetData}
 use Rattle.segment_set.specs.Kept.{AreCanonical, Follows, IsAtRest, IsCommitOf, IsSubset, KeepsNamed}
-use Rattle.index_opening.specs.Evidence.{CrowdsPart, InSegment, IsCrowdedIn, IsEvident, IsEvidentIn, IsTwice}
+use Rattle.index_opening.specs.Evidence.{CrowdsPart, HoldsWhole, InSegment, IsCrowdedIn, IsEvident, IsEvidentIn, IsEvidentOf, IsOfPart}
+use Rattle.index_opening.specs.Evidence.{IsTwice, MayBeNeeded}
 use Rattle.segment_set.specs.Faithful.{IsFaithful}
 use Rattle.segment_set.proofs.Carried.{canon_file, within_cleared, within_itself}
 use Rattle.segment_set.proofs.Covered.{part_after}
 use Rattle.segment_set.proofs.Crowds.{crowd_before, none_crowded}
-use Rattle.index_opening.proofs.Evident.{on_evident_twice}
+use Rattle.segment_set.proofs.WholeFiles.{canonical_whole}
+use Rattle.index_opening.proofs.Evident.{on_evident_by, on_evident_named}
 use Rattle.index_core.specs.Sessions.{AreTraced, Guards, GuardsSet, IsLast, IsLastCommit, IsListedWith, IsTraced, SessionData, Trusts}
 use Rattle.index_core.specs.Effects.{BringsCanonical, IsOfBefore}
 use Rattle.index_core.proofs.Bringing.{brings_written}
@@ -50,12 +53,36 @@ pub crowded_listed : (D : ℕ) (files : Files) (parts : List LiveSegment) (doc :
 crowded_listed D files parts doc traced (p, there, crowd) =
     ⊎_elim (λ l. listed_twice D files p doc l crowd) (λ canonical. absurd (none_crowded D files p doc canonical crowd)) (traced p there)
 
+-- a segment that is traced is one that the commit lists, or whole
+needed_traced : (D : ℕ) (files : Files) (parts : List LiveSegment) (file : FileName) → AreTraced D files parts → IsOfPart parts file
+    → ∥ MayBeNeeded (λ _. ⊥) files file ∥₁
+needed_traced D files parts file traced (p, there, is) = ⊎_elim
+    (λ (l : IsListedWith D files p). merely (inl (inr (record {
+      commit = l.commit;
+      says = l.says;
+      listed = l.listed;
+      there = l.there;
+      is = inl (is ∙ ap (λ (n : ℕ). Segment n) (sym l.is));
+    }))))
+    (λ canonical. ∥∥₁_map (canonical_whole D files p.head canonical) (λ w. inr (inl (subst (HoldsWhole files) (sym is) w))))
+    (traced p there)
+
+-- so a damage that a search of a session's segments shows is evident
+pub parts_shows : {X : Type 0} (D : ℕ) (told : Type 0) (f g : Files) (s : SessionData) (r : Result X PageFault) → (told → g ≡ f)
+    → OnDamage r (IsEvidentOf s.set.parts (told × IsFaithful D f s.set) g) → OnDamage r (IsEvident (told × Trusts D f s) g)
+parts_shows D told f g s r same = on_evident_named (IsOfPart s.set.parts) (λ _. ⊥) (IsTwice g) (told × IsFaithful D f s.set) (told × Trusts D f s) g r
+    (λ (is_told, trusts). (is_told, trusts.faithful))
+    (λ (is_told, trusts) file of.
+    needed_traced D g s.set.parts file (subst (λ (h : Files). AreTraced D h s.set.parts) (sym (same is_told)) trusts.traced) of)
+
 -- a damage that is evident by the set's segments of before is so by those that the commit lists
 pub crowd_shows : {X : Type 0} (D : ℕ) (told : Type 0) (f g : Files) (s : SessionData) (r : Result X PageFault)
     → (told → Trusts D f s → AreTraced D g s.set.parts)
     → OnDamage r (IsEvidentIn D s.set.parts (told × IsFaithful D f s.set) g) → OnDamage r (IsEvident (told × Trusts D f s) g)
-crowd_shows D told f g s r traced = on_evident_twice (IsCrowdedIn D g s.set.parts) (IsTwice g) (told × IsFaithful D f s.set) (told × Trusts D f s) g r
+crowd_shows D told f g s r traced = on_evident_by (IsOfPart s.set.parts) (λ _. ⊥) (IsCrowdedIn D g s.set.parts) (IsTwice g) (told × IsFaithful D f s.set)
+    (told × Trusts D f s) g r
     (λ (is_told, trusts). (is_told, trusts.faithful))
+    (λ (is_told, trusts) file of. needed_traced D g s.set.parts file (traced is_told trusts) of)
     (λ (is_told, trusts) doc crowd. merely (crowded_listed D g s.set.parts doc (traced is_told trusts) crowd))
 
 -- ---- through calls on the set
@@ -129,6 +156,13 @@ pub traced_shows : {X : Type 0} (D : ℕ) (told : Type 0) (f g : Files) (s : Ses
     → OnDamage r (IsEvidentIn D s.set.parts (told × IsFaithful D f s.set) g) → OnDamage r (IsEvident (told × Trusts D f s) g)
 traced_shows D told f g s names r keeps named =
     crowd_shows D told f g s r (λ is_told trusts. traced_before D told f g s.set names is_told keeps trusts.guards.set named trusts.traced)
+
+-- of the session that the code opened
+pub opened_shows : {X : Type 0} (D : ℕ) (told : Type 0) (f g : Files) (s u : SessionData) (names : NameList) (r : Result X PageFault) → u ≡ s
+    → KeepsNamed told u.set.names names f g → All (IsNamed s.set.names) s.set.parts
+    → OnDamage r (IsEvidentIn D u.set.parts (told × IsFaithful D f u.set) g) → OnDamage r (IsEvident (told × Trusts D f s) g)
+opened_shows D told f g s u names r opened keeps named evident = subst (λ (v : SessionData). OnDamage r (IsEvident (told × Trusts D f v) g)) opened
+    (traced_shows D told f g u names r keeps (subst (λ (v : SessionData). All (IsNamed v.set.names) v.set.parts) (sym opened) named) evident)
 
 -- and of one that changes no file
 pub calm_shows : {X : Type 0} (D : ℕ) (told : Type 0) (f g : Files) (s : SessionData) (r : Result X PageFault) → (told → g ≡ f)

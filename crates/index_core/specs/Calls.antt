@@ -1,5 +1,5 @@
 -- What calls on a session leave of its folder and of it, whatever they answer, and what a fault of theirs says.
-use Rattle.std.specs.Prelude.{◌≡◌, ◌≤◌, ◌+◌, ℕ, Contains, Result, None, Some, true, length, IfOk, IsOk, OnOk}
+use Rattle.std.specs.Prelude.{◌≡◌, ◌≤◌, ◌+◌, ℕ, Result, None, Some, true, length, IfOk, IsOk, OnOk}
 use Rattle.std.specs.Prelude.{OnErr}
 use Rattle.outer_io.specs.declared.file_name.FileName.{FileName}
 use Rattle.outer_io.specs.declared.file_name.FileName.TheVariants.{Commit, Segment}
@@ -23,6 +23,7 @@ use Rattle.segment_set.specs.Kept.{IsNeeded}
 use Rattle.index_core.specs.Arranged.{FaultLeaves}
 use Rattle.index_core.specs.Lasting.{Lasts, TakesOut}
 use Rattle.index_core.specs.Brought.{KeepsCommit, KeepsOwn}
+use Rattle.index_core.specs.Carried.{AreOfListed, IsOfSet}
 use Rattle.index_core.specs.Closed.{IsTracked, NamesOnlyListed}
 use Rattle.index_core.specs.Costs.{ReadsAtMost}
 use Rattle.index_core.specs.Effects.{KeepsStill, OnRefused}
@@ -55,7 +56,8 @@ pub record IsCommitted (D : ℕ) (told : Type 0) (old new : Files) (s t : Sessio
   pub tracked : told → (m : FileName) → IsTracked old new s.set.names t.set.names m
 
 -- The session over a commit that the file says is seen as the index that is stored. It knows the files, has what the
--- commit keeps live, nothing is changed since this commit, and its list of names has but what the commit lists.
+-- commit keeps live, and no other segments than it lists. Nothing is changed since this commit, and the list of names
+-- has but what the commit lists.
 pub record Attaches (D : ℕ) (told : Type 0) (files : Files) (commit : CommitData)
     (result : Result SessionData PageFault) : Type 0 where
   pub seen : told → IsCommitFile (bytes_of (files Commit)) commit → (i : Index) → IsStored files (Some i)
@@ -64,6 +66,7 @@ pub record Attaches (D : ℕ) (told : Type 0) (files : Files) (commit : CommitDa
   pub faithful : told → IfOk result (λ s. IsFaithful D files s.set)
   pub traced : told → IsCommitFile (bytes_of (files Commit)) commit → IfOk result (λ s. AreTraced D files s.set.parts)
   pub finds : told → IsCommitFile (bytes_of (files Commit)) commit → IfOk result (λ s. FindsKept D files s.set)
+  pub own : told → IsCommitFile (bytes_of (files Commit)) commit → IfOk result (λ s. AreOfListed files s.set)
   pub unchanged : IfOk result IsUnchanged
   pub listed : IfOk result NamesOnlyListed
 
@@ -83,12 +86,12 @@ pub record HasNoDamage {T : Type 0} (before now : ℕ) (result : Result T PageFa
 
 -- ---- sweeps
 
--- No segment's file is changed. What is in the list of names afterwards the commit or a view needs, and no file is
--- there that isn't in it, but those that weren't before. Where the commit lists all that is in it no file is changed.
+-- No segment's file is changed, of now or of a snapshot. What is in the list of names afterwards the commit or a view
+-- needs, and no file is there that isn't in it, but those that weren't before. Where the commit lists all that is in it
+-- no file is changed.
 pub record SweepsAway {T : Type 0} (told : Type 0) (old new : Files) (s t : SessionData) (result : Result T PageFault)
     : Type 0 where
-  pub segments : told → (p : LiveSegment) → Contains s.set.parts p
-      → new (Segment p.head.id) ≡ old (Segment p.head.id)
+  pub segments : told → (p : LiveSegment) → IsOfSet s.set p → new (Segment p.head.id) ≡ old (Segment p.head.id)
   pub tracked : told → (m : FileName) → IsTracked old new s.set.names t.set.names m
   pub needed : OnOk result ((m : FileName) → is_named t.set.names.names m ≡ true
       → (c : CommitData) × (s.commit ≡ Some c) × IsNeeded s.set c m)

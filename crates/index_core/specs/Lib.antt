@@ -1,3 +1,4 @@
+pub mod Carried
 pub mod Sessions
 pub mod Steps
 pub mod Replies

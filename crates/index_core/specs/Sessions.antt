@@ -15,6 +15,7 @@ use Rattle.segment_set.specs.Sets.{SetData, IsWell}
 use Rattle.segment_set.specs.Kept.{HasCanonical, IsAsCommitted, StaysButCache}
 use Rattle.segment_set.specs.Saved.{CoversPart, IsLastOrFresh, KeepsLine}
 use Rattle.segment_set.specs.Faithful.{IsFaithful}
+use Rattle.index_core.specs.Carried.{Carries}
 
 -- the dimensions of a commit, where there is one
 abbrev pub HasDims : ℕ → Option CommitData → Type 0
@@ -88,11 +89,13 @@ pub record Trusts (D : ℕ) (files : Files) (s : SessionData) : Type 0 where
   pub faithful : IsFaithful D files s.set
   pub traced : AreTraced D files s.set.parts
 
--- what the session knows of the files is so of those of now: it guards them, and can be trusted as before
+-- What the session knows of the files is so of those of now: it guards them, and can be trusted as before. Its segments
+-- are carried.
 pub record StaysTrue (D : ℕ) (told : Type 0) (old new : Files) (s t : SessionData) : Type 0 where
   pub guards : told → Guards D old s → Guards D new t
   pub faithful : told → IsFaithful D old s.set → IsFaithful D new t.set
   pub traced : told → Trusts D old s → AreTraced D new t.set.parts
+  pub carries : told → Carries old new s.set t.set
 
 -- nothing changed since the last commit: there is one, none was refused since, and the set is as it says
 pub record IsUnchanged (s : SessionData) : Type 0 where

@@ -19,8 +19,8 @@ use Rattle.stored_index.specs.Stored.{IsStored}
 use Rattle.stored_index.specs.Kept.{SameKept}
 use Rattle.segment_set.specs.Sets.{SetData}
 use Rattle.segment_set.specs.Seen.{Sees}
-use Rattle.index_opening.specs.Evidence.{IsEvident}
 use Rattle.index_core.specs.Brought.{KeepsCommit, KeepsOwn}
+use Rattle.index_core.specs.Carried.{IsEvidentOver}
 use Rattle.index_core.specs.Sessions.{Guards, IsCommitAnew, IsUnchanged, SessionData, StaysTrue, Trusts}
 use Rattle.index_core.specs.Effects.{BringsCanonical, OnDone}
 use Rattle.index_core.specs.Light.{CommitsFewOfLevels}
@@ -123,7 +123,8 @@ pub record ShowsStepFault (D : ℕ) (told : Type 0) (committing : Bool) (old new
   pub cause : HasPageCause old.faults new.faults result
   pub whole : told → (i : Index) → Sees D old.files old.session.set i → GuardsFor committing D old
       → NotDamaged result
-  pub evident : OnDamage result (IsEvident (told × Trusts D old.files old.session) new.files)
+  pub evident : OnDamage result
+      (IsEvidentOver old.files old.session.set (told × Trusts D old.files old.session) new.files)
 
 -- From the one place to the other the session does what this outcome says, committing or not. Each segment that is
 -- written is canonical, whatever is answered.

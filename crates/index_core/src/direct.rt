@@ -12,7 +12,7 @@ ghost use Rattle.nearest_query.specs.Segments.{AreNearLeaves, bound_of};
 ghost use Rattle.segment_view.specs.LiveSegments.{heads_of};
 ghost use Rattle.segment_view.specs.Costs.{IsCostOf};
 ghost use Rattle.segment_set.specs.Seen.{Sees};
-ghost use Rattle.index_opening.specs.Evidence.{IsEvident};
+ghost use Rattle.index_opening.specs.Evidence.{IsEvidentOf};
 ghost use Rattle.segment_set.specs.Faithful.{IsFaithful};
 ghost use Rattle.index_core.specs.Sessions.{AreTraced, Guards};
 ghost use Rattle.index_core.specs.Effects.{BringsCanonical};
@@ -191,7 +191,8 @@ impl<const D: usize> Session<D> {
         ensures faithful { IsTrue F.told → IsFaithful D (F.files folder.old) self.old.set
             → IsFaithful D (F.files folder.new) self.new.set }
         ensures evident { OnDamage result
-            (IsEvident (IsTrue F.told × IsFaithful D (F.files folder.old) self.old.set) (F.files folder.new)) }
+            (IsEvidentOf self.old.set.parts (IsTrue F.told × IsFaithful D (F.files folder.old) self.old.set)
+            (F.files folder.new)) }
     {
         self.set.visit(alloc, folder, &View::Now, shape)
     }
@@ -224,7 +225,8 @@ impl<const D: usize> Session<D> {
         ensures faithful { IsTrue F.told → IsFaithful D (F.files folder.old) self.old.set
             → IsFaithful D (F.files folder.new) self.new.set }
         ensures evident { OnDamage result
-            (IsEvident (IsTrue F.told × IsFaithful D (F.files folder.old) self.old.set) (F.files folder.new)) }
+            (IsEvidentOf self.old.set.parts (IsTrue F.told × IsFaithful D (F.files folder.old) self.old.set)
+            (F.files folder.new)) }
     {
         self.set.nearest(alloc, folder, &View::Now, at, k)
     }

@@ -17,7 +17,7 @@ ghost use Rattle.index_opening.specs.Evidence.{IsEvident};
 ghost use Rattle.segment_set.specs.Faithful.{IsFaithful};
 ghost use Rattle.index_opening.specs.Damages.{IsAttachDamage, IsAttachDamageOf};
 ghost use Rattle.file_names.specs.Names.{is_named};
-ghost use Rattle.segment_set.specs.Kept.{IsAsCommitted};
+ghost use Rattle.segment_set.specs.Kept.{IsAtRest};
 ghost use Rattle.index_core.specs.Sessions.{AreTraced, Guards};
 ghost use Rattle.index_core.specs.Arranged.{IsArranged};
 ghost use Rattle.index_core.specs.Lasting.{Lasts};
@@ -94,7 +94,7 @@ impl<const D: usize> Session<D> {
             → IfOk result (λ s. AreTraced D (F.files folder.old) s.parts) }
         ensures names { (c : CommitData) → self.now.commit ≡ Some c
             → IfOk result (λ s. (m : FileName) → is_named s.names.names m ≡ true → ListsFile c m) }
-        ensures unchanged { (c : CommitData) → self.now.commit ≡ Some c → IfOk result (λ s. IsAsCommitted s c) }
+        ensures unchanged { (c : CommitData) → self.now.commit ≡ Some c → IfOk result (λ s. IsAtRest s c) }
         ensures lives { IsTrue F.told → (c : CommitData) → self.now.commit ≡ Some c
             → IfOk result (λ s. HaveLive (F.files folder.old) c (lives_of s.parts)) }
         ensures files { IsTrue F.told → F.files folder.new ≡ F.files folder.old }

@@ -53,6 +53,7 @@ impl<const D: usize> Session<D> {
     ghost use Rattle.index_core.specs.Sessions.{Guards};
     ghost use Rattle.index_core.specs.Calls.{Attaches, Spares};
     ghost use Rattle.index_core.specs.Steps.{Applies, is_committing};
+    ghost use Rattle.index_core.specs.Carried.{AreOfListed};
     ghost use Rattle.index_core.specs.Damages.{ShowsDamage};
     ghost use Rattle.index_core.specs.Effects.{Leaves, OnDone};
 
@@ -65,6 +66,7 @@ impl<const D: usize> Session<D> {
         ensures guards { IfOk result (λ s. (files : Files) → files CommitName ≡ None → Guards D files s) }
         ensures faithful { IfOk result (λ s. (files : Files) → IsFaithful D files s.set) }
         ensures bare { IfOk result (λ s. s.set.parts ≡ []) }
+        ensures own { IfOk result (λ s. (files : Files) → AreOfListed files s.set) }
     {
         let set = SegmentSet::new(alloc, leaf_size, settings)?;
         // its list of names is empty, and has the files of all its segments

@@ -4,3 +4,4 @@ pub mod Listed
 pub mod Evident
 pub mod ListedShows
 pub mod Named
+pub mod LeafEvident

@@ -1,9 +1,9 @@
 -- Which file a damage names that looking at the files of a folder shows.
-use Rattle.std.proofs.Common.{◌≤◌, ℕ, List, sym, subst, inl, inr}
+use Rattle.std.proofs.Common.{◌≤◌, ℕ, List, sym, ap, subst, inl, inr}
 use Rattle.std.proofs.Math.Logic.{∥∥₁_map}
 use Rattle.std.proofs.lemmas.Grind.{merely}
-use Rattle.std.specs.List.{All, Contains}
-use Rattle.std.proofs.lemmas.List.Elements.{All-contains}
+use Rattle.std.specs.List.{All, AllZip, Contains}
+use Rattle.std.proofs.lemmas.List.Elements.{All-contains, All-contains_itself}
 use Rattle.outer_io.specs.declared.file_name.FileName.TheVariants.{Commit, Segment}
 use Rattle.outer_io.specs.Files.{Files, bytes_of}
 use Rattle.point_codec.specs.Points.{Region}
@@ -24,7 +24,9 @@ use Rattle.segment_view.specs.LiveSegments.{LiveSegment}
 use Rattle.segment_view.specs.Damages.{IsPartDamage}
 use Rattle.index_opening.specs.Damages.{IsAttachDamageOf, IsMisplaced, IsUnequalOf}
 use Rattle.index_opening.specs.Evidence.{InHead, InList, IsFound, IsOfListed, NamesLooked}
+use Rattle.index_opening.specs.Opened.{IsOpened}
 use Rattle.index_opening.proofs.Evident.{live_listed, segment_listed}
+use Rattle.index_opening.proofs.Ordered.{zip_right}
 
 -- ---- a leaf
 
@@ -48,6 +50,16 @@ part_found D files parts f listed = fault_weaker f (IsPartDamage D parts) (IsFou
     ∥∥₁_map read (λ r. leaf_named D files p.head r.root r.tree here d r.shows))
 
 -- ---- the segments that a commit lists
+
+-- those that were opened are of it
+pub all_listed : (T : Type 0) (files : Files) (c : CommitData) (parts : List LiveSegment) → IsCommitFile (bytes_of (files Commit)) c
+    → AllZip (IsOpened T files c) c.listed parts → All (λ (p : LiveSegment). IsOfListed files (Segment p.head.id)) parts
+all_listed T files c parts says =
+    let P = λ (p : LiveSegment). IsOfListed files (Segment p.head.id) in
+    zip_right (IsOpened T files c) (Contains c.listed) P c.listed parts one (All-contains_itself c.listed)
+  where
+    one : (s : Listed) (p : LiveSegment) → Contains c.listed s → IsOpened T files c s p → IsOfListed files (Segment p.head.id)
+    one s p there o = segment_listed files c s (Segment p.head.id) says there (ap (λ (id : ℕ). Segment id) o.listed.id)
 
 head_named : (files : Files) (c : CommitData) → IsCommitFile (bytes_of (files Commit)) c → (s : Listed) → Contains c.listed s
     → (d : Damage) → IsHeadDamage s.segment d → IsHeadDamageOf c.dims files d → NamesLooked files d

@@ -148,38 +148,62 @@ pub data IsTwice (files : Files) (doc : ℕ) : Type 0 where
       → (p : LiveSegment) → p.head.id ≡ s.segment → HasLive files s p.live → CrowdsPart c.dims files p doc
       → IsTwice files doc
 
--- it was looked at for the commit, or it is a segment's and has its head, as one that a snapshot needs
-abbrev pub MayBeNeeded : Files → FileName → Type 0
-MayBeNeeded files file =
-    IsLookedAt files file ⊎ ((D : ℕ) × (head : Head) × (file ≡ Segment head.id) × IsHeadIn files D head)
+-- one of these segments has the file
+abbrev pub IsOfPart : List LiveSegment → FileName → Type 0
+IsOfPart parts file = (p : LiveSegment) × Contains parts p × (file ≡ Segment p.head.id)
+
+-- the file holds a segment whole: no page or leaf of it is damaged
+pub record HoldsWhole (files : Files) (file : FileName) : Type 0 where
+  pub D : ℕ
+  pub head : Head
+  pub items : List Item
+  pub file_is : file ≡ Segment head.id
+  pub holds : IsSegment D (bytes_of (files file)) head items
+
+-- it was looked at for the commit, or it is one of the others, or is whole, as what a call writes
+abbrev pub MayBeNeeded : (others : FileName → Type 0) → Files → FileName → Type 0
+MayBeNeeded others files file = IsLookedAt files file ⊎ HoldsWhole files file ⊎ others file
 
 -- What a damage carries is that of the files, of one that may be needed. `twice` is what is shown of a number that is
 -- Doubled.
-abbrev pub IsTrueOf : (twice : ℕ → Type 0) → Files → Damage → Type 0
-IsTrueOf twice files (Page file number bytes) = IsPageOf files file number bytes.value.b × MayBeNeeded files file
-IsTrueOf twice files (Leaf file number offset len bytes) = IsPageOf files file number bytes.value.b
-IsTrueOf twice files (Body file bytes) = ArePayloadsOf files file bytes × IsLookedAt files file
-IsTrueOf twice files (Missing file) = (files file ≡ None) × IsOfListed files file
-IsTrueOf twice files (Size file size needed) = IsSizeOf (AsksPages file) files file size needed × IsLookedAt files file
-IsTrueOf twice files (Unequal file said found) = ArePair files file said found
-IsTrueOf twice files (NotGiven doc next) = IsLiveNotGiven files doc next
-IsTrueOf twice files (Doubled doc) = twice doc
+abbrev pub IsTrueOf : (others : FileName → Type 0) → (twice : ℕ → Type 0) → Files → Damage → Type 0
+IsTrueOf others twice files (Page file number bytes) = IsPageOf files file number bytes.value.b
+    × MayBeNeeded others files file
+IsTrueOf others twice files (Leaf file number offset len bytes) = IsPageOf files file number bytes.value.b
+    × MayBeNeeded others files file
+IsTrueOf others twice files (Body file bytes) = ArePayloadsOf files file bytes × IsLookedAt files file
+IsTrueOf others twice files (Missing file) = (files file ≡ None) × IsOfListed files file
+IsTrueOf others twice files (Size file size needed) = IsSizeOf (AsksPages file) files file size needed
+    × IsLookedAt files file
+IsTrueOf others twice files (Unequal file said found) = ArePair files file said found
+IsTrueOf others twice files (NotGiven doc next) = IsLiveNotGiven files doc next
+IsTrueOf others twice files (Doubled doc) = twice doc
 
 -- The damage is true of the files: what it carries is theirs, and a leaf that isn't spelled is one that the head of its
 -- file has.
-pub record IsTrueDamage (twice : ℕ → Type 0) (files : Files) (d : Damage) : Type 0 where
+pub record IsTrueDamage (others : FileName → Type 0) (twice : ℕ → Type 0) (files : Files) (d : Damage)
+    : Type 0 where
   pub shows : ShowsItself (IsHeadIn files) d
-  pub carries : ∥ IsTrueOf twice files d ∥₁
+  pub carries : ∥ IsTrueOf others twice files d ∥₁
 
 -- the damage is shown by what it carries, and is true of the files where they are told
-pub record IsEvidentWith (twice : ℕ → Type 0) (told : Type 0) (files : Files) (d : Damage) : Type 0 where
+pub record IsEvidentWith (others : FileName → Type 0) (twice : ℕ → Type 0) (told : Type 0) (files : Files) (d : Damage)
+    : Type 0 where
   pub shows : ShowsItself HasRanges d
-  pub of_files : told → IsTrueDamage twice files d
+  pub of_files : told → IsTrueDamage others twice files d
 
--- where a number is Doubled the files that the commit lists show it
+-- where a number is Doubled the files that the commit lists show it; no other file is needed
 abbrev pub IsEvident : (told : Type 0) → Files → Damage → Type 0
-IsEvident told files = IsEvidentWith (IsTwice files) told files
+IsEvident told files = IsEvidentWith (λ _. ⊥) (IsTwice files) told files
 
--- where a number is Doubled one of these segments shows it
+-- a snapshot may need a segment that the commit of before lists, too
+abbrev pub IsEvidentSince : (before : Files) → (told : Type 0) → Files → Damage → Type 0
+IsEvidentSince before told files = IsEvidentWith (IsOfListed before) (IsTwice files) told files
+
+-- of a search of these segments
+abbrev pub IsEvidentOf : List LiveSegment → (told : Type 0) → Files → Damage → Type 0
+IsEvidentOf parts told files = IsEvidentWith (IsOfPart parts) (IsTwice files) told files
+
+-- of a merge of some of these segments: where a number is Doubled one of them shows it
 abbrev pub IsEvidentIn : ℕ → List LiveSegment → (told : Type 0) → Files → Damage → Type 0
-IsEvidentIn D parts told files = IsEvidentWith (IsCrowdedIn D files parts) told files
+IsEvidentIn D parts told files = IsEvidentWith (IsOfPart parts) (IsCrowdedIn D files parts) told files

@@ -1,5 +1,5 @@
 -- What a load answers, by what its calls answered.
-use Rattle.std.proofs.Common.{◌≡◌, ◌+◌, ◌++◌, ℕ, Bool, List, [], length, None, Result, Ok, Err, refl, sym, ap, subst, ◌∙◌, inl, ℤ}
+use Rattle.std.proofs.Common.{◌≡◌, ◌+◌, ◌++◌, ℕ, Bool, List, length, Result, Ok, Err, refl, sym, ap, subst, ◌∙◌, inl, ℤ}
 use Rattle.outer_io.specs.declared.file_name.FileName.TheVariants.{Commit}
 use Rattle.outer_io.specs.Files.{Files, bytes_of}
 use Rattle.page_cache.specs.declared.faults.PageFault.{PageFault}
@@ -11,8 +11,8 @@ use Rattle.commit_list.proofs.CommitPages.{one_file}
 use Rattle.index_model.specs.State.{Index, State}
 use Rattle.index_model.specs.Script.{Answer}
 use Rattle.stored_index.specs.Stored.{IsStored}
-use Rattle.index_opening.specs.Evidence.{IsEvident, IsTwice}
-use Rattle.index_opening.proofs.Evident.{on_commit_evident, on_evident_at, on_evident_less}
+use Rattle.index_opening.specs.Evidence.{IsEvident}
+use Rattle.index_opening.proofs.Evident.{on_commit_evident, on_evident_files, on_evident_less}
 use Rattle.index_core.specs.Sessions.{SessionData}
 use Rattle.csv_load.specs.Loading.{points_of, records_of}
 use Rattle.csv_load.specs.declared.CsvFault.{CsvFault}
@@ -54,7 +54,7 @@ pub unread_commit : {T : Type 0} (told : Type 0) (answer : State → Answer) (ol
 unread_commit {T = T} told answer old new fault r is same whole cause damage shown =
     loads_fault {T = T} told (Unit {0}) (IsStored old.files) answer old new fault r is
     (λ t stored h. inl (subst (λ (f : Files). IsStored f stored) (sym (same t)) h)) whole cause
-    (on_evident_at {X = T} IsTwice told (told × Unit {0}) old.files new.files (Err fault) (λ h. h.0) (λ h. same h.0)
+    (on_evident_files {X = T} told (told × Unit {0}) old.files new.files (Err fault) (λ h. h.0) (λ h. same h.0)
     (on_commit_evident {X = T} told old.files (Err fault) damage shown))
     (λ t h. fault_kept old.files new.files (kept_equal old.files new.files (same t)) fault) (λ t h. commit_equal old.files new.files (same t))
     (λ t h. keeps_same NoneGoes old.files new.files (kept_equal old.files new.files (same t)))
@@ -63,7 +63,7 @@ unread_commit {T = T} told answer old new fault r is same whole cause damage sho
 pub evident_still : (told trusts : Type 0) (old new : Files) (fault : PageFault) → (told → new ≡ old) → FaultShows (IsEvident (told × trusts) old) fault
     → FaultShows (IsEvident (told × trusts) new) fault
 evident_still told trusts old new fault same evident =
-    on_evident_at {X = Bool} IsTwice (told × trusts) (told × trusts) old new (Err fault) (λ h. h) (λ h. same h.0) evident
+    on_evident_files {X = Bool} (told × trusts) (told × trusts) old new (Err fault) (λ h. h) (λ h. same h.0) evident
 
 -- and of files that are trusted whatever they hold
 pub evident_all : (told : Type 0) (files : Files) (r : Result Bool PageFault) → OnDamage r (IsEvident (told × Unit {0}) files)

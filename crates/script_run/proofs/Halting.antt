@@ -1,6 +1,8 @@
 -- Lines that come from a source: what holds of how lines alone end, and of a source that fails.
-use Rattle.std.proofs.Common.{◌≡◌, ◌≤◌, ℕ, List, Result, Ok, Err, sym, subst, ◌∙◌, arith}
+use Rattle.std.proofs.Common.{◌≡◌, ◌≤◌, ℕ, List, Result, Ok, Err, inr, sym, subst, ◌∙◌, arith}
+use Rattle.std.proofs.lemmas.Grind.{merely}
 use Rattle.outer_io.specs.Files.{Files}
+use Rattle.outer_io.specs.declared.file_name.FileName.{FileName}
 use Rattle.stored_index.specs.Kept.{SameKept}
 use Rattle.stored_index.proofs.KeptFiles.{kept_after}
 use Rattle.run_status.specs.Ends.{HasStopCause, OnStopDamage}
@@ -14,8 +16,8 @@ use Rattle.page_cache.specs.declared.faults.Damage.{Damage}
 use Rattle.script_run.specs.declared.halt.Halt.{Halt}
 use Rattle.script_run.specs.declared.halt.Halt.TheVariants as halt
 use Rattle.script_run.proofs.Calling.{stop_after}
-use Rattle.script_run.proofs.Shown.{stop_less}
-use Rattle.index_opening.specs.Evidence.{IsEvident}
+use Rattle.script_run.proofs.Shown.{stop_named}
+use Rattle.index_opening.specs.Evidence.{IsEvidentSince, IsEvidentWith, IsOfListed, IsTwice, MayBeNeeded}
 use Rattle.script_run.specs.Script.{Meaning}
 use Rattle.run_status.proofs.Ending.{rose_from, cause_from}
 
@@ -75,9 +77,16 @@ halt_after {T} a b c (Ok x) first h = stop_after {T = T} a b c (Ok x) first h
 halt_after {T} a b c (Err (halt.Stopped s)) first h = stop_after {T = T} a b c (Err s) first h
 halt_after {T} a b c (Err halt.Source) first h = kept_after a b c first h
 
--- under another premise, over the same files
-pub halt_less : {X : Type 0} (S T : Type 0) (files : Files) (result : Result X Halt) → (T → S) → OnHaltDamage result (IsEvident S files)
-    → OnHaltDamage result (IsEvident T files)
-halt_less {X} S T files (Ok x) less h = tt
-halt_less {X} S T files (Err (halt.Stopped s)) less h = stop_less {X = X} S T files (Err s) less h
-halt_less {X} S T files (Err halt.Source) less h = tt
+-- under another premise, over the same files, and where other files may be needed
+pub halt_named : {X : Type 0} (O P : FileName → Type 0) (S T : Type 0) (files : Files) (result : Result X Halt) → (T → S)
+    → (T → (file : FileName) → O file → ∥ MayBeNeeded P files file ∥₁) → OnHaltDamage result (IsEvidentWith O (IsTwice files) S files)
+    → OnHaltDamage result (IsEvidentWith P (IsTwice files) T files)
+halt_named {X} O P S T files (Ok x) less named h = tt
+halt_named {X} O P S T files (Err (halt.Stopped s)) less named h = stop_named {X = X} O P S T files (Err s) less named h
+halt_named {X} O P S T files (Err halt.Source) less named h = tt
+
+-- a commit of other files is that of these, which are the same
+pub halt_since : {X : Type 0} (before base : Files) (S T : Type 0) (files : Files) (result : Result X Halt) → (T → S) → (T → before ≡ base)
+    → OnHaltDamage result (IsEvidentSince before S files) → OnHaltDamage result (IsEvidentSince base T files)
+halt_since before base S T files result less same = halt_named (IsOfListed before) (IsOfListed base) S T files result less
+    (λ t file listed. merely (inr (inr (subst (λ (f : Files). IsOfListed f file) (same t) listed))))

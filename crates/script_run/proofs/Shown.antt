@@ -5,16 +5,22 @@ use Rattle.documents.proofs.Lists.{nil_none}
 use Rattle.segment_view.specs.LiveSegments.{LiveSegment}
 use Rattle.outer_io.specs.declared.file_name.FileName.TheVariants.{Commit}
 use Rattle.outer_io.specs.Files.{Files}
+use Rattle.outer_io.specs.declared.file_name.FileName.{FileName}
 use Rattle.page_cache.specs.declared.faults.Damage.{Damage}
 use Rattle.page_cache.specs.declared.faults.PageFault.{PageFault}
 use Rattle.page_cache.specs.declared.faults.PageFault.TheVariants as page
 use Rattle.page_cache.specs.Evidence.{FaultShows, OnDamage}
-use Rattle.index_opening.specs.Evidence.{IsEvident, IsTwice}
+use Rattle.index_opening.specs.Evidence.{IsEvident, IsEvidentSince, IsEvidentWith, IsOfListed, IsTwice, MayBeNeeded}
 use Rattle.segment_set.specs.Faithful.{IsFaithful}
-use Rattle.index_opening.proofs.Evident.{evident_at, evident_less}
+use Rattle.segment_set.specs.Sets.{SetData}
+use Rattle.index_core.specs.Carried.{Carries, IsEvidentOver, IsFileOf}
+use Rattle.index_core.proofs.Carrying.{file_carried}
+use Rattle.index_opening.proofs.Evident.{evident_files, evident_less, evident_named}
 use Rattle.index_core.specs.Sessions.{AreTraced, Guards, IsTraced, SessionData, Trusts}
 use Rattle.run_status.specs.Ends.{OnStatusDamage, OnStopDamage}
 use Rattle.run_status.specs.Stops.{status_of, stop_of}
+use Rattle.run_status.specs.declared.status.Status.{Status}
+use Rattle.run_status.specs.declared.status.Status.TheVariants as status
 use Rattle.run_status.specs.declared.stop.Stop.{Stop}
 use Rattle.run_status.specs.declared.stop.Stop.TheVariants as stop
 
@@ -42,12 +48,32 @@ fault_status P page.Failed h = tt
 fault_status P page.Memory h = tt
 fault_status P (page.Damaged d) h = h
 
+-- where no other file is needed than those that were looked at, none is that only a commit of before lists
+pub status_since : (before : Files) (T : Type 0) (files : Files) (s : Status) → OnStatusDamage s (IsEvident T files)
+    → OnStatusDamage s (IsEvidentSince before T files)
+status_since before T files (status.Damaged d) h =
+    evident_named (λ file. ⊥) (IsOfListed before) (IsTwice files) T T files d (λ t. t) (λ t file none. absurd none) h
+status_since before T files status.Usage h = tt
+status_since before T files status.SourceFault h = tt
+status_since before T files status.TooLarge h = tt
+status_since before T files status.Done h = tt
+status_since before T files (status.SomeRefused count) h = tt
+status_since before T files status.SinkFault h = tt
+status_since before T files status.Memory h = tt
+status_since before T files status.FolderFault h = tt
+
 -- ---- under other premises, over the same files
 
 pub fault_at : (S T : Type 0) (f g : Files) (fault : PageFault) → (T → S) → (T → g ≡ f) → FaultShows (IsEvident S f) fault → FaultShows (IsEvident T g) fault
 fault_at S T f g page.Failed less same h = tt
 fault_at S T f g page.Memory less same h = tt
-fault_at S T f g (page.Damaged d) less same h = evident_at IsTwice S T f g d less same h
+fault_at S T f g (page.Damaged d) less same h = evident_files S T f g d less same h
+
+pub fault_wider : (P : FileName → Type 0) (S T : Type 0) (files : Files) (fault : PageFault) → (T → S) → FaultShows (IsEvident S files) fault
+    → FaultShows (IsEvidentWith P (IsTwice files) T files) fault
+fault_wider P S T files page.Failed less h = tt
+fault_wider P S T files page.Memory less h = tt
+fault_wider P S T files (page.Damaged d) less h = evident_named (λ file. ⊥) P (IsTwice files) S T files d less (λ t file none. absurd none) h
 
 pub stop_less : {X : Type 0} (S T : Type 0) (files : Files) (result : Result X Stop) → (T → S) → OnStopDamage result (IsEvident S files)
     → OnStopDamage result (IsEvident T files)
@@ -56,6 +82,26 @@ stop_less S T files (Err stop.SinkFault) less h = tt
 stop_less S T files (Err stop.FolderFault) less h = tt
 stop_less S T files (Err stop.Memory) less h = tt
 stop_less S T files (Err (stop.Damaged d)) less h = evident_less S T files d less h
+
+-- where other files may be needed
+pub stop_named : {X : Type 0} (O P : FileName → Type 0) (S T : Type 0) (files : Files) (result : Result X Stop) → (T → S)
+    → (T → (file : FileName) → O file → ∥ MayBeNeeded P files file ∥₁) → OnStopDamage result (IsEvidentWith O (IsTwice files) S files)
+    → OnStopDamage result (IsEvidentWith P (IsTwice files) T files)
+stop_named O P S T files (Ok x) less named h = tt
+stop_named O P S T files (Err stop.SinkFault) less named h = tt
+stop_named O P S T files (Err stop.FolderFault) less named h = tt
+stop_named O P S T files (Err stop.Memory) less named h = tt
+stop_named O P S T files (Err (stop.Damaged d)) less named h = evident_named O P (IsTwice files) S T files d less named h
+
+pub stop_wider : {X : Type 0} (P : FileName → Type 0) (S T : Type 0) (files : Files) (result : Result X Stop) → (T → S)
+    → OnStopDamage result (IsEvident S files) → OnStopDamage result (IsEvidentWith P (IsTwice files) T files)
+stop_wider P S T files result less = stop_named (λ file. ⊥) P S T files result less (λ t file none. absurd none)
+
+-- of the session at the begin, where one between two lines shows it
+pub stop_carried : {X : Type 0} (S T : Type 0) (f g h : Files) (s t : SetData) (result : Result X Stop) → (T → S) → (T → Carries f g s t)
+    → OnStopDamage result (IsEvidentOver g t S h) → OnStopDamage result (IsEvidentOver f s T h)
+stop_carried S T f g h s t result less carries =
+    stop_named (IsFileOf g h t) (IsFileOf f h s) S T h result less (λ told. file_carried f g h s t (carries told))
 
 -- ---- where the index comes from
 

@@ -5,9 +5,9 @@ ghost use Rattle.std.specs.Prelude.{OnErr, IsTrue};
 ghost use Rattle.outer_io.specs.Faults.{Rose};
 ghost use Rattle.page_cache.specs.Causes.{HasPageCause};
 ghost use Rattle.page_cache.specs.Evidence.{OnDamage};
-ghost use Rattle.index_opening.specs.Evidence.{IsEvident};
 ghost use Rattle.index_core.specs.Brought.{KeepsCommit};
 ghost use Rattle.index_core.specs.Lasting.{LosesNone, TakesOut};
+ghost use Rattle.index_core.specs.Carried.{Carries, IsEvidentOver};
 ghost use Rattle.index_core.specs.Sessions.{Trusts};
 ghost use Rattle.index_core.specs.Steps.{is_committing};
 ghost use Rattle.script_lang.specs.Replies.{refused_text};
@@ -84,8 +84,11 @@ pub fn answer_line<const D: usize, R: Threads + Sync, F: Folder, K: Sink, G: Gat
     ensures lasts { IsTrue F.told → Trusts D (F.files folder.old) session.old
         → LosesNone D (TakesOutBy (line_request work.now.language (Some D) line.now)) (F.files folder.old)
         (F.files folder.new) session.old.set session.new.set }
+    ensures carries { IsTrue F.told
+        → Carries (F.files folder.old) (F.files folder.new) session.old.set session.new.set }
     ensures evident { OnStopDamage result
-        (IsEvident (IsTrue F.told × Trusts D (F.files folder.old) session.old) (F.files folder.new)) }
+        (IsEvidentOver (F.files folder.old) session.old.set
+        (IsTrue F.told × Trusts D (F.files folder.old) session.old) (F.files folder.new)) }
 {
     reply.clear();
     match reply_to(work, session, folder, number, line, reply) {
@@ -129,8 +132,11 @@ fn reply_to<const D: usize, R: Threads + Sync, F: Folder, G: Gate>(
     ensures lasts { IsTrue F.told → Trusts D (F.files folder.old) session.old
         → LosesNone D (TakesOutBy (line_request work.now.language (Some D) line.now)) (F.files folder.old)
         (F.files folder.new) session.old.set session.new.set }
+    ensures carries { IsTrue F.told
+        → Carries (F.files folder.old) (F.files folder.new) session.old.set session.new.set }
     ensures evident { OnDamage result
-        (IsEvident (IsTrue F.told × Trusts D (F.files folder.old) session.old) (F.files folder.new)) }
+        (IsEvidentOver (F.files folder.old) session.old.set
+        (IsTrue F.told × Trusts D (F.files folder.old) session.old) (F.files folder.new)) }
 {
     match work.language.read_line::<D>(work.alloc, line) {
         Ok(command) => obey(work, session, folder, number, &command, reply),
@@ -170,8 +176,11 @@ fn obey<const D: usize, R: Threads + Sync, F: Folder, G: Gate>(
     ensures lasts { IsTrue F.told → Trusts D (F.files folder.old) session.old
         → LosesNone D (TakesOut (request_of command.now)) (F.files folder.old)
         (F.files folder.new) session.old.set session.new.set }
+    ensures carries { IsTrue F.told
+        → Carries (F.files folder.old) (F.files folder.new) session.old.set session.new.set }
     ensures evident { OnDamage result
-        (IsEvident (IsTrue F.told × Trusts D (F.files folder.old) session.old) (F.files folder.new)) }
+        (IsEvidentOver (F.files folder.old) session.old.set
+        (IsTrue F.told × Trusts D (F.files folder.old) session.old) (F.files folder.new)) }
 {
     match session.apply(work.rt, work.alloc, folder, command, reply, work.gate) {
         Ok(Applied::Done) => Ok(false),

@@ -1,9 +1,10 @@
 //! The lines of a source on an index that is there, and the end of their session.
 
 ghost use Rattle.std.specs.Prelude.{◌≡◌, ◌≤◌, Some, [], IsTrue, OnOk, ℕ};
-ghost use Rattle.index_opening.specs.Evidence.{IsEvident};
+ghost use Rattle.index_opening.specs.Evidence.{IsEvident, IsEvidentSince};
 ghost use Rattle.index_core.specs.Brought.{KeepsCommit};
 ghost use Rattle.index_core.specs.KeptLive.{KeepsSet};
+ghost use Rattle.index_core.specs.Carried.{IsEvidentOver};
 ghost use Rattle.index_core.specs.Sessions.{Trusts};
 ghost use Rattle.index_model.specs.State.{Index, State};
 ghost use Rattle.line_source.specs.Reader.{KnowsEnd};
@@ -72,7 +73,8 @@ pub(crate) fn run_over<const D: usize, S: Source, R: Threads + Sync, F: Folder, 
     ensures lasting { IsTrue F.told → IsOriginOf (F.files folder.old) origin
         → KeepsCommit (F.files folder.old) (F.files folder.new) }
     ensures evident { OnHaltDamage result
-        (IsEvident (IsTrue F.told × IsOriginOf (F.files folder.old) origin) (F.files folder.new)) }
+        (IsEvidentSince (F.files folder.old) (IsTrue F.told × IsOriginOf (F.files folder.old) origin)
+        (F.files folder.new)) }
 {
     match open::<D, F>(work.alloc, work.settings, origin, folder) {
         Ok(mut session) => run_made(work, &mut session, tally, reader, input, folder, out),
@@ -121,7 +123,8 @@ fn run_made<const D: usize, S: Source, R: Threads + Sync, F: Folder, K: Sink, G:
     ensures lasting { IsTrue F.told → Trusts D (F.files folder.old) session.old
         → KeepsCommit (F.files folder.old) (F.files folder.new) }
     ensures evident { OnHaltDamage result
-        (IsEvident (IsTrue F.told × Trusts D (F.files folder.old) session.old) (F.files folder.new)) }
+        (IsEvidentOver (F.files folder.old) session.old.set
+        (IsTrue F.told × Trusts D (F.files folder.old) session.old) (F.files folder.new)) }
 {
     let mut reply = Vec::new(work.alloc);
     let mut text = Vec::new(work.alloc);

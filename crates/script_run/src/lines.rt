@@ -2,7 +2,7 @@
 
 ghost use Rattle.std.specs.Prelude.{◌≡◌, ◌≤◌, Some, None, [], IsTrue, OnOk};
 ghost use Rattle.outer_io.specs.declared.file_name.FileName.TheVariants.{Commit as CommitName};
-ghost use Rattle.index_opening.specs.Evidence.{IsEvident};
+ghost use Rattle.index_opening.specs.Evidence.{IsEvidentSince};
 ghost use Rattle.index_core.specs.Brought.{KeepsCommit};
 ghost use Rattle.index_model.specs.State.{Index, State};
 ghost use Rattle.stored_index.specs.Stored.{IsStored};
@@ -75,7 +75,7 @@ pub fn run_lines<S: Source, R: Threads + Sync, F: Folder, K: Sink, G: Gate>(
         (F.files folder.old) (F.files folder.new) result) }
     // whatever it ends with, what was kept is, or a commit has taken its place of which each listed file is whole
     ensures lasting { IsTrue F.told → KeepsCommit (F.files folder.old) (F.files folder.new) }
-    ensures evident { OnHaltDamage result (IsEvident (IsTrue F.told) (F.files folder.new)) }
+    ensures evident { OnHaltDamage result (IsEvidentSince (F.files folder.old) (IsTrue F.told) (F.files folder.new)) }
 {
     match LineReader::new(work.alloc) {
         Ok(mut reader) => run_read(work, &mut reader, input, folder, out),
@@ -108,7 +108,7 @@ fn run_read<S: Source, R: Threads + Sync, F: Folder, K: Sink, G: Gate>(
         (IsTakenOutOf work.now.language (F.files folder.old) lines)
         (F.files folder.old) (F.files folder.new) result) }
     ensures lasting { IsTrue F.told → KeepsCommit (F.files folder.old) (F.files folder.new) }
-    ensures evident { OnHaltDamage result (IsEvident (IsTrue F.told) (F.files folder.new)) }
+    ensures evident { OnHaltDamage result (IsEvidentSince (F.files folder.old) (IsTrue F.told) (F.files folder.new)) }
 {
     match read_commit(work.alloc, folder) {
         Ok(None) => run_first(work, reader, input, folder, out),
@@ -152,7 +152,8 @@ fn run_first<S: Source, R: Threads + Sync, F: Folder, K: Sink, G: Gate>(
     ensures lasting { IsTrue F.told → F.files folder.old CommitName ≡ None
         → KeepsCommit (F.files folder.old) (F.files folder.new) }
     ensures evident { OnHaltDamage result
-        (IsEvident (IsTrue F.told × (F.files folder.old CommitName ≡ None)) (F.files folder.new)) }
+        (IsEvidentSince (F.files folder.old) (IsTrue F.told × (F.files folder.old CommitName ≡ None))
+        (F.files folder.new)) }
 {
     let mut reply = Vec::new(work.alloc);
     let mut text = Vec::new(work.alloc);
@@ -230,7 +231,8 @@ fn run_from<S: Source, R: Threads + Sync, F: Folder, K: Sink, G: Gate>(
     ensures lasting { IsTrue F.told → IsOriginOf (F.files folder.old) origin
         → KeepsCommit (F.files folder.old) (F.files folder.new) }
     ensures evident { OnHaltDamage result
-        (IsEvident (IsTrue F.told × IsOriginOf (F.files folder.old) origin) (F.files folder.new)) }
+        (IsEvidentSince (F.files folder.old) (IsTrue F.told × IsOriginOf (F.files folder.old) origin)
+        (F.files folder.new)) }
 {
     match origin.dims() {
         1 => run_over::<1, S, R, F, K, G>(work, origin, tally, reader, input, folder, out),

@@ -5,6 +5,7 @@ ghost use Rattle.page_cache.specs.Causes.{HasPageCause};
 ghost use Rattle.page_cache.specs.Evidence.{NotDamaged, OnDamage};
 ghost use Rattle.index_opening.specs.Evidence.{IsEvident};
 ghost use Rattle.index_core.specs.KeptLive.{FindsKept};
+ghost use Rattle.index_core.specs.Carried.{AreOfListed};
 ghost use Rattle.index_core.specs.Sessions.{Trusts};
 ghost use Rattle.index_model.specs.State.{Index, State};
 ghost use Rattle.script_run.specs.LineAnswers.{IsSessionOf};
@@ -64,6 +65,8 @@ pub fn open<const D: usize, F: Folder>(
         → IfOk result (Trusts D (F.files folder.new)) }
     ensures finds { IsTrue F.told → IsOriginOf (F.files folder.old) origin
         → IfOk result (λ s. FindsKept D (F.files folder.new) s.set) }
+    ensures own { IsTrue F.told → IsOriginOf (F.files folder.old) origin
+        → IfOk result (λ s. AreOfListed (F.files folder.old) s.set) }
     ensures evident { OnDamage result
         (IsEvident (IsTrue F.told × IsOriginOf (F.files folder.old) origin) (F.files folder.new)) }
 {

@@ -13,7 +13,7 @@ use Rattle.segment_file.specs.Heads.{Head, HasRanges}
 use Rattle.segment_view.specs.LiveSegments.{LiveSegment, parts_among}
 use Rattle.segment_view.specs.Held.{HasOwnHead, AreHeld}
 use Rattle.segment_set.specs.Damages.{IsDoubt}
-use Rattle.index_opening.specs.Evidence.{HasNoBody, IsCrowdedIn, IsEvidentIn, IsHeadIn, IsTrueOf, LacksLeaf, OfGiven}
+use Rattle.index_opening.specs.Evidence.{HasNoBody, IsCrowdedIn, IsEvidentIn, IsHeadIn, IsOfPart, IsTrueOf, LacksLeaf, OfGiven}
 use Rattle.segment_set.specs.Faithful.{HasFileHead}
 use Rattle.segment_set.specs.Sets.{AreAlone}
 use Rattle.segment_set.proofs.Crowds.{among_crowded}
@@ -46,7 +46,7 @@ gathered_of_files D files ids parts items heads held = ∥∥₁_map (all_merely
 
 doubt_carried : (D : ℕ) (files : Files) (points_given : ℕ) (ids : List ℕ) (parts : List LiveSegment) (items : List Item) → AreAlone parts
     → AreHeld D files (parts_among ids parts) items → (d : Damage) → IsDoubt points_given items d
-    → IsTrueOf (IsCrowdedIn D files parts) files d
+    → IsTrueOf (IsOfPart parts) (IsCrowdedIn D files parts) files d
 doubt_carried D files points_given ids parts items alone held (Unequal file said found) h =
     let is : said ≡ points_given = h.1 in
     let more : points_given < found = h.2 in

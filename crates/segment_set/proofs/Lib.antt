@@ -53,3 +53,4 @@ pub mod Settled
 pub mod Shows
 pub mod Exits
 pub mod Pushed
+pub mod WholeFiles

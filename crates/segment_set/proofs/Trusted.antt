@@ -12,12 +12,13 @@ use Rattle.segment_view.specs.Calm.{IsCalm}
 use Rattle.segment_set.specs.Sets.{AreAlone, BegunMerge, IsNamed, IsSpread, IsWell, SetData, set_with}
 use Rattle.segment_set.specs.Merged.{Rearranges}
 use Rattle.segment_set.specs.Kept.{AreCanonical, Follows, KeepsNamed}
-use Rattle.index_opening.specs.Evidence.{IsCrowdedIn, IsEvidentIn}
+use Rattle.index_opening.specs.Evidence.{IsCrowdedIn, IsEvidentIn, IsOfPart}
 use Rattle.segment_set.specs.Losing.{KeepsBegun}
 use Rattle.segment_set.specs.Faithful.{HasFileHead, IsFaithful}
 use Rattle.segment_set.proofs.BegunKept.{begun_none}
 use Rattle.segment_set.proofs.Crowds.{crowded_before}
-use Rattle.index_opening.proofs.Evident.{on_less_with, on_evident_twice}
+use Rattle.segment_set.proofs.WholeFiles.{needed_before}
+use Rattle.index_opening.proofs.Evident.{on_evident_by, on_less_with}
 use Rattle.segment_set.proofs.Faithful.{faithful_named, faithful_parts}
 
 -- the files are told, and what the set keeps of them is theirs
@@ -60,7 +61,7 @@ pub on_evident_set : {X : Type 0} (D : ℕ) (told : Bool) (f g : Files) (s t : S
     → OnDamage r (IsEvidentIn D t.parts (IsTrusted told D f t) g)
 on_evident_set D told f g s t r same spread evident =
     subst (λ (u : SetData). OnDamage r (IsEvidentIn D u.parts (IsTrusted told D f u) g)) same
-    (on_less_with (IsCrowdedIn D g s.parts) (IsTrue told × All (HasFileHead D f) s.parts × AreAlone s.parts) (IsTrusted told D f s) g r
+    (on_less_with (IsOfPart s.parts) (IsCrowdedIn D g s.parts) (IsTrue told × All (HasFileHead D f) s.parts × AreAlone s.parts) (IsTrusted told D f s) g r
     (λ trusted. (trusted.0, trusted.1.heads, λ number. omega (arith, spread.alone number))) evident)
 
 -- and of a set before, from which what is kept stays theirs
@@ -70,7 +71,9 @@ pub on_evident_before : {X : Type 0} (D : ℕ) (told : Bool) (f g h : Files) (s 
     → OnDamage r (IsEvidentIn D t.parts (IsTrusted told D g t) h)
     → OnDamage r (IsEvidentIn D s.parts (IsTrusted told D f s) h)
 on_evident_before D told f g h s t u r named moves kept stays =
-    on_evident_twice (IsCrowdedIn D h t.parts) (IsCrowdedIn D h s.parts) (IsTrusted told D g t) (IsTrusted told D f s) h r
+    on_evident_by (IsOfPart t.parts) (IsOfPart s.parts) (IsCrowdedIn D h t.parts) (IsCrowdedIn D h s.parts) (IsTrusted told D g t) (IsTrusted told D f s) h r
     (λ trusted. (trusted.0, stays trusted.0 trusted.1))
+    (λ trusted file of. needed_before D g h s.names s.parts t.parts file moves.follows (moves.canon trusted.0)
+    (λ p there. kept.files trusted.0 (Segment p.head.id) (All-contains (IsNamed t.names) t.parts p named there)) of)
     (λ trusted number crowd. merely (crowded_before D g h s.names s.parts t.parts number moves.follows (moves.canon trusted.0)
     (λ p there. kept.files trusted.0 (Segment p.head.id) (All-contains (IsNamed t.names) t.parts p named there)) crowd))

@@ -24,13 +24,14 @@ use Rattle.file_names.specs.Names.{NameList}
 use Rattle.segment_set.specs.Sets.{NamedView, SetData, viewed_parts}
 use Rattle.index_opening.specs.Opened.{IsOpened}
 use Rattle.segment_set.specs.Swept.{IsUnneeded}
-use Rattle.index_opening.specs.Evidence.{IsEvident, IsTwice}
+use Rattle.index_opening.specs.Evidence.{IsEvidentOf, IsOfPart, IsTwice}
 use Rattle.segment_set.specs.Faithful.{HasFileHead, IsFaithful}
 use Rattle.index_opening.proofs.Ordered.{zip_right}
 use Rattle.segment_set.proofs.BegunKept.{begun_alike, begun_none}
 use Rattle.segment_set.proofs.Attaching.{attached}
 use Rattle.segment_set.proofs.Empty.{empty_set}
-use Rattle.index_opening.proofs.Evident.{on_evident_at, on_part_evident}
+use Rattle.index_opening.proofs.Evident.{on_evident_at}
+use Rattle.index_opening.proofs.LeafEvident.{of_part, on_part_evident}
 use Rattle.segment_set.proofs.Snapped.{set_released, set_snapped}
 use Rattle.segment_set.proofs.Viewed.{viewed_all}
 
@@ -50,11 +51,13 @@ pub looked_evident : {X : Type 0} (D : ℕ) (told : Bool) (f g : Files) (s t : S
     (cache : PageCache) (r : Result X PageFault) → s ≡ t
     → segments ≡ viewed_parts view t → IsCalm told f g s.cache cache ids → OnDamage r (IsPartDamage D segments)
     → (IsTrue told → Agrees f s.cache → OnDamage r (IsLeafDamageOf f))
-    → OnDamage r (IsEvident (IsTrue told × IsFaithful D f t) g)
+    → OnDamage r (IsEvidentOf (viewed_parts view t) (IsTrue told × IsFaithful D f t) g)
 looked_evident D told f g s t view segments ids cache r same is calm shown of_files =
-    on_evident_at IsTwice (IsTrue told × IsFaithful D f t) (IsTrue told × IsFaithful D f t) f g r (λ h. h) (λ h. calm.files h.0)
-    (on_part_evident (IsTwice f) (IsTrue told × IsFaithful D f t) D f segments r (λ h. subst (All (HasFileHead D f)) (sym is) (viewed_heads D f view t h.1))
-    (λ h. of_files h.0 (subst (λ (u : SetData). Agrees f u.cache) (sym same) h.1.pages)) shown)
+    subst (λ (ps : List LiveSegment). OnDamage r (IsEvidentOf ps (IsTrue told × IsFaithful D f t) g)) is
+    (on_evident_at (λ u. IsOfPart segments) IsTwice (IsTrue told × IsFaithful D f t) (IsTrue told × IsFaithful D f t) f g r (λ h. h) (λ h. calm.files h.0)
+    (on_part_evident (IsOfPart segments) (IsTwice f) (IsTrue told × IsFaithful D f t) D f segments r
+    (λ h. subst (All (HasFileHead D f)) (sym is) (viewed_heads D f view t h.1)) (λ h p there. of_part f segments p there)
+    (λ h. of_files h.0 (subst (λ (u : SetData). Agrees f u.cache) (sym same) h.1.pages)) shown))
 
 -- ---- snapshots
 

@@ -19,7 +19,7 @@ use Rattle.segment_file.specs.LiveFiles.{IsLiveFile}
 use Rattle.segment_view.specs.LiveSegments.{LiveSegment, Contents, AreRead, live_in_parts}
 use Rattle.segment_view.specs.Damages.{IsPartDamage}
 use Rattle.index_opening.specs.Damages.{IsAttachDamage, IsAttachDamageOf}
-use Rattle.index_opening.specs.Evidence.{IsEvident, IsEvidentIn}
+use Rattle.index_opening.specs.Evidence.{IsEvident, IsEvidentIn, IsEvidentOf}
 use Rattle.segment_set.specs.declared.faults.AddFault.{AddFault}
 use Rattle.segment_set.specs.declared.faults.AddFault.TheVariants as add
 use Rattle.segment_set.specs.Sets.{BegunMerge, IsWell, SetData}
@@ -63,7 +63,7 @@ pub record ShowsLeafDamage (D : ℕ) (told : Type 0) (files new_files : Files) (
   pub whole : told → (i : Index) → Sees D files s i → On (λ _. ⊥)
   pub shown : On (IsPartDamage D parts)
   pub damage : told → Agrees files s.cache → On (IsLeafDamageOf files)
-  pub evident : On (IsEvident (told × IsFaithful D files s) new_files)
+  pub evident : On (IsEvidentOf parts (told × IsFaithful D files s) new_files)
 
 -- The damage comes of opening what the commit lists: it is answered where no state is stored, and there alone.
 pub record ShowsAttachDamage (told : Type 0) (files : Files) (c : CommitData) (On : (Damage → Type 0) → Type 0)

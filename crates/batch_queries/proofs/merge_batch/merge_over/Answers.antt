@@ -1,13 +1,11 @@
 -- The copy is loaded and the session attached, and both are of the index that is stored.
-use Rattle.std.proofs.Common.{◌≡◌, ℕ, lit<, Err, IsTrue, Some, ap, refl, subst, sym, ◌∙◌}
+use Rattle.std.proofs.Common.{ℕ, lit<, Err, IsTrue, ap, refl, subst, sym, ◌∙◌}
 use Rattle.std.proofs.lemmas.Result.{err_from_is_err_and}
 use Rattle.outer_io.specs.Files.{Files}
-use Rattle.index_model.specs.State.{State}
 use Rattle.stored_index.specs.Stored.{IsStored}
 use Rattle.index_core.proofs.Sizes.{session_fits}
 use Rattle.index_core.proofs.Undone.{kept_equal}
-use Rattle.index_opening.specs.Evidence.{IsTwice}
-use Rattle.index_opening.proofs.Evident.{on_evident_at}
+use Rattle.index_opening.proofs.Evident.{on_evident_files}
 use Rattle.run_status.specs.declared.stop.Stop.{Stop}
 use Rattle.batch_run.specs.Copies.{IsCommitIn}
 use Rattle.batch_queries.proofs.MergeCalls.{merges_after, stopped}
@@ -30,7 +28,7 @@ returns-in_err-resident g c =
     stopped (IsTrue g.F.Pages.told) _ (IsCommitIn old c.args.commit) _ _ _ c.in_err-resident.field-0.0 _ (p.1 ∙ ap (λ (s : Stop). Err s) p.2)
     (λ told says. kept_equal _ _ (e.files told))
     (λ told says state stored. none_undefined {T = ℕ} old (Err c.in_err-resident.field-0.0) state stored (e.undefined told says)) e.cause
-    (on_evident_at {X = ℕ} IsTwice _ _ old _ (Err c.in_err-resident.field-0.0) (λ h. h) (λ h. e.files h.0) e.evident) refl
+    (on_evident_files {X = ℕ} _ _ old _ (Err c.in_err-resident.field-0.0) (λ h. h) (λ h. e.files h.0) e.evident) refl
 
 pub returns-in_err-session : goal.returns-in_err-session
 returns-in_err-session g c =
@@ -43,7 +41,7 @@ returns-in_err-session g c =
     (λ told says state stored. e.damaged.whole told (subst (λ (f : Files). IsCommitIn f c.args.commit) (sym (first.files told)) says) state
     (subst (λ (f : Files). IsStored f state) (sym (first.files told)) stored))
     (cause_after _ _ _ (Err c.in_err-session.field-0.0) first.cause.on_ok e.cause)
-    (on_evident_at {X = ℕ} IsTwice _ _ _ _ (Err c.in_err-session.field-0.0)
+    (on_evident_files {X = ℕ} _ _ _ _ (Err c.in_err-session.field-0.0)
     (λ h. (h.0, subst (λ (f : Files). IsCommitIn f c.args.commit) (sym (first.files h.0)) h.1)) (λ h. e.files h.0) e.damaged.evident) refl
 
 pub returns : goal.returns
@@ -53,5 +51,6 @@ returns g c =
     merges_after (IsTrue g.F.Pages.told) _ _ _ _ _ _ _ c.in_ok-session.session _ (λ told. then.files told ∙ first.files told) refl refl
     (cause_after _ _ _ _ first.cause.on_ok then.cause)
     (λ told says. opened g.row.D _ _ _ c.args.commit _ _ (first.files told) (then.files told) says (first.copy told)
-    (then.attaches.seen told) (then.attaches.guards told) (then.attaches.faithful told) (then.attaches.traced told) then.attaches.unchanged)
+    (then.attaches.seen told) (then.attaches.guards told) (then.attaches.faithful told) (then.attaches.traced told) (then.attaches.own told)
+    then.attaches.unchanged)
     c.merge_with.ensures

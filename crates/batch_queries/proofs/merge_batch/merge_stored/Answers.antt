@@ -1,11 +1,10 @@
 -- What the folder's commit says decides how lines are told.
-use Rattle.std.proofs.Common.{◌≡◌, ℕ, Err, IsTrue, None, ap, refl, subst, sym, ◌∙◌}
+use Rattle.std.proofs.Common.{ℕ, Err, IsTrue, ap, refl, subst, sym, ◌∙◌}
 use Rattle.std.proofs.lemmas.Result.{err_from_is_err_and}
 use Rattle.outer_io.specs.declared.file_name.FileName.TheVariants.{Commit}
 use Rattle.outer_io.specs.Files.{Files}
 use Rattle.index_core.proofs.Undone.{kept_equal}
-use Rattle.index_opening.specs.Evidence.{IsTwice}
-use Rattle.index_opening.proofs.Evident.{on_commit_evident, on_evident_at}
+use Rattle.index_opening.proofs.Evident.{on_commit_evident, on_evident_files}
 use Rattle.run_status.specs.declared.stop.Stop.{Stop}
 use Rattle.batch_run.specs.Copies.{IsCommitIn}
 use Rattle.batch_queries.proofs.MergeCalls.{merges_after, stopped}
@@ -20,7 +19,7 @@ returns-in_err-read_commit g c =
     let e = c.in_err-read_commit.ensures in
     stopped (IsTrue g.F.Pages.told) _ _ _ _ _ c.in_err-read_commit.field-0.0 _ (p.1 ∙ ap (λ (s : Stop). Err s) p.2)
     (λ told h. kept_equal old new (e.files told)) (λ told h state stored. not_damaged old state stored (e.absent told) (e.whole told)) e.cause
-    (on_evident_at {X = ℕ} IsTwice (IsTrue g.F.Pages.told) (IsTrue g.F.Pages.told × Unit {0}) old new (Err c.in_err-read_commit.field-0.0) (λ h. h.0)
+    (on_evident_files {X = ℕ} (IsTrue g.F.Pages.told) (IsTrue g.F.Pages.told × Unit {0}) old new (Err c.in_err-read_commit.field-0.0) (λ h. h.0)
     (λ h. e.files h.0)
     (on_commit_evident {X = ℕ} (IsTrue g.F.Pages.told) old (Err c.in_err-read_commit.field-0.0) e.damage e.shown)) refl
 

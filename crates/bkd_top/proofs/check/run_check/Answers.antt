@@ -1,10 +1,10 @@
 -- What there is to tell was sent, or cut, or a fault came before.
-use Rattle.std.proofs.Common.{IsTrue, refl, sym, ap, subst, ◌∙◌}
-use Rattle.index_opening.specs.Evidence.{IsEvident, IsFound, IsTwice}
-use Rattle.index_opening.proofs.Evident.{on_evident_at}
+use Rattle.std.proofs.Common.{Err, IsTrue, refl, sym, ap, subst, ◌∙◌}
+use Rattle.index_opening.specs.Evidence.{IsEvident, IsEvidentSince, IsFound}
+use Rattle.index_opening.proofs.Evident.{on_evident_files}
 use Rattle.run_status.specs.Ends.{DoesNothing, IsDamaged}
-use Rattle.run_status.specs.Stops.{status_of}
-use Rattle.script_run.proofs.Shown.{fault_status}
+use Rattle.run_status.specs.Stops.{status_of, stop_of}
+use Rattle.script_run.proofs.Shown.{fault_status, status_since}
 use Rattle.bkd_top.proofs.Finished.{fault_no_sink, fault_rose, sent_no_folder, sent_undamaged}
 use Rattle.bkd_top.proofs.Verdict.{fault_check, fault_whole, sent_check, told_text}
 use Rattle.bkd_top.proofs.check.run_check.Goals as goal
@@ -42,7 +42,7 @@ returns-clause-checks g c = λ told. record {
 pub returns-in-Ok-clause-damage : goal.returns-in-Ok-clause-damage
 returns-in-Ok-clause-damage g c = record {
   never = λ told state h d. sent_undamaged c.send.result c.send.ensures.cause (subst IsDamaged c.status_of.ensures d);
-  evident = let P = IsEvident (IsTrue g.F.Pages.told) (g.F.Pages.files c.check.new.folder) in
+  evident = let P = IsEvidentSince (g.F.Pages.files c.args.folder.now) (IsTrue g.F.Pages.told) (g.F.Pages.files c.check.new.folder) in
       rw c.status_of.ensures (status_shows P c.send.result (sink_shows P c.send.result c.send.ensures.cause));
 }
 
@@ -51,10 +51,11 @@ returns-clause-damage g c = record {
   never = λ told state h d. fault_whole (g.F.Pages.files c.args.folder.now) state c.in-Err.fault h (rw c.in-Err.is at (c.check.ensures.undefined told))
       (subst IsDamaged (c.status_of-in-Err.ensures ∙ ap status_of c.stopped.ensures) d);
   evident =
-      rw c.status_of-in-Err.ensures (rw c.stopped.ensures (fault_status (IsEvident (IsTrue g.F.Pages.told) (g.F.Pages.files c.check.new.folder)) c.in-Err.fault
-      (rw c.in-Err.is at (on_evident_at IsTwice (IsTrue g.F.Pages.told) (IsTrue g.F.Pages.told) (g.F.Pages.files c.args.folder.now)
+      rw c.status_of-in-Err.ensures (rw c.stopped.ensures (status_since _ _ _ (status_of (Err (stop_of c.in-Err.fault)))
+      (fault_status (IsEvident (IsTrue g.F.Pages.told) (g.F.Pages.files c.check.new.folder)) c.in-Err.fault
+      (rw c.in-Err.is at (on_evident_files (IsTrue g.F.Pages.told) (IsTrue g.F.Pages.told) (g.F.Pages.files c.args.folder.now)
       (g.F.Pages.files c.check.new.folder)
-      c.check.result (λ told. told) c.check.ensures.files c.check.ensures.evident))));
+      c.check.result (λ told. told) c.check.ensures.files c.check.ensures.evident)))));
 }
 
 pub returns-in-Ok-clause-folder_fault : goal.returns-in-Ok-clause-folder_fault

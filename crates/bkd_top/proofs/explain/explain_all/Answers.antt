@@ -1,11 +1,11 @@
 -- Each line is told after those before it.
 use Rattle.std.proofs.Common.{◌≡◌, Bool, ℕ, IsTrue, length, arith, refl, ◌∙◌, Err}
 use Rattle.std.proofs.lemmas.Bool.Decides.{nat_tests}
-use Rattle.segment_set.specs.Faithful.{IsFaithful}
 use Rattle.segment_set.proofs.Sizes.{set_fits}
 use Rattle.run_status.proofs.Telling.{left_end, left_here, left_on, line_stops, stage_all, stage_here, stage_sent}
 use Rattle.explain_queries.specs.Explained.{TellsLine}
 use Rattle.script_run.proofs.Shown.{stop_less}
+use Rattle.explain_queries.specs.Explains.{KnowsFiles}
 use Rattle.bkd_top.proofs.explain.explain_all.Goals as goal
 use Rattle.run_status.proofs.Ending.{cause_from, same_stop, cause_to, refused_more, at_most_one}
 use Rattle.count_queries.proofs.Asking.{no_lines}
@@ -18,7 +18,7 @@ lines-init g c = record {
   going = λ told s e. (stage_here _ (TellsLine s) _, e);
   left = λ told s e t tells. left_here (TellsLine s) _ _ _ t tells;
   files = λ told. refl;
-  faithful = λ told h. h;
+  knows = λ told h. h;
   room = omega (arith, c.requires.lines);
   counted = omega arith;
   folder_later = omega arith;
@@ -37,7 +37,7 @@ lines-preserved g c = record {
       let so_far = c.lines.invariant.going told s e in
       left_on (TellsLine s) _ _ _ _ _ _ _ _ c.first_line.ensures.line (c.lines.invariant.left told s e t tells) (c.in-Ok.ensures.reads told s so_far.1);
   files = λ told. c.in-Ok.ensures.files told ∙ c.lines.invariant.files told;
-  faithful = λ told h. c.in-Ok.ensures.faithful told (c.lines.invariant.faithful told h);
+  knows = λ told h. c.in-Ok.ensures.knows told (c.lines.invariant.knows told h);
   room = omega (arith, c.lines.invariant.room, c.first_line.ensures.shorter);
   counted = omega (arith, c.lines.invariant.counted, at_most_one _ _ c.from-refused.ensures);
   folder_later = omega (arith, c.lines.invariant.folder_later, c.tell_line.ensures.cause.folder_later);
@@ -83,7 +83,7 @@ returns-clause-cause g c = record {
 
 pub returns-in-Err-clause-evident : goal.returns-in-Err-clause-evident
 returns-in-Err-clause-evident g c =
-    stop_less {X = ℕ} (IsTrue g.F.Pages.told × IsFaithful g.row.D (g.F.Pages.files c.lines.folder) c.lines.set)
-    (IsTrue g.F.Pages.told × IsFaithful g.row.D (g.F.Pages.files c.args.folder.now) c.args.set.now)
-    (g.F.Pages.files c.tell_line.new.folder) (Err c.in-Err.stop) (λ p. (p.0, c.lines.invariant.faithful p.0 p.1))
+    stop_less {X = ℕ} (IsTrue g.F.Pages.told × KnowsFiles g.row.D (g.F.Pages.files c.lines.folder) c.lines.set)
+    (IsTrue g.F.Pages.told × KnowsFiles g.row.D (g.F.Pages.files c.args.folder.now) c.args.set.now)
+    (g.F.Pages.files c.tell_line.new.folder) (Err c.in-Err.stop) (λ p. (p.0, c.lines.invariant.knows p.0 p.1))
     (same_stop Bool ℕ _ c.in-Err.stop c.in-Err.ensures.evident)

@@ -1,13 +1,12 @@
 use Rattle.std.proofs.Common.{◌≡◌, ◌≤◌, ◌<◌, ◌+◌, ◌^◌, length, IsTrue}
 use Rattle.script_lang.specs.Lines.{lines_of}
-use Rattle.segment_set.specs.Faithful.{IsFaithful}
 use Rattle.explain_queries.specs.Explained.{Scope, TellsLine}
-use Rattle.explain_queries.specs.Explains.{IsExplaining}
+use Rattle.explain_queries.specs.Explains.{IsExplaining, KnowsFiles}
 use Rattle.run_status.specs.Told.{Tellings, TellsLines, Told}
 use Rattle.run_status.proofs.Telling.{Left}
 use Rattle.bkd_top.proofs.explain.explain_all.Given as goal
 
--- the lines so far were told, no more was read than leaves that they touch, and what the set keeps of the files is theirs
+-- the lines so far were told, no more was read than leaves that they touch, and the set knows the files
 abbrev pub invariant-lines : goal.invariant-lines
 invariant-lines g l = record {
   going : IsTrue g.F.Pages.told → (s : Scope) → IsExplaining g.row.D (g.F.Pages.files l.initial.folder) l.initial.set s
@@ -19,7 +18,7 @@ invariant-lines g l = record {
       → TellsLines (TellsLine s) l.initial.number (lines_of l.initial.rest) t
       → Left (TellsLine s) l.number (lines_of l.rest) (g.F.Pages.reads l.initial.folder) (g.F.Pages.reads l.folder) t.touched;
   files : IsTrue g.F.Pages.told → g.F.Pages.files l.folder ≡ g.F.Pages.files l.initial.folder;
-  faithful : IsTrue g.F.Pages.told → IsFaithful g.row.D (g.F.Pages.files l.initial.folder) l.initial.set → IsFaithful g.row.D (g.F.Pages.files l.folder) l.set;
+  knows : IsTrue g.F.Pages.told → KnowsFiles g.row.D (g.F.Pages.files l.initial.folder) l.initial.set → KnowsFiles g.row.D (g.F.Pages.files l.folder) l.set;
   room : l.number + length l.rest < 2 ^ 64;
   counted : l.refused ≤ l.number;
   folder_later : g.F.Pages.faults l.initial.folder ≤ g.F.Pages.faults l.folder;

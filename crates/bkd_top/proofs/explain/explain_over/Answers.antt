@@ -1,13 +1,13 @@
 -- The lines are told over the index that was opened, or none is.
-use Rattle.std.proofs.Common.{IsTrue, arith, refl, sym, subst, ◌∙◌}
+use Rattle.std.proofs.Common.{IsTrue, arith, inl, refl, sym, subst, ◌∙◌}
 use Rattle.outer_io.specs.Files.{Files}
 use Rattle.segment_set.proofs.Sizes.{set_fits}
-use Rattle.explain_queries.specs.Explains.{IsExplaining}
+use Rattle.explain_queries.specs.Explains.{IsExplaining, KnowsFiles}
 use Rattle.script_run.proofs.Scoped.{attached_explains, scope_holds}
 use Rattle.run_status.proofs.Telling.{unread_ends}
 use Rattle.explain_queries.specs.Explained.{TellsLine}
 use Rattle.script_run.proofs.Shown.{fault_at, stop_less}
-use Rattle.segment_set.specs.Faithful.{IsFaithful}
+use Rattle.index_core.proofs.Carrying.{attached_listed}
 use Rattle.bkd_top.proofs.explain.explain_over.Goals as goal
 use Rattle.run_status.proofs.Ending.{cause_from, fault_shows, fault_cause}
 
@@ -60,7 +60,13 @@ returns-clause-cause g c = fault_cause _ _ _ c.in-Err.fault c.in-Err.ensures.cau
 pub returns-in-Ok-clause-evident : goal.returns-in-Ok-clause-evident
 returns-in-Ok-clause-evident g c =
     stop_less _ _ _ c.explain_all.result
-    (λ p. (p.0, subst (λ (f : Files). IsFaithful g.row.D f c.in-Ok.set) (sym (c.in-Ok.ensures.files p.0)) (c.in-Ok.ensures.faithful p.0)))
+    (λ p. (
+      p.0,
+      subst (λ (f : Files). KnowsFiles g.row.D f c.in-Ok.set) (sym (c.in-Ok.ensures.files p.0)) (record {
+        faithful = c.in-Ok.ensures.faithful p.0;
+        listed = λ q there. attached_listed (g.F.Pages.files c.args.folder.now) c.in-Ok.set c.args.commit p.1 c.in-Ok.ensures.commit q (inl there);
+      }),
+    ))
     c.explain_all.ensures.evident
 
 pub returns-clause-evident : goal.returns-clause-evident

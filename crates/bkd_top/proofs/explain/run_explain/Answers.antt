@@ -4,6 +4,8 @@ use Rattle.run_status.specs.Ends.{DoesNothing, IsDamaged}
 use Rattle.script_run.proofs.Scoped.{scope_of}
 use Rattle.run_status.proofs.Telling.{none_told, told_ends, told_undamaged}
 use Rattle.explain_queries.specs.Explained.{TellsLine}
+use Rattle.run_status.specs.Stops.{status_of}
+use Rattle.script_run.proofs.Shown.{status_since}
 use Rattle.bkd_top.proofs.explain.run_explain.Goals as goal
 use Rattle.run_status.proofs.Ending.{does_lines, folder_stopped, sink_stopped, status_shows}
 
@@ -47,7 +49,8 @@ returns-in-Ok-clause-damage g c = record {
       let scope = scope_of _ state h in
       told_undamaged _ (TellsLine scope.0) _ _ _ _ _ c.explain_lines.result (c.explain_lines.ensures.ends told scope.0 scope.1)
       (subst IsDamaged c.status_of.ensures d);
-  evident = rw c.status_of.ensures (status_shows _ c.explain_lines.result c.explain_lines.ensures.evident);
+  evident = rw c.status_of.ensures
+      (status_since _ _ _ (status_of c.explain_lines.result) (status_shows _ c.explain_lines.result c.explain_lines.ensures.evident));
 }
 
 pub returns-in-Ok-clause-causes : goal.returns-in-Ok-clause-causes

@@ -47,14 +47,14 @@ returns-in-Err-clause-reads g c = c.in-Err.ensures.reads
 pub returns-in-Err-clause-cause : goal.returns-in-Err-clause-cause
 returns-in-Err-clause-cause g c = fault_cause _ _ _ c.in-Err.fault c.in-Err.ensures.cause c.stopped.result c.stopped.ensures
 
-pub returns-in-Ok-clause-faithful : goal.returns-in-Ok-clause-faithful
-returns-in-Ok-clause-faithful g c = c.in-Ok.ensures.faithful
+pub returns-in-Ok-clause-knows : goal.returns-in-Ok-clause-knows
+returns-in-Ok-clause-knows g c = c.in-Ok.ensures.knows
 
 pub returns-in-Ok-clause-evident : goal.returns-in-Ok-clause-evident
 returns-in-Ok-clause-evident g c = sink_shows _ c.send.result c.send.ensures.cause
 
-pub returns-in-Err-clause-faithful : goal.returns-in-Err-clause-faithful
-returns-in-Err-clause-faithful g c = c.in-Err.ensures.faithful
+pub returns-in-Err-clause-knows : goal.returns-in-Err-clause-knows
+returns-in-Err-clause-knows g c = c.in-Err.ensures.knows
 
 pub returns-in-Err-clause-evident : goal.returns-in-Err-clause-evident
 returns-in-Err-clause-evident g c = fault_shows _ c.in-Err.fault c.in-Err.ensures.evident c.stopped.result c.stopped.ensures

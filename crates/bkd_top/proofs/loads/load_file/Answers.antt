@@ -2,6 +2,7 @@
 use Rattle.std.proofs.Common.{refl}
 use Rattle.load_points.specs.Loaded.{load_answer}
 use Rattle.bkd_top.proofs.Finished.{does_from, of_done, whole_undamaged}
+use Rattle.script_run.proofs.Shown.{status_since}
 use Rattle.bkd_top.proofs.loads.load_file.Goals as goal
 
 pub returns-clause-ends : goal.returns-clause-ends
@@ -18,7 +19,7 @@ returns-clause-damage g c = record {
   never = λ told state h. c.tell.ensures.damaged
       (whole_undamaged (g.F.Pages.files c.load-done.new.folder) state (load_answer state c.args.file.now c.args.columns.now) c.new-text.result.items
       c.load-done.new.text.items c.load-done.result (c.load-done.ensures.loads told state h));
-  evident = c.tell.ensures.evident g.F.Pages.told (g.F.Pages.files c.load-done.new.folder) c.load-done.ensures.evident;
+  evident = status_since _ _ _ _ (c.tell.ensures.evident g.F.Pages.told (g.F.Pages.files c.load-done.new.folder) c.load-done.ensures.evident);
 }
 
 pub returns-clause-folder_fault : goal.returns-clause-folder_fault

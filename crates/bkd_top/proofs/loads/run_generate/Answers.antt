@@ -2,6 +2,7 @@
 use Rattle.std.proofs.Common.{refl}
 use Rattle.drawn_points.specs.Generated.{generate_answer}
 use Rattle.bkd_top.proofs.Finished.{does_from, of_done, whole_undamaged}
+use Rattle.script_run.proofs.Shown.{status_since}
 use Rattle.bkd_top.proofs.loads.run_generate.Goals as goal
 
 pub returns-clause-ends : goal.returns-clause-ends
@@ -18,7 +19,8 @@ returns-clause-damage g c = record {
   never = λ told state h. c.tell.ensures.damaged
       (whole_undamaged (g.F.Pages.files c.generate-done.new.folder) state (generate_answer state c.args.docs c.args.seed) c.new-text.result.items
       c.generate-done.new.text.items c.generate-done.result (c.generate-done.ensures.generates told state h));
-  evident = c.tell.ensures.evident g.F.Pages.told (g.F.Pages.files c.generate-done.new.folder) c.generate-done.ensures.evident;
+  evident =
+      status_since _ _ _ _ (c.tell.ensures.evident g.F.Pages.told (g.F.Pages.files c.generate-done.new.folder) c.generate-done.ensures.evident);
 }
 
 pub returns-clause-folder_fault : goal.returns-clause-folder_fault

@@ -7,6 +7,7 @@ use Rattle.bkd_top.proofs.Commanding.{batch_ends, called, check_ends, count_ends
 use Rattle.bkd_top.proofs.Commanding.{merging_ends, session_asked, taken_by}
 use Rattle.index_core.proofs.Brought.{commit_equal}
 use Rattle.script_run.proofs.Starting.{canonical_still}
+use Rattle.script_run.proofs.Shown.{status_since}
 use Rattle.bkd_top.proofs.program.run_command.Goals as goal
 
 pub returns-in-Generate-clause-ends : goal.returns-in-Generate-clause-ends
@@ -199,7 +200,7 @@ returns-in-Count g c =
           (called g.S.Source.told g.K.Sink.told input old new before after (g.F.Pages.reads c.args.folder.now) (g.F.Pages.reads c.run_count.new.folder))
           c.run_count.result is (record { files = e.files told; reads = λ source. e.reads source told });
       lasting = λ told. commit_equal old new (e.files told);
-      damage = record { never = e.whole; evident = e.evident };
+      damage = record { never = e.whole; evident = status_since _ _ _ _ e.evident };
       causes = e.causes;
     }
 
@@ -252,7 +253,7 @@ returns-in-Batch g c =
           c.run_batch.result is
           (record { files = e.files told; reads = e.reads told; stored = e.stored told; unwritten = λ none. ap g.K.Sink.written (e.unwritten none) });
       lasting = λ told. commit_equal old new (e.files told);
-      damage = record { never = e.whole; evident = e.evident };
+      damage = record { never = e.whole; evident = status_since _ _ _ _ e.evident };
       causes = e.causes;
     }
 
@@ -279,6 +280,6 @@ returns-in-MergingBatch g c =
           (called g.S.Source.told g.K.Sink.told input old new before after (g.F.Pages.reads c.args.folder.now) (g.F.Pages.reads c.run_merging_batch.new.folder))
           c.run_merging_batch.result is (record { leaves = e.leaves told; stored = e.stored told });
       lasting = λ told. (e.leaves told).lasting;
-      damage = record { never = e.whole; evident = e.evident };
+      damage = record { never = e.whole; evident = status_since _ _ _ _ e.evident };
       causes = e.causes;
     }

@@ -1,6 +1,7 @@
 -- The lines are told over the segments that were opened, or none is.
 use Rattle.std.proofs.Common.{IsTrue, arith, refl, ◌∙◌}
 use Rattle.segment_view.specs.LiveSegments.{heads_of, lives_of}
+use Rattle.index_opening.proofs.Named.{all_listed}
 use Rattle.run_status.proofs.Ending.{cause_from, fault_cause, fault_shows}
 use Rattle.run_status.proofs.Telling.{none_told, unread_ends}
 use Rattle.count_queries.specs.Counted.{TellsCount}
@@ -43,6 +44,7 @@ returns-in-Ok-new-clause-evident g c =
             c.in-Ok-new.ensures.agrees (g.F.Pages.files c.args.folder.now),
             own_heads (IsTrue g.F.Pages.told) g.row.D (g.F.Pages.files c.args.folder.now) c.args.commit.now c.in-Ok.segments p.0 c.requires.dims
                 c.in-Ok.ensures.opened,
+            all_listed (IsTrue g.F.Pages.told) (g.F.Pages.files c.args.folder.now) c.args.commit.now c.in-Ok.segments p.1 c.in-Ok.ensures.opened,
           ),
     ))
     (λ p. refl) c.count_all.ensures.evident

@@ -1,22 +1,24 @@
 -- What was found is what the files hold.
-use Rattle.std.proofs.Common.{◌∙◌, Err, ap, length, sym, subst, arith}
+use Rattle.std.proofs.Common.{◌∙◌, Err, ap, inl, inr, length, sym, subst, arith}
 use Rattle.std.specs.Prelude.{IsTrue, OnOk, All}
+use Rattle.std.proofs.lemmas.List.Elements.{All-contains}
 use Rattle.std.proofs.lemmas.Result.{err_from_is_err_and}
-use Rattle.outer_io.specs.declared.file_name.FileName.TheVariants.{Commit}
+use Rattle.outer_io.specs.declared.file_name.FileName.TheVariants.{Commit, Segment}
 use Rattle.outer_io.specs.Files.{Files, bytes_of}
 use Rattle.page_cache.specs.Evidence.{FaultShows, OnDamage}
 use Rattle.commit_list.specs.CommitFiles.{IsCommitFile}
 use Rattle.segment_file.specs.Damages.{IsLeafDamageOf}
-use Rattle.index_opening.specs.Evidence.{IsTwice}
+use Rattle.segment_view.specs.LiveSegments.{LiveSegment}
+use Rattle.index_opening.specs.Evidence.{IsOfListed, IsTwice}
 use Rattle.index_opening.specs.Opened.{IsOpened}
-use Rattle.index_opening.proofs.Evident.{on_part_evident}
+use Rattle.index_opening.proofs.LeafEvident.{on_part_evident}
 use Rattle.index_opening.proofs.Listed.{undefined_fault}
-use Rattle.index_opening.proofs.Named.{part_found}
+use Rattle.index_opening.proofs.Named.{all_listed, part_found}
 use Rattle.folder_check.specs.Found.{AreFine, HasSegment, IsWrong}
 use Rattle.folder_check.proofs.Pairs.{zip_long}
 use Rattle.folder_check.proofs.Shown.{on_wrong_evident, on_wrong_found}
 use Rattle.folder_check.proofs.Pages.{pages_opened, pages_whole, read_of}
-use Rattle.folder_check.proofs.Whole.{all_listed, all_segments, file_heads, handed, known_of, on_fine_holds, on_wrong_undefined, own_heads}
+use Rattle.folder_check.proofs.Whole.{all_segments, file_heads, handed, known_of, on_fine_holds, on_wrong_undefined, own_heads}
 use Rattle.page_cache.proofs.Damages.{fault_weaker}
 use Rattle.index_opening.specs.First.{IsFirstOpened}
 use Rattle.folder_check.specs.First.{InOpening, IsFirstOfCommit}
@@ -61,9 +63,11 @@ returns-in_err-findings-clause-evident g c =
     let fault = c.in_err-findings.field-0.0 in
     let e = err_from_is_err_and c.from_residual-in_err-findings.result c.from_residual-in_err-findings.ensures.1 in
     rw (e.1, e.2)
-    (on_part_evident {X = Unit {0}} (IsTwice files) (IsTrue g.F.Pages.told × IsCommitFile (bytes_of (files Commit)) c.args.c.now) g.row.D files parts
-    (Err fault)
+    (on_part_evident {X = Unit {0}} (λ file. ⊥) (IsTwice files) (IsTrue g.F.Pages.told × IsCommitFile (bytes_of (files Commit)) c.args.c.now) g.row.D files
+    parts (Err fault)
     (λ t. file_heads (IsTrue g.F.Pages.told) g.row.D files c.args.c.now parts t.0 c.requires c.in_ok-segments.ensures.opened)
+    (λ t p there. inl (inr (All-contains (λ (q : LiveSegment). IsOfListed files (Segment q.head.id)) parts p
+    (all_listed (IsTrue g.F.Pages.told) files c.args.c.now parts t.1 c.in_ok-segments.ensures.opened) there)))
     (λ t. subst (λ (f : Files). FaultShows (IsLeafDamageOf f) fault) (c.in_ok-segments.ensures.files t.0) (c.in_err-findings.ensures.damage t.0))
     c.in_err-findings.ensures.shown)
 

@@ -42,6 +42,12 @@ returns-in-Err-clause-passes g c = λ told i stored h bytes same.
 pub returns-in-Ok-clause-trusts : goal.returns-in-Ok-clause-trusts
 returns-in-Ok-clause-trusts g c = c.in-Ok.ensures.trusts
 
+pub returns-in-Ok-clause-carries : goal.returns-in-Ok-clause-carries
+returns-in-Ok-clause-carries g c = c.in-Ok.ensures.carries
+
+pub returns-in-Err-clause-carries : goal.returns-in-Err-clause-carries
+returns-in-Err-clause-carries g c = c.in-Err.ensures.carries
+
 pub returns-in-Ok-clause-evident : goal.returns-in-Ok-clause-evident
 returns-in-Ok-clause-evident g c = sink_shows _ c.send.result c.send.ensures.cause
 

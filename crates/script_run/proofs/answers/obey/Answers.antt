@@ -107,6 +107,15 @@ returns-in-Ok-Refused-clause-trusts g c = λ told h. record {
   traced = c.in-Ok-Refused.ensures.applies.stays.traced told h;
 }
 
+pub returns-in-Ok-Done-clause-carries : goal.returns-in-Ok-Done-clause-carries
+returns-in-Ok-Done-clause-carries g c = c.in-Ok-Done.ensures.applies.stays.carries
+
+pub returns-in-Ok-Refused-clause-carries : goal.returns-in-Ok-Refused-clause-carries
+returns-in-Ok-Refused-clause-carries g c = c.in-Ok-Refused.ensures.applies.stays.carries
+
+pub returns-in-Err-clause-carries : goal.returns-in-Err-clause-carries
+returns-in-Err-clause-carries g c = c.in-Err.ensures.applies.stays.carries
+
 pub returns-in-Ok-Refused-clause-evident : goal.returns-in-Ok-Refused-clause-evident
 returns-in-Ok-Refused-clause-evident g c = memory_shows _ c.refuse.result c.refuse.ensures.memory
 

@@ -14,6 +14,7 @@ use Rattle.script_run.proofs.Lined.{page_still}
 use Rattle.script_run.proofs.Passing.{passes_none, passes_unread}
 use Rattle.script_run.proofs.Shown.{memory_shows}
 use Rattle.script_run.proofs.Taken.{read_loses}
+use Rattle.index_core.proofs.Carrying.{carries_itself}
 use Rattle.script_run.proofs.answers.reply_to.Goals as goal
 use Rattle.index_model.proofs.Sizes.{command_fits}
 use Rattle.run_status.proofs.Ending.{page_memory}
@@ -54,6 +55,15 @@ returns-in-Err-clause-passes g c = λ told i stored h bytes same.
 
 pub returns-in-Ok-clause-trusts : goal.returns-in-Ok-clause-trusts
 returns-in-Ok-clause-trusts g c = c.obey.ensures.trusts
+
+pub returns-in-Ok-clause-carries : goal.returns-in-Ok-clause-carries
+returns-in-Ok-clause-carries g c = c.obey.ensures.carries
+
+pub returns-in-Err-Memory-clause-carries : goal.returns-in-Err-Memory-clause-carries
+returns-in-Err-Memory-clause-carries g c told = carries_itself _ _
+
+pub returns-in-Err-clause-carries : goal.returns-in-Err-clause-carries
+returns-in-Err-clause-carries g c told = carries_itself _ _
 
 pub returns-in-Ok-clause-evident : goal.returns-in-Ok-clause-evident
 returns-in-Ok-clause-evident g c = c.obey.ensures.evident

@@ -11,7 +11,9 @@ use Rattle.script_run.proofs.Calling.{stop_after, stop_kept}
 use Rattle.script_run.proofs.Halting.{halted_no_source, memory_cause, no_source, halted_cause, halted_ends, halted_keeps, halted_shows}
 use Rattle.script_run.proofs.Reading.{closes_halted, gives_line, gives_none, going_ends, going_first, going_halts, going_on, going_stops}
 use Rattle.script_run.proofs.Reading.{going_wants, none_read, of_all, of_left, of_line, one_read, quiet_first, quiet_on, reads_alike}
-use Rattle.script_run.proofs.Shown.{stop_less}
+use Rattle.index_core.specs.Carried.{IsFileOf}
+use Rattle.index_core.proofs.Carrying.{carries_itself, carries_then}
+use Rattle.script_run.proofs.Shown.{stop_carried, stop_wider}
 use Rattle.script_run.proofs.Taken.{end_kept, line_kept, lines_kept, one_loses}
 use Rattle.script_run.proofs.indexed.run_made.Goals as goal
 use Rattle.script_run.specs.Languages.{meaning}
@@ -38,6 +40,7 @@ lines-init g c = record {
     λ told h. loses_itself g.row.D (IsTakenOut c.args.work.now.language g.row.D []) (g.F.Pages.files c.args.folder.now) c.args.session.now.set,
   );
   trusts = λ told h. h;
+  carries = λ told. carries_itself _ _;
   counted = c.requires.refused;
   folder_later = omega arith;
   sink_later = omega arith;
@@ -72,6 +75,8 @@ lines-preserved g c =
             (c.in-Ok.ensures.lasts told (c.lines.invariant.trusts told h)),
       );
       trusts = λ told h. c.in-Ok.ensures.trusts told (c.lines.invariant.trusts told h);
+      carries = λ told. carries_then _ (g.F.Pages.files c.lines.folder) _ _ c.lines.session.set _ (c.lines.invariant.carries told)
+          (c.in-Ok.ensures.carries told);
       counted = omega (arith, c.lines.invariant.counted, at_most_one _ _ c.from-refused.ensures);
       folder_later = omega (arith, c.lines.invariant.folder_later, c.answer_line.ensures.cause.folder_later);
       sink_later = omega (arith, c.lines.invariant.sink_later, c.answer_line.ensures.cause.sink_later);
@@ -121,9 +126,10 @@ returns-in-Err-clause-keeps g c =
 
 pub returns-in-Err-clause-evident : goal.returns-in-Err-clause-evident
 returns-in-Err-clause-evident g c =
-    stop_less {X = ℕ} (IsTrue g.F.Pages.told × Trusts g.row.D (g.F.Pages.files c.lines.folder) c.lines.session)
+    stop_carried {X = ℕ} (IsTrue g.F.Pages.told × Trusts g.row.D (g.F.Pages.files c.lines.folder) c.lines.session)
     (IsTrue g.F.Pages.told × Trusts g.row.D (g.F.Pages.files c.args.folder.now) c.args.session.now)
-    (g.F.Pages.files c.answer_line.new.folder) (Err c.in-Err.stop) (λ p. (p.0, c.lines.invariant.trusts p.0 p.1))
+    (g.F.Pages.files c.args.folder.now) (g.F.Pages.files c.lines.folder) (g.F.Pages.files c.answer_line.new.folder) c.args.session.now.set
+    c.lines.session.set (Err c.in-Err.stop) (λ p. (p.0, c.lines.invariant.trusts p.0 p.1)) (λ p. c.lines.invariant.carries p.0)
     (same_stop Bool ℕ _ c.in-Err.stop c.in-Err.ensures.evident)
 
 pub returns-in-Ok-false-clause-does : goal.returns-in-Ok-false-clause-does
@@ -175,7 +181,8 @@ returns-in-Ok-false-clause-keeps g c =
 pub returns-in-Ok-false-clause-evident : goal.returns-in-Ok-false-clause-evident
 returns-in-Ok-false-clause-evident g c =
     halted_shows _ c.finish.result c.halt_result.result c.halt_result.ensures
-    (stop_less (IsTrue g.F.Pages.told × Trusts g.row.D (g.F.Pages.files c.lines.folder) c.lines.session)
+    (stop_wider (IsFileOf (g.F.Pages.files c.args.folder.now) (g.F.Pages.files c.finish.new.folder) c.args.session.now.set)
+    (IsTrue g.F.Pages.told × Trusts g.row.D (g.F.Pages.files c.lines.folder) c.lines.session)
     (IsTrue g.F.Pages.told × Trusts g.row.D (g.F.Pages.files c.args.folder.now) c.args.session.now)
     (g.F.Pages.files c.finish.new.folder) c.finish.result (λ p. (p.0, c.lines.invariant.trusts p.0 p.1)) c.finish.ensures.evident)
 

@@ -1,6 +1,10 @@
 -- The lines are done in a session on the index, or none is opened.
-use Rattle.std.proofs.Common.{ℕ, IsTrue, arith, refl, subst, ap, ◌∙◌}
+use Rattle.std.proofs.Common.{ℕ, IsTrue, arith, inr, refl, subst, ap, ◌∙◌}
+use Rattle.std.proofs.lemmas.Grind.{merely}
 use Rattle.outer_io.specs.Files.{Files}
+use Rattle.index_opening.specs.Evidence.{IsOfListed}
+use Rattle.index_core.specs.Carried.{IsFileOf}
+use Rattle.index_core.proofs.Carrying.{listed_file}
 use Rattle.index_core.proofs.Brought.{commit_equal, commit_then}
 use Rattle.index_core.proofs.LosingNone.{keeps_same}
 use Rattle.index_core.proofs.Sizes.{session_fits}
@@ -11,7 +15,8 @@ use Rattle.script_run.specs.Kept.{HaltKeeps}
 use Rattle.script_run.specs.Origins.{dims_of}
 use Rattle.script_run.specs.Taking.{IsTakenOut}
 use Rattle.script_run.proofs.Calling.{fault_stops}
-use Rattle.script_run.proofs.Halting.{halt_cause_from, halt_less, halted_no_source, no_source, halted_cause, halted_ends, halted_keeps, halted_shows}
+use Rattle.script_run.proofs.Shown.{fault_wider}
+use Rattle.script_run.proofs.Halting.{halt_cause_from, halt_named, halted_no_source, no_source, halted_cause, halted_ends, halted_keeps, halted_shows}
 use Rattle.script_run.proofs.Lined.{unopened, origin_keeps}
 use Rattle.script_run.proofs.SoFar.{place_on}
 use Rattle.script_run.proofs.Reading.{of_any, of_same}
@@ -65,12 +70,18 @@ pub returns-in-Err-clause-read : goal.returns-in-Err-clause-read
 returns-in-Err-clause-read g c = λ source knows. rw (c.halt_result.ensures, c.stopped.ensures) tt
 
 pub returns-in-Ok-clause-evident : goal.returns-in-Ok-clause-evident
-returns-in-Ok-clause-evident g c = halt_less _ _ _ c.run_made.result (λ p. (p.0, c.in-Ok.ensures.trusts p.0 p.1)) c.run_made.ensures.evident
+returns-in-Ok-clause-evident g c =
+    let old = g.F.Pages.files c.args.folder.now in
+    halt_named (IsFileOf (g.F.Pages.files c.open.new.folder) (g.F.Pages.files c.run_made.new.folder) c.in-Ok.session.set) (IsOfListed old) _ _ _
+    c.run_made.result (λ p. (p.0, c.in-Ok.ensures.trusts p.0 p.1))
+    (λ p file o. merely (inr (inr (listed_file old (g.F.Pages.files c.run_made.new.folder) c.in-Ok.session.set (c.in-Ok.ensures.own p.0 p.1) file
+    (subst (λ (f : Files). IsFileOf f (g.F.Pages.files c.run_made.new.folder) c.in-Ok.session.set file) (c.in-Ok.ensures.files p.0) o)))))
+    c.run_made.ensures.evident
 
 pub returns-in-Err-clause-evident : goal.returns-in-Err-clause-evident
 returns-in-Err-clause-evident g c =
     halted_shows _ c.stopped.result c.halt_result.result c.halt_result.ensures
-    (fault_shows _ c.in-Err.fault c.in-Err.ensures.evident c.stopped.result c.stopped.ensures)
+    (fault_shows _ c.in-Err.fault (fault_wider _ _ _ _ c.in-Err.fault (λ p. p) c.in-Err.ensures.evident) c.stopped.result c.stopped.ensures)
 
 pub returns-in-Ok-clause-keeps : goal.returns-in-Ok-clause-keeps
 returns-in-Ok-clause-keeps g c = λ told.

@@ -9,7 +9,7 @@ use Rattle.run_status.specs.Sent.{IsSentPart}
 use Rattle.script_run.specs.declared.answers.Opening.{Opening}
 use Rattle.script_run.proofs.Answered.{first_alike}
 use Rattle.script_run.proofs.Going.{start_here}
-use Rattle.script_run.proofs.Halting.{halt_cause_from, halt_less, memory_cause, no_source, source_cause_from}
+use Rattle.script_run.proofs.Halting.{halt_cause_from, halt_since, memory_cause, no_source, source_cause_from}
 use Rattle.script_run.proofs.Lined.{stops_first, finishes_first, first_goes_on, halts_first, made_ends, memory_first, first_cause, cause_on}
 use Rattle.script_run.proofs.Reading.{gives_line, gives_none, none_read, of_all, of_left, of_line, of_rest, one_read, reads_alike}
 use Rattle.script_run.proofs.Shown.{first_shows}
@@ -104,7 +104,8 @@ returns-in-Ok-Made-clause-source g c =
 pub returns-in-Ok-Made-clause-evident : goal.returns-in-Ok-Made-clause-evident
 returns-in-Ok-Made-clause-evident g c =
     let same = ap (λ f. g.F.Pages.files f) c.lines.invariant.folder in
-    halt_less _ _ _ c.run_from.result (λ p. let still : g.F.Pages.files c.lines.folder Commit ≡ None = rw same p.1 in (p.0, still)) c.run_from.ensures.evident
+    halt_since _ _ _ _ _ c.run_from.result (λ p. let still : g.F.Pages.files c.lines.folder Commit ≡ None = rw same p.1 in (p.0, still)) (λ p. same)
+    c.run_from.ensures.evident
 
 pub returns-in-Err-clause-does : goal.returns-in-Err-clause-does
 returns-in-Err-clause-does g c =

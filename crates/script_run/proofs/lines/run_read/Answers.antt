@@ -12,10 +12,10 @@ use Rattle.script_run.specs.Kept.{HaltKeeps}
 use Rattle.script_run.specs.Progress.{start}
 use Rattle.script_run.specs.Taking.{IsTakenOutOf}
 use Rattle.script_run.proofs.Calling.{fault_stops}
-use Rattle.script_run.proofs.Halting.{halt_cause_from, halt_less, halted_no_source, no_source, halted_cause, halted_ends, halted_keeps, halted_shows}
+use Rattle.script_run.proofs.Halting.{halt_cause_from, halt_since, halted_no_source, no_source, halted_cause, halted_ends, halted_keeps, halted_shows}
 use Rattle.script_run.proofs.Lined.{unopened, from_none, from_some}
 use Rattle.script_run.proofs.Reading.{of_any, of_same}
-use Rattle.script_run.proofs.Shown.{fault_at}
+use Rattle.script_run.proofs.Shown.{fault_at, fault_wider}
 use Rattle.script_run.proofs.StartStored.{leads_first, leads_some, leads_unread}
 use Rattle.script_run.proofs.Taken.{commit_keeps}
 use Rattle.script_run.proofs.lines.run_read.Goals as goal
@@ -74,23 +74,23 @@ returns-in-Err-clause-read g c = λ source knows. rw (c.halt_result.ensures, c.s
 
 pub returns-in-Ok-None-clause-evident : goal.returns-in-Ok-None-clause-evident
 returns-in-Ok-None-clause-evident g c =
-    halt_less _ _ _ c.run_first.result
+    halt_since _ _ _ _ _ c.run_first.result
     (λ told. (told, ap (λ (f : Files). f Commit) (c.in-Ok-None.ensures.files told) ∙ rw c.in-Ok-None.field-0-is at (c.in-Ok-None.ensures.found told)))
-    c.run_first.ensures.evident
+    c.in-Ok-None.ensures.files c.run_first.ensures.evident
 
 pub returns-in-Ok-Some-clause-evident : goal.returns-in-Ok-Some-clause-evident
 returns-in-Ok-Some-clause-evident g c =
-    halt_less _ _ _ c.run_from.result
+    halt_since _ _ _ _ _ c.run_from.result
     (λ told. (told, says_after _ _ c.in-Ok-Some.commit (c.in-Ok-Some.ensures.files told) (rw c.in-Ok-Some.field-0-is at (c.in-Ok-Some.ensures.found told))))
-    c.run_from.ensures.evident
+    c.in-Ok-Some.ensures.files c.run_from.ensures.evident
 
 pub returns-in-Err-clause-evident : goal.returns-in-Err-clause-evident
 returns-in-Err-clause-evident g c =
     halted_shows _ c.stopped.result c.halt_result.result c.halt_result.ensures
     (fault_shows _ c.in-Err.fault
-    (fault_at _ _ _ _ c.in-Err.fault (λ told. told) c.in-Err.ensures.files
+    (fault_wider _ _ _ _ c.in-Err.fault (λ told. told) (fault_at _ _ _ _ c.in-Err.fault (λ told. told) c.in-Err.ensures.files
     (on_commit_evident {X = Option CommitData} (IsTrue g.F.Pages.told) (g.F.Pages.files c.args.folder.now) (Err c.in-Err.fault) c.in-Err.ensures.damage
-    c.in-Err.ensures.shown))
+    c.in-Err.ensures.shown)))
     c.stopped.result c.stopped.ensures)
 
 pub returns-in-Ok-None-clause-keeps : goal.returns-in-Ok-None-clause-keeps

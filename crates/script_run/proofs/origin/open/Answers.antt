@@ -5,8 +5,7 @@ use Rattle.script_lang.specs.Reading.{greatest_leaf}
 use Rattle.index_core.proofs.Sizes.{session_fits}
 use Rattle.script_run.proofs.Opened.{made_stands, attached_stands}
 use Rattle.script_run.proofs.Starting.{opens_new, opens_none, opens_stored}
-use Rattle.index_opening.specs.Evidence.{IsTwice}
-use Rattle.index_opening.proofs.Evident.{on_evident_at}
+use Rattle.index_opening.proofs.Evident.{on_evident_files}
 use Rattle.script_run.proofs.Shown.{attached_trusts, bare_trusts}
 use Rattle.script_run.proofs.Taken.{attached_finds, bare_finds}
 use Rattle.script_run.proofs.origin.open.Goals as goal
@@ -93,7 +92,7 @@ returns-in-Stored-clause-trusts g c = λ told there.
 
 pub returns-in-Stored-clause-evident : goal.returns-in-Stored-clause-evident
 returns-in-Stored-clause-evident g c =
-    on_evident_at IsTwice _ _ _ _ c.attach.result (λ p. (p.0, rw c.in-Stored.is at p.1)) (λ p. c.attach.ensures.files p.0) c.attach.ensures.damaged.evident
+    on_evident_files _ _ _ _ c.attach.result (λ p. (p.0, rw c.in-Stored.is at p.1)) (λ p. c.attach.ensures.files p.0) c.attach.ensures.damaged.evident
 
 pub returns-in_ok-create-in-New-clause-finds : goal.returns-in_ok-create-in-New-clause-finds
 returns-in_ok-create-in-New-clause-finds g c = λ told there.
@@ -107,3 +106,14 @@ returns-in_err-create-in-New-clause-finds g c = λ told there.
 pub returns-in-Stored-clause-finds : goal.returns-in-Stored-clause-finds
 returns-in-Stored-clause-finds g c = λ told there.
     attached_finds g.row.D _ _ c.attach.result (c.attach.ensures.files told) (c.attach.ensures.attaches.finds told (rw c.in-Stored.is at there))
+
+pub returns-in_ok-create-in-New-clause-own : goal.returns-in_ok-create-in-New-clause-own
+returns-in_ok-create-in-New-clause-own g c = λ told there. c.in_ok-create-in-New.ensures.own _
+
+pub returns-in_err-create-in-New-clause-own : goal.returns-in_err-create-in-New-clause-own
+returns-in_err-create-in-New-clause-own g c = λ told there.
+    let p = err_from_is_err_and c.from_residual.result c.from_residual.ensures.1 in
+    rw p.1 tt
+
+pub returns-in-Stored-clause-own : goal.returns-in-Stored-clause-own
+returns-in-Stored-clause-own g c = λ told there. c.attach.ensures.attaches.own told (rw c.in-Stored.is at there)

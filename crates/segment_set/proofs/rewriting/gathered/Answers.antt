@@ -8,6 +8,7 @@ use Rattle.point_codec.specs.Points.{Item}
 use Rattle.point_codec.specs.Seen.{items_of}
 use Rattle.point_codec.specs.declared.entries.Entry.{Entry}
 use Rattle.documents.specs.Entries.{MakeDocs, has_entry, is_among}
+use Rattle.documents.proofs.Lists.{of_filter}
 use Rattle.page_cache.specs.declared.faults.PageFault.{PageFault}
 use Rattle.page_cache.specs.declared.faults.PageFault.TheVariants as page
 use Rattle.segment_file.specs.Damages.{IsLeafDamageOf}
@@ -17,11 +18,12 @@ use Rattle.segment_view.specs.Damages.{IsPartDamage}
 use Rattle.segment_view.specs.Held.{AreHeld}
 use Rattle.segment_set.specs.Merges.{HoldsLive, IsGathered}
 use Rattle.segment_set.specs.Damages.{IsDoubt, IsMergeDamage, IsMergeDamageOf, Doubt}
-use Rattle.index_opening.specs.Evidence.{IsCrowdedIn, IsEvidentIn}
+use Rattle.index_opening.specs.Evidence.{IsCrowdedIn, IsEvidentIn, IsOfPart}
 use Rattle.segment_set.specs.Faithful.{HasFileHead}
 use Rattle.segment_set.specs.Sets.{AreAlone}
 use Rattle.segment_set.proofs.Doubted.{doubt_among, part_shown, whole_shows}
-use Rattle.index_opening.proofs.Evident.{on_evident_at, on_part_evident}
+use Rattle.index_opening.proofs.Evident.{on_evident_at}
+use Rattle.index_opening.proofs.LeafEvident.{on_part_evident}
 use Rattle.segment_set.proofs.Evident.{doubt_evident, gathered_of_files}
 use Rattle.segment_set.proofs.Fresh.{gathered_of, holds_live, items_length}
 use Rattle.segment_set.proofs.Losing.{loses_none}
@@ -252,10 +254,12 @@ returns-in_err-entries-clause-evident g c =
     let parts = c.args.segments.now in
     let told = IsTrue g.F.Pages.told × All (HasFileHead g.row.D files) parts × AreAlone parts in
     rw (p.1, p.2)
-    (on_evident_at {X = Unit {0}} (λ f. IsCrowdedIn g.row.D f parts) told told files (g.F.Pages.files c.gather.new.folder) (Err c.in_err-entries.field-0.0)
-    (λ t. t) (λ t. c.in_err-entries.ensures.calm.files t.0)
-    (on_part_evident {X = Unit {0}} (IsCrowdedIn g.row.D files parts) told g.row.D files (parts_among c.args.ids.now parts) (Err c.in_err-entries.field-0.0)
+    (on_evident_at {X = Unit {0}} (λ f. IsOfPart parts) (λ f. IsCrowdedIn g.row.D f parts) told told files (g.F.Pages.files c.gather.new.folder)
+    (Err c.in_err-entries.field-0.0) (λ t. t) (λ t. c.in_err-entries.ensures.calm.files t.0)
+    (on_part_evident {X = Unit {0}} (IsOfPart parts) (IsCrowdedIn g.row.D files parts) told g.row.D files (parts_among c.args.ids.now parts)
+    (Err c.in_err-entries.field-0.0)
     (λ t. All-filter (λ (q : LiveSegment). is_among c.args.ids.now q.head.id) (HasFileHead g.row.D files) parts t.1)
+    (λ t p there. inr (inr (p, (of_filter (λ (q : LiveSegment). is_among c.args.ids.now q.head.id) parts p there).0, refl)))
     (λ t. c.in_err-entries.ensures.damage t.0 (c.in_ok-once.ensures.agrees files))
     c.in_err-entries.ensures.shown))
 

@@ -28,6 +28,7 @@ use Rattle.index_core.specs.Arranged.{HasAdded, IsArranged}
 use Rattle.index_core.specs.Effects.{OnDone}
 use Rattle.index_core.proofs.Arranging.{add_done, add_left, arranged_left, arranged_same, arranged_seen, on_err_any, undone_any}
 use Rattle.index_core.proofs.Lasting.{lasts_itself, lasts_seen, writes_last}
+use Rattle.index_core.proofs.Carrying.{views_named}
 use Rattle.index_core.proofs.session.Session.add.Goals as goal
 
 pub returns-then-is_full-clause-applies : goal.returns-then-is_full-clause-applies
@@ -55,6 +56,8 @@ returns-clause-applies g c =
       keeps = c.add.ensures.rewrites.kept;
       follows = c.add.ensures.rewrites.follows;
       brings = λ told. brings_written _ _ _ _ _ _ _ _ told c.add.ensures.rewrites.kept c.add.ensures.rewrites.follows (c.add.ensures.rewrites.canon told);
+      views = λ told. views_named _ _ _ _ c.self.inside.set c.add.new.self told c.add.ensures.rewrites.kept
+          (subst (λ (u : SessionData). IsWell g.row.D u.set) (sym c.self.view_is) c.is_full.ensures.well) c.add.ensures.rest.snapshots;
       faithful = c.add.ensures.rewrites.faithful;
     })
     (subst (λ (u : SessionData). All (IsNamed u.set.names) u.set.parts) (sym c.self.view_is) c.is_full.ensures.well.named)

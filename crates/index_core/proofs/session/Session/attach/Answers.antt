@@ -3,6 +3,7 @@ use Rattle.std.proofs.Common.{◌≤◌, Err, refl, subst, ap, ◌∙◌}
 use Rattle.std.proofs.lemmas.Result.{err_from_is_err_and}
 use Rattle.page_cache.specs.declared.faults.PageFault.{PageFault}
 use Rattle.index_core.proofs.Attached.{finds_kept}
+use Rattle.index_core.proofs.Carrying.{attached_listed}
 use Rattle.index_core.proofs.SetGuards.{guards_attached}
 use Rattle.index_core.proofs.Tracing.{traced_attached}
 use Rattle.segment_set.proofs.Sizes.{set_fits}
@@ -19,6 +20,7 @@ returns-clause-attaches g c = record {
       traced_attached _ _ _ c.args.commit c.requires says c.in_ok-attach.ensures.commit c.in_ok-attach.ensures.names (c.in_ok-attach.ensures.live told);
   finds = λ told says.
       finds_kept _ _ _ c.args.commit c.requires says c.in_ok-attach.ensures.commit.as_committed (c.in_ok-attach.ensures.live told);
+  own = λ told says. attached_listed _ _ c.args.commit says c.in_ok-attach.ensures.commit;
   unchanged = record { commit = c.args.commit; is = refl; done = refl; same = c.in_ok-attach.ensures.commit.as_committed };
   listed = λ m named. (c.args.commit, refl, (c.in_ok-attach.ensures.names m).0 named);
 }
@@ -35,6 +37,7 @@ returns-in_err-attach-clause-attaches g c =
       faithful = λ told. rw p.1 tt;
       traced = λ told says. rw p.1 tt;
       finds = λ told says. rw p.1 tt;
+      own = λ told says. rw p.1 tt;
       unchanged = rw p.1 tt;
       listed = rw p.1 tt;
     }

@@ -3,7 +3,7 @@ use Rattle.std.proofs.Common.{subst, sym, ap, ◌∙◌}
 use Rattle.stored_index.specs.Kept.{ListsFile}
 use Rattle.stored_index.specs.Stored.{HaveLive}
 use Rattle.segment_view.specs.LiveSegments.{lives_of}
-use Rattle.segment_set.specs.Kept.{IsAsCommitted}
+use Rattle.segment_set.specs.Kept.{IsAtRest}
 use Rattle.index_core.specs.Sessions.{HasDims, SessionData}
 use Rattle.index_core.proofs.SetGuards.{guards_anew, says_last}
 use Rattle.index_core.proofs.Tracing.{traced_anew}
@@ -27,7 +27,7 @@ returns-clause-guards g c told done guards =
 
 pub returns-clause-unchanged : goal.returns-clause-unchanged
 returns-clause-unchanged g c last is =
-    on_ok_each (λ s rest. subst (IsAsCommitted s) (some_same _ _ (sym c.in-Some.is ∙ ap (λ (u : SessionData). u.commit) c.self.view_is ∙ is)) rest.as_committed)
+    on_ok_each (λ s. subst (IsAtRest s) (some_same _ _ (sym c.in-Some.is ∙ ap (λ (u : SessionData). u.commit) c.self.view_is ∙ is)))
     c.attach.result c.attach.ensures.commit
 
 pub returns-clause-names : goal.returns-clause-names

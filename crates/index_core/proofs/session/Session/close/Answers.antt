@@ -1,5 +1,5 @@
 -- All is committed, and what the session held is swept away.
-use Rattle.std.proofs.Common.{◌≡◌, IsTrue, List, Err, Some, is_some, sym, ap, subst, ◌∙◌, ⊎_elim}
+use Rattle.std.proofs.Common.{◌≡◌, IsTrue, List, Err, Some, is_some, sym, ap, subst, ◌∙◌, ⊎_elim, inl}
 use Rattle.std.proofs.lemmas.Result.{err_from_is_err_and, on_ok_weaker}
 use Rattle.std.specs.List.{Contains}
 use Rattle.page_cache.specs.declared.faults.PageFault.{PageFault}
@@ -118,7 +118,7 @@ returns-clause-durable g c = record {
       lasts_then_like _ _ _ (g.F.Pages.files c.commit.new.folder) _ _ c.commit.new.self.set _
       (ap (λ (u : SetData). u.parts) c.sweep.ensures.rest.is ∙ parts)
       (ap (λ (u : SetData). u.buffer) c.sweep.ensures.rest.is ∙ ap (λ (u : SetData). u.buffer) (eased g c))
-      (λ p there. c.sweep.ensures.removes.segments told p (subst (λ (ps : List LiveSegment). Contains ps p) (sym parts) there))
+      (λ p there. c.sweep.ensures.removes.segments told p (inl (subst (λ (ps : List LiveSegment). Contains ps p) (sym parts) there)))
       (c.commit.ensures.durable.lasts told faithful);
 }
 
@@ -141,7 +141,7 @@ returns-clause-canon g c told =
     let parts = ap (λ (u : SetData). u.parts) (eased g c) in
     brings_then _ _ (g.F.Pages.files c.commit.new.folder) _ _ c.commit.new.self.set.parts _ (c.commit.ensures.canon told)
     (brings_still _ _ _ c.commit.new.self.set.parts
-    _ (λ p there. c.sweep.ensures.removes.segments told p (subst (λ (ps : List LiveSegment). Contains ps p) (sym parts) there))
+    _ (λ p there. c.sweep.ensures.removes.segments told p (inl (subst (λ (ps : List LiveSegment). Contains ps p) (sym parts) there)))
     (ap (λ (u : SetData). u.parts) c.sweep.ensures.rest.is ∙ parts))
 
 pub returns-clause-faults : goal.returns-clause-faults

@@ -1,25 +1,24 @@
 -- Nothing changed, or the commit was saved, written and swept up after.
-use Rattle.std.proofs.Common.{◌≡◌, All, None, IsTrue, Err, Some, is_some, refl, sym, ap, subst, ◌∙◌, inl, inr}
+use Rattle.std.proofs.Common.{◌≡◌, None, IsTrue, Err, Some, is_some, refl, sym, ap, subst, ◌∙◌, inl, inr}
 use Rattle.std.proofs.lemmas.Bool.{both_ways}
 use Rattle.std.proofs.lemmas.Result.{err_from_is_err_and}
 use Rattle.page_cache.specs.declared.faults.PageFault.{PageFault}
 use Rattle.stored_index.proofs.KeptFiles.{kept_itself, stored_still}
-use Rattle.segment_set.specs.Sets.{IsNamed, IsSettled, SetData}
+use Rattle.segment_set.specs.Sets.{IsSettled, SetData}
 use Rattle.segment_set.specs.Seen.{Sees}
 use Rattle.index_core.specs.Sessions.{Guards, IsCommitAnew, SessionData, Trusts}
-use Rattle.index_core.specs.Effects.{BringsCanonical}
 use Rattle.index_core.specs.Light.{CommitsFewOfLevels}
 use Rattle.index_core.specs.Steps.{SaysCommit}
 use Rattle.index_core.specs.Closed.{IsTracked}
 use Rattle.segment_set.specs.Kept.{Follows}
 use Rattle.segment_set.proofs.Carried.{follows_none}
-use Rattle.index_core.proofs.Brought.{commit_after, commit_itself, commit_swept, keeps_flight}
+use Rattle.index_core.proofs.Brought.{commit_after, commit_swept, keeps_flight}
 use Rattle.index_core.proofs.Owned.{own_flight, own_swept}
-use Rattle.index_core.proofs.Closing.{tracked_commit, tracked_same}
-use Rattle.index_core.proofs.Bringing.{brings_same, brings_still, brings_then, brings_two, brings_written}
+use Rattle.index_core.proofs.Closing.{tracked_commit}
+use Rattle.index_core.proofs.Bringing.{brings_opened, brings_same, brings_still, brings_then, brings_two}
 use Rattle.index_core.proofs.Guarding.{covered_opened, grows_alone, guards_after, kept_opened, set_alone}
 use Rattle.index_core.proofs.Committing.{as_committed, commit_anew, keeps_any, keeps_fault, kept_on, on_ok_any, on_ok_none}
-use Rattle.index_core.proofs.Committing.{says_still, stores_any, stores_fault, unchanged_is_stored, unchanged_says}
+use Rattle.index_core.proofs.Committing.{says_still, stores_any, stores_fault}
 use Rattle.segment_set.proofs.Sizes.{set_fits}
 use Rattle.index_core.proofs.Sizes.{session_fits}
 use Rattle.index_model.specs.State.{at_rest}
@@ -28,15 +27,15 @@ use Rattle.index_core.proofs.Showing.{damage_to, merge_none, merge_to}
 use Rattle.index_core.proofs.Answering.{no_cause}
 use Rattle.index_core.proofs.FaultCauses.{fault_cause}
 use Rattle.index_core.proofs.Lightly.{commits_few}
-use Rattle.index_core.proofs.Tracing.{traced_by, traced_shows}
+use Rattle.index_core.proofs.Tracing.{opened_shows, traced_by}
 use Rattle.index_core.proofs.Undone.{few_listed, undone_flight, undone_kept, undone_written}
-use Rattle.page_cache.specs.Evidence.{FaultShows}
-use Rattle.index_opening.specs.Evidence.{IsEvident}
 use Rattle.segment_set.specs.Faithful.{IsFaithful}
 use Rattle.index_opening.proofs.Evident.{none_evident}
 use Rattle.index_core.proofs.Arranging.{arranged_left, arranged_same, arranged_seen, arranged_swept, arranged_written}
-use Rattle.index_core.proofs.Lasting.{lasts_itself, loses_opened, saved_last, swept_last, written_last}
-use Rattle.index_core.proofs.Renewed.{swept_lives, unchanged_lives}
+use Rattle.index_core.proofs.Lasting.{loses_opened, saved_last, swept_last, written_last}
+use Rattle.index_core.proofs.Renewed.{swept_lives}
+use Rattle.index_core.proofs.Unchanged.{unchanged_committed, unchanged_durable}
+use Rattle.index_core.proofs.Carrying.{carries_flown, carries_swept, carries_written, stays_itself}
 use Rattle.index_core.proofs.session.Session.commit.Goals as goal
 use Rattle.segment_set.proofs.Saving.{cause_after}
 
@@ -56,25 +55,10 @@ returns-then-not-is_changed g c =
     let unchanged = c.is_changed.ensures.unchanged.0 c.if-not-is_changed.true in
     record {
       seen = λ told i seen. seen;
-      stays = record { guards = λ told guards. guards; faithful = λ told faithful. faithful; traced = λ told trusts. trusts.traced };
-      durable = record {
-        kept = λ told guards. unchanged_says _ _ _ unchanged guards;
-        stored = λ told i seen guards.
-            (unchanged_is_stored _ _ _ i unchanged (c.is_changed.ensures.sound c.if-not-is_changed.true) guards seen, unchanged.same.empty);
-        undone = λ told guards. tt;
-        own = λ told guards. inl (kept_itself _);
-        lasting = λ told trusts. commit_itself _;
-        lasts = λ told faithful. lasts_itself _ _ _ _;
-      };
+      stays = stays_itself _ _ _ _;
+      durable = unchanged_durable _ _ _ _ tt unchanged (c.is_changed.ensures.sound c.if-not-is_changed.true);
       flight = λ told guards. inl (kept_itself _);
-      done = record {
-        unchanged = unchanged;
-        lives = λ told guards last is. unchanged_lives g.row.D _ _ unchanged (c.is_changed.ensures.sound c.if-not-is_changed.true) guards last is;
-        anew = λ changed. absurd (changed unchanged);
-        levels = λ changed none. absurd (changed unchanged);
-        few = λ told guards none. inl refl;
-        tracked = λ told m. tracked_same (g.F.Pages.files c.args.folder.now) _ c.args.self.now.set.names _ m refl refl;
-      };
+      done = unchanged_committed _ _ _ _ unchanged (c.is_changed.ensures.sound c.if-not-is_changed.true);
       idle = λ same. (refl, refl, refl, refl);
       rested = λ settled. refl;
       canon = λ told. brings_same _ _ _ _ _ refl refl;
@@ -104,6 +88,8 @@ returns-in_err-commit g c =
         traced = λ told trusts.
             traced_by _ _ _ _ _ c.save.new.self told c.save.ensures.rewrites.kept c.save.ensures.rewrites.follows (c.save.ensures.rewrites.canon told)
             (subst (Trusts g.row.D old) (sym c.self.view_is) trusts);
+        carries = λ told. carries_written _ _ _ _ c.args.self.now _ c.save.new.self c.self.view_is told c.save.ensures.rewrites.kept
+            c.save.ensures.rewrites.follows (c.save.ensures.rewrites.canon told) c.is_changed.ensures.well c.save.ensures.stays.snapshots;
       };
       durable = record {
         kept = λ told guards. keeps_fault old saved (record inside { set = c.save.new.self }) _ _ error (inl (kept told guards));
@@ -117,19 +103,16 @@ returns-in_err-commit g c =
       done = on_ok_none _ _ _ p.1;
       idle = λ unchanged. absurd (both_ways c.is_changed.result (c.is_changed.ensures.unchanged.1 unchanged) c.if-not-is_changed.false);
       rested = λ settled. c.save.ensures.rested (subst (λ (u : SessionData). IsSettled u.set) (sym c.self.view_is) settled);
-      canon = λ told. subst (λ (u : SessionData). BringsCanonical g.row.D old saved u.set.parts c.save.new.self.parts) c.self.view_is
-          (brings_written _ _ _ _ _ _ _ _ told c.save.ensures.rewrites.kept c.save.ensures.rewrites.follows (c.save.ensures.rewrites.canon told));
+      canon = λ told. brings_opened _ _ _ _ _ _ c.save.new.self c.self.view_is told c.save.ensures.rewrites.kept c.save.ensures.rewrites.follows
+          (c.save.ensures.rewrites.canon told);
       follows = subst (λ (u : SessionData). Follows u.set.names u.set.parts c.save.new.self.parts) c.self.view_is c.save.ensures.rewrites.follows;
       arranged = arranged_seen _ _ _ _ _ _ c.self.view_is (arranged_left _ _ _ _ _ c.in_err-commit.ensures.left);
       faults = record {
         cause = fault_cause _ _ c.in_err-commit.field-0.0 _ error c.in_err-commit.ensures.cause;
         whole = λ told i seen.
             rw (p.1, p.2) (c.in_err-commit.ensures.damaged.whole told i (subst (λ (u : SessionData). Sees g.row.D old u.set i) (sym c.self.view_is) seen));
-        evident = damage_to _ _ c.in_err-commit.field-0.0 error
-            (subst (λ (u : SessionData). FaultShows (IsEvident (IsTrue g.F.Pages.told × Trusts g.row.D old u) saved) c.in_err-commit.field-0.0) c.self.view_is
-            (traced_shows {X = Unit {0}} _ _ _ _ inside _ (Err c.in_err-commit.field-0.0) c.save.ensures.rewrites.kept
-            (subst (λ (u : SessionData). All (IsNamed u.set.names) u.set.parts) (sym c.self.view_is) c.is_changed.ensures.well.named)
-            c.in_err-commit.ensures.damaged.evident));
+        evident = damage_to _ _ c.in_err-commit.field-0.0 error (opened_shows {X = Unit {0}} _ _ _ _ _ inside _ (Err c.in_err-commit.field-0.0)
+            c.self.view_is c.save.ensures.rewrites.kept c.is_changed.ensures.well.named c.in_err-commit.ensures.damaged.evident);
       };
       damage = subst (λ (u : SessionData). ShowsMerge g.row.D (IsTrue g.F.Pages.told) old saved u.set c.save.new.self c.from_residual.result) c.self.view_is
           (merge_to {T = Unit {0}} _ _ _ _ _ _ c.in_err-commit.field-0.0 error
@@ -159,6 +142,10 @@ returns-in_err-write g c =
         traced = λ told trusts. c.write.ensures.traced told (c.in_ok-commit.ensures.saves.live told (covers trusts.guards))
             (traced_by _ _ _ _ _ c.save.new.self told c.save.ensures.rewrites.kept c.save.ensures.rewrites.follows (c.save.ensures.rewrites.canon told)
             (subst (Trusts g.row.D old) (sym c.self.view_is) trusts));
+        carries = λ told. carries_flown _ saved _ c.args.self.now.set c.save.new.self _
+            (carries_written _ _ _ _ c.args.self.now _ c.save.new.self c.self.view_is told c.save.ensures.rewrites.kept
+            c.save.ensures.rewrites.follows (c.save.ensures.rewrites.canon told) c.is_changed.ensures.well c.save.ensures.stays.snapshots)
+            (c.write.ensures.others told) c.write.ensures.set;
       };
       durable = record {
         kept = λ told guards.
@@ -187,10 +174,9 @@ returns-in_err-write g c =
       done = on_ok_none _ _ _ p.1;
       idle = λ unchanged. absurd (both_ways c.is_changed.result (c.is_changed.ensures.unchanged.1 unchanged) c.if-not-is_changed.false);
       rested = λ settled. c.write.ensures.unread ∙ c.save.ensures.rested (subst (λ (u : SessionData). IsSettled u.set) (sym c.self.view_is) settled);
-      canon = λ told. subst (λ (u : SessionData). BringsCanonical g.row.D old written u.set.parts c.write.new.self.set.parts) c.self.view_is
-          (brings_then _ _ _ _ _ c.save.new.self.parts _
-          (brings_written _ _ _ _ _ _ _ _ told c.save.ensures.rewrites.kept c.save.ensures.rewrites.follows (c.save.ensures.rewrites.canon told))
-          (brings_two _ _ _ _ _ (c.write.ensures.others told) (ap (λ (u : SetData). u.parts) c.write.ensures.set)));
+      canon = λ told. brings_then _ _ _ _ _ c.save.new.self.parts _ (brings_opened _ _ _ _ _ _ c.save.new.self c.self.view_is told
+          c.save.ensures.rewrites.kept c.save.ensures.rewrites.follows (c.save.ensures.rewrites.canon told))
+          (brings_two _ _ _ _ _ (c.write.ensures.others told) (ap (λ (u : SetData). u.parts) c.write.ensures.set));
       follows = subst (λ (u : SessionData). Follows u.set.names u.set.parts c.write.new.self.set.parts) c.self.view_is
           (subst (λ (u : SetData). Follows c.self.inside.set.names c.self.inside.set.parts u.parts) (sym c.write.ensures.set) c.save.ensures.rewrites.follows);
       arranged = arranged_written _ _ _ _ _ _ _ _ c.self.view_is c.write.ensures.set c.in_ok-commit.ensures.flushed;
@@ -238,6 +224,11 @@ returns g c =
             (c.write.ensures.traced told (c.in_ok-commit.ensures.saves.live told (covers trusts.guards))
             (traced_by _ _ _ _ _ c.save.new.self told c.save.ensures.rewrites.kept c.save.ensures.rewrites.follows (c.save.ensures.rewrites.canon told)
             (subst (Trusts g.row.D old) (sym c.self.view_is) trusts)));
+        carries = λ told. carries_swept _ written _ c.args.self.now.set c.write.new.self.set c.sweep.new.self.set
+            (carries_flown _ saved _ c.args.self.now.set c.save.new.self _
+            (carries_written _ _ _ _ c.args.self.now _ c.save.new.self c.self.view_is told c.save.ensures.rewrites.kept
+            c.save.ensures.rewrites.follows (c.save.ensures.rewrites.canon told) c.is_changed.ensures.well c.save.ensures.stays.snapshots)
+            (c.write.ensures.others told) c.write.ensures.set) c.sweep.ensures.rest (c.sweep.ensures.removes.segments told);
       };
       durable = record {
         kept = λ told guards. keeps_any old swept c.sweep.new.self c.sweep.result flown (says told guards);
@@ -260,7 +251,7 @@ returns g c =
             (set_alone _ _ _ _ _ _ told c.save.ensures.rewrites.kept c.save.ensures.stays before.guards.set)
             (traced_by _ _ _ _ _ c.save.new.self told c.save.ensures.rewrites.kept c.save.ensures.rewrites.follows (c.save.ensures.rewrites.canon told) before)
             (inr (c.in_ok-write.ensures.kept told)))) (c.sweep.ensures.kept told (guarded told trusts.guards));
-        lasts = swept_last _ _ _ written _ _ _ _ _ c.sweep.ensures.rest c.sweep.ensures.removes.segments
+        lasts = swept_last _ _ _ written _ _ _ _ _ c.sweep.ensures.rest (λ told p there. c.sweep.ensures.removes.segments told p (inl there))
             (written_last _ _ _ saved _ _ _ _ _ c.self.view_is c.is_changed.ensures.well c.save.ensures.rewrites c.write.ensures.set c.write.ensures.others);
       };
       flight = λ told guards. inr (says_still written swept _ _ (c.sweep.ensures.kept told (guarded told guards)) (flown ∙ c.sweep.ensures.written.0)
@@ -282,11 +273,12 @@ returns g c =
       idle = λ unchanged. absurd (both_ways c.is_changed.result (c.is_changed.ensures.unchanged.1 unchanged) c.if-not-is_changed.false);
       rested = λ settled. c.sweep.ensures.unread ∙ c.write.ensures.unread
           ∙ c.save.ensures.rested (subst (λ (u : SessionData). IsSettled u.set) (sym c.self.view_is) settled);
-      canon = λ told. subst (λ (u : SessionData). BringsCanonical g.row.D old swept u.set.parts c.sweep.new.self.set.parts) c.self.view_is
-          (brings_then _ _ _ _ _ c.write.new.self.set.parts _ (brings_then _ _ _ _ _ c.save.new.self.parts _
-          (brings_written _ _ _ _ _ _ _ _ told c.save.ensures.rewrites.kept c.save.ensures.rewrites.follows (c.save.ensures.rewrites.canon told))
+      canon = λ told. brings_then _ _ _ _ _ c.write.new.self.set.parts _ (brings_then _ _ _ _ _ c.save.new.self.parts _
+          (brings_opened _ _ _ _ _ _ c.save.new.self c.self.view_is told c.save.ensures.rewrites.kept c.save.ensures.rewrites.follows
+          (c.save.ensures.rewrites.canon told))
           (brings_two _ _ _ _ _ (c.write.ensures.others told) (ap (λ (u : SetData). u.parts) c.write.ensures.set)))
-          (brings_still _ _ _ _ _ (c.sweep.ensures.removes.segments told) (ap (λ (u : SetData). u.parts) c.sweep.ensures.rest.is)));
+          (brings_still _ _ _ _ _ (λ p there. c.sweep.ensures.removes.segments told p (inl there))
+          (ap (λ (u : SetData). u.parts) c.sweep.ensures.rest.is));
       follows = subst (λ (u : SessionData). Follows u.set.names u.set.parts c.sweep.new.self.set.parts) c.self.view_is
           (subst (Follows c.self.inside.set.names c.self.inside.set.parts)
           (sym (ap (λ (u : SetData). u.parts) c.sweep.ensures.rest.is ∙ ap (λ (u : SetData). u.parts) c.write.ensures.set)) c.save.ensures.rewrites.follows);

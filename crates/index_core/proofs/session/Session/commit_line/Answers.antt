@@ -5,6 +5,8 @@ use Rattle.page_cache.specs.declared.faults.PageFault.{PageFault}
 use Rattle.script_lang.specs.Replies.{ok_text}
 use Rattle.index_model.specs.Step.{step_on}
 use Rattle.index_model.specs.declared.session.Applied.TheVariants as applied
+use Rattle.index_opening.proofs.Evident.{on_evident_wider}
+use Rattle.index_core.specs.Carried.{IsFileOf}
 use Rattle.index_core.proofs.Answering.{applies_is, begins_itself, begins_same, begins_with, does_done, does_fault}
 use Rattle.index_core.proofs.FaultCauses.{done_cause, fault_to, memory_cause}
 use Rattle.page_cache.specs.declared.faults.PageFault.TheVariants as page
@@ -61,7 +63,7 @@ returns-in_err-commit-clause-applies g c =
       faults = record {
         cause = fault_to _ _ c.in_err-commit.field-0.0 c.in_err-commit.ensures.faults.cause;
         whole = λ told i seen guards. c.in_err-commit.ensures.faults.whole told i seen;
-        evident = c.in_err-commit.ensures.faults.evident;
+        evident = on_evident_wider {X = Unit {0}} (IsFileOf _ _ _) _ _ _ (Err c.in_err-commit.field-0.0) (λ t. t) c.in_err-commit.ensures.faults.evident;
       };
     })
 

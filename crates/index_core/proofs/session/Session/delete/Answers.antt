@@ -20,6 +20,7 @@ use Rattle.segment_set.specs.Sets.{is_live_in, set_but}
 use Rattle.index_core.specs.Sessions.{SessionData}
 use Rattle.index_core.proofs.Arranging.{on_err_any, undone_any}
 use Rattle.index_core.proofs.Lasting.{deletes_last, lasts_itself}
+use Rattle.index_core.proofs.Carrying.{views_same}
 use Rattle.index_core.proofs.session.Session.delete.Goals as goal
 
 pub returns-in_err-put_deleted-clause-applies : goal.returns-in_err-put_deleted-clause-applies
@@ -34,6 +35,7 @@ returns-then-delete-clause-applies g c files faults = applies_seen _ _ _ _ _ _ _
     (grows_same _ _ (ap (λ (u : SetData). u.leaf_size) c.delete.ensures.rest) (ap (λ (u : SetData). u.next) c.delete.ensures.rest)
     (ap (λ (u : SetData). u.points_given) c.delete.ensures.rest))
     c.delete.ensures.follows (λ told. refl) (λ told. brings_cleared _ files _ _ _ (ap (λ (u : SetData). u.parts) c.delete.ensures.rest))
+    (λ told. views_same files files c.self.inside.set c.delete.new.self refl (ap (λ (u : SetData). u.snapshots) c.delete.ensures.rest))
     (λ told. c.delete.ensures.faithful files))
     (λ told i seen. does_delete _ _ _ i _ c.delete.result _ _ (c.delete.ensures.live files i seen) (c.delete.ensures.seen files i seen)
     (c.in_ok-put_deleted.ensures.ok ∙ ap (λ b. c.args.out.now.items ++ deleted_text (cond b 1 0)) (sym c.if-delete.true)))
@@ -48,6 +50,7 @@ returns-in_err-put_deleted-2-clause-applies g c files faults =
     (grows_same _ _ (ap (λ (u : SetData). u.leaf_size) c.delete.ensures.rest) (ap (λ (u : SetData). u.next) c.delete.ensures.rest)
     (ap (λ (u : SetData). u.points_given) c.delete.ensures.rest))
     c.delete.ensures.follows (λ told. refl) (λ told. brings_cleared _ files _ _ _ (ap (λ (u : SetData). u.parts) c.delete.ensures.rest))
+    (λ told. views_same files files c.self.inside.set c.delete.new.self refl (ap (λ (u : SetData). u.snapshots) c.delete.ensures.rest))
     (λ told. c.delete.ensures.faithful files))
     (p.1 ∙ ap (λ (e : PageFault). Err e) p.2)
     (λ told i seen. seen_deleted _ _ _ i _ (sym (c.delete.ensures.live files i seen) ∙ c.if-delete.false) (c.delete.ensures.seen files i seen))
@@ -68,6 +71,7 @@ returns-clause-applies g c files faults =
     (grows_same _ _ (ap (λ (u : SetData). u.leaf_size) c.delete.ensures.rest) (ap (λ (u : SetData). u.next) c.delete.ensures.rest)
     (ap (λ (u : SetData). u.points_given) c.delete.ensures.rest))
     c.delete.ensures.follows (λ told. refl) (λ told. brings_cleared _ files _ _ _ (ap (λ (u : SetData). u.parts) c.delete.ensures.rest))
+    (λ told. views_same files files c.self.inside.set c.delete.new.self refl (ap (λ (u : SetData). u.snapshots) c.delete.ensures.rest))
     (λ told. c.delete.ensures.faithful files))
     (λ told i seen. does_delete _ _ _ i _ c.delete.result _ _ (c.delete.ensures.live files i seen) (c.delete.ensures.seen files i seen)
     (grew ∙ ap (λ b. c.args.out.now.items ++ deleted_text (cond b 1 0)) (sym c.if-delete.false)))

@@ -1,5 +1,5 @@
 -- The documents in the box are found, and go.
-use Rattle.std.proofs.Common.{◌++◌, Err, refl, sym, ap, subst, ◌∙◌}
+use Rattle.std.proofs.Common.{◌++◌, None, Err, refl, sym, ap, subst, ◌∙◌}
 use Rattle.std.proofs.lemmas.Result.{err_from_is_err_and}
 use Rattle.page_cache.specs.declared.faults.PageFault.{PageFault}
 use Rattle.point_codec.specs.Points.{in_box}
@@ -27,6 +27,7 @@ use Rattle.index_core.proofs.Arranging.{on_err_any}
 use Rattle.index_core.specs.Lasting.{Lasts}
 use Rattle.index_core.proofs.Lasting.{lasts_cache}
 use Rattle.index_core.proofs.Thinned.{AnyGoes, thinned_last}
+use Rattle.index_core.proofs.Carrying.{view_shows, views_same}
 use Rattle.index_core.proofs.session.Session.delete_box.Goals as goal
 
 pub returns-in_err-hits-clause-applies : goal.returns-in_err-hits-clause-applies
@@ -35,7 +36,8 @@ returns-in_err-hits-clause-applies g c =
     applies_seen _ _ _ _ _ _ _ _ _ _ _ c.self.view_is
     (applies_fault _ _ _ _ _ _ c.in_err-hits.field-0.0 (calm_cache _ _ _ _ _ _ _ _ _ _ _ _ c.visit.ensures.rest c.visit.ensures.files c.visit.ensures.faithful)
     (p.1 ∙ ap (λ (e : PageFault). Err e) p.2) c.visit.ensures.seen (begins_itself _) c.in_err-hits.ensures.cause c.in_err-hits.ensures.damaged.whole
-    c.in_err-hits.ensures.damaged.evident)
+    (view_shows {X = Unit {0}} _ _ _ _ None c.self.inside.set (Err c.in_err-hits.field-0.0) (λ t. t) (λ t. c.visit.ensures.files t.0)
+    c.in_err-hits.ensures.damaged.evident))
 
 pub returns-in_err-put_deleted-clause-applies : goal.returns-in_err-put_deleted-clause-applies
 returns-in_err-put_deleted-clause-applies g c =
@@ -57,6 +59,8 @@ returns-clause-applies g c =
     (λ told. brings_then _ _ _ _ _ c.visit.new.self.parts
     _ (brings_same _ _ _ _ _ (c.visit.ensures.files told) (ap (λ (u : SetData). u.parts) c.visit.ensures.rest.is))
     (brings_named _ _ _ _ _ _ _ _ told (λ t. refl) c.delete_all.ensures.names c.delete_all.ensures.follows c.leaf_size-leaf_size.ensures.well.named))
+    (λ told. views_same _ _ c.self.inside.set c.delete_all.new.self (c.visit.ensures.files told)
+    (c.delete_all.ensures.stays.snapshots ∙ ap (λ (u : SetData). u.snapshots) c.visit.ensures.rest.is))
     (λ told faithful. c.delete_all.ensures.faithful _ (c.visit.ensures.faithful told faithful)))
     (λ told i seen. does_delete_box _ _ _ _ _ i _ _ c.as_slice.result.now _ _ seen
     (c.as_slice.ensures.value ∙ c.in_ok-hits.ensures.found told i seen i.docs refl ∙ ap (λ (s : CountedBox). hits (in_box s.bounds) i.docs) c.new-shape.ensures)

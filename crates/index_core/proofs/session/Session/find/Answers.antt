@@ -21,6 +21,7 @@ use Rattle.index_core.proofs.Showing.{damage_to, leaf_none, leaf_to}
 use Rattle.std.proofs.Common.{refl}
 use Rattle.index_core.proofs.Keeping.{still_same, still_seen}
 use Rattle.index_core.proofs.Keeping.{fault_keeps}
+use Rattle.index_core.proofs.Carrying.{view_shows}
 use Rattle.index_core.proofs.session.Session.find.Goals as goal
 
 pub visit-requires : goal.visit-requires
@@ -39,7 +40,8 @@ returns-in_err-hits-clause-applies g c =
     applies_seen _ _ _ _ _ _ _ _ _ _ _ c.self.view_is
     (applies_fault _ _ _ _ _ _ c.in_err-hits.field-0.0 (calm_cache _ _ _ _ _ _ _ _ _ _ _ _ c.visit.ensures.rest c.visit.ensures.files c.visit.ensures.faithful)
     (p.1 ∙ ap (λ (e : PageFault). Err e) p.2) c.visit.ensures.seen (begins_itself _) c.in_err-hits.ensures.cause c.in_err-hits.ensures.damaged.whole
-    c.in_err-hits.ensures.damaged.evident)
+    (view_shows {X = Unit {0}} _ _ _ _ (view_name c.args.view.now) c.self.inside.set (Err c.in_err-hits.field-0.0) (λ t. t) (λ t. c.visit.ensures.files t.0)
+    c.in_err-hits.ensures.damaged.evident))
 
 pub returns-in_err-put_hits-clause-applies : goal.returns-in_err-put_hits-clause-applies
 returns-in_err-put_hits-clause-applies g c =

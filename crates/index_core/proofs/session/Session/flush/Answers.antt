@@ -17,6 +17,7 @@ use Rattle.index_core.proofs.Keeping.{fault_keeps}
 use Rattle.index_core.proofs.Guarding.{grows_alone}
 use Rattle.index_core.proofs.Arranging.{arranged_flushed, arranged_seen, arranged_settled, on_err_any}
 use Rattle.index_core.proofs.Lasting.{lasts_seen, moves_last}
+use Rattle.index_core.proofs.Carrying.{views_named}
 use Rattle.index_core.proofs.session.Session.flush.Goals as goal
 
 pub returns-clause-applies : goal.returns-clause-applies
@@ -30,6 +31,8 @@ returns-clause-applies g c = applies_seen _ _ _ _ _ _ _ _ _ _ _ c.self.view_is
       keeps = c.flush.ensures.moves.kept;
       follows = c.flush.ensures.moves.follows;
       brings = λ told. brings_written _ _ _ _ _ _ _ _ told c.flush.ensures.moves.kept c.flush.ensures.moves.follows (c.flush.ensures.moves.canon told);
+      views = λ told. views_named _ _ _ _ c.self.inside.set c.flush.new.self told c.flush.ensures.moves.kept
+          c.leaf_size-leaf_size.ensures.well c.flush.ensures.moves.stays.snapshots;
       faithful = c.flush.ensures.faithful;
     })
     (λ told i seen. does_done _ _ i i _ ok_text _ _ (c.flush.ensures.moves.seen told i seen) c.in_ok-put_ok.ensures.ok)
@@ -47,6 +50,8 @@ returns-in_err-flush-clause-applies g c =
       keeps = c.flush.ensures.moves.kept;
       follows = c.flush.ensures.moves.follows;
       brings = λ told. brings_written _ _ _ _ _ _ _ _ told c.flush.ensures.moves.kept c.flush.ensures.moves.follows (c.flush.ensures.moves.canon told);
+      views = λ told. views_named _ _ _ _ c.self.inside.set c.flush.new.self told c.flush.ensures.moves.kept
+          c.leaf_size-leaf_size.ensures.well c.flush.ensures.moves.stays.snapshots;
       faithful = c.flush.ensures.faithful;
     })
     c.leaf_size-leaf_size.ensures.well.named (p.1 ∙ ap (λ (e : PageFault). Err e) p.2) c.flush.ensures.moves.seen (begins_itself _) c.in_err-flush.ensures.cause
@@ -64,6 +69,8 @@ returns-in_err-put_ok-clause-applies g c =
       keeps = c.flush.ensures.moves.kept;
       follows = c.flush.ensures.moves.follows;
       brings = λ told. brings_written _ _ _ _ _ _ _ _ told c.flush.ensures.moves.kept c.flush.ensures.moves.follows (c.flush.ensures.moves.canon told);
+      views = λ told. views_named _ _ _ _ c.self.inside.set c.flush.new.self told c.flush.ensures.moves.kept
+          c.leaf_size-leaf_size.ensures.well c.flush.ensures.moves.stays.snapshots;
       faithful = c.flush.ensures.faithful;
     })
     (p.1 ∙ ap (λ (e : PageFault). Err e) p.2) c.flush.ensures.moves.seen c.in_err-put_ok.ensures.memory c.in_ok-flush.ensures.cause)

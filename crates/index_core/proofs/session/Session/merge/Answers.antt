@@ -16,6 +16,7 @@ use Rattle.index_core.proofs.Keeping.{fault_keeps}
 use Rattle.index_core.proofs.Guarding.{grows_alone}
 use Rattle.index_core.proofs.Arranging.{arranged_before, arranged_same, arranged_seen, on_err_any}
 use Rattle.index_core.proofs.Lasting.{lasts_itself, lasts_seen, moves_last}
+use Rattle.index_core.proofs.Carrying.{views_named}
 use Rattle.index_core.proofs.session.Session.merge.Goals as goal
 
 pub returns-clause-applies : goal.returns-clause-applies
@@ -30,6 +31,8 @@ returns-clause-applies g c = applies_seen _ _ _ _ _ _ _ _ _ _ _ c.self.view_is
       follows = c.merge_all.ensures.moves.follows;
       brings = λ told.
           brings_written _ _ _ _ _ _ _ _ told c.merge_all.ensures.moves.kept c.merge_all.ensures.moves.follows (c.merge_all.ensures.moves.canon told);
+      views = λ told. views_named _ _ _ _ c.self.inside.set c.merge_all.new.self told c.merge_all.ensures.moves.kept
+          c.leaf_size-leaf_size.ensures.well c.merge_all.ensures.moves.stays.snapshots;
       faithful = c.merge_all.ensures.faithful;
     })
     (λ told i seen. does_done _ _ i i _ ok_text _ _ (c.merge_all.ensures.moves.seen told i seen) c.in_ok-put_ok.ensures.ok)
@@ -48,6 +51,8 @@ returns-in_err-merge_all-clause-applies g c =
       follows = c.merge_all.ensures.moves.follows;
       brings = λ told.
           brings_written _ _ _ _ _ _ _ _ told c.merge_all.ensures.moves.kept c.merge_all.ensures.moves.follows (c.merge_all.ensures.moves.canon told);
+      views = λ told. views_named _ _ _ _ c.self.inside.set c.merge_all.new.self told c.merge_all.ensures.moves.kept
+          c.leaf_size-leaf_size.ensures.well c.merge_all.ensures.moves.stays.snapshots;
       faithful = c.merge_all.ensures.faithful;
     })
     c.leaf_size-leaf_size.ensures.well.named (p.1 ∙ ap (λ (e : PageFault). Err e) p.2) c.merge_all.ensures.moves.seen

@@ -27,6 +27,7 @@ use Rattle.index_core.proofs.Guarding.{grows_same}
 use Rattle.std.proofs.Common.{OnErr}
 use Rattle.segment_set.specs.Kept.{StaysButCache}
 use Rattle.index_core.proofs.Arranging.{begin_left, on_err_any}
+use Rattle.index_core.proofs.Carrying.{views_same}
 use Rattle.index_core.proofs.session.Session.merge_begin.Goals as goal
 
 pub returns-then-is_merging-clause-applies : goal.returns-then-is_merging-clause-applies
@@ -50,6 +51,8 @@ returns-clause-applies g c =
     (ap (λ (u : SetData). u.points_given) c.merge_begin.ensures.rest.is))
     (follows_same _ _ _ (ap (λ (u : SetData). u.parts) c.merge_begin.ensures.rest.is)) c.merge_begin.ensures.files
     (λ told. brings_same _ _ _ _ _ (c.merge_begin.ensures.files told) (ap (λ (u : SetData). u.parts) c.merge_begin.ensures.rest.is))
+    (λ told. views_same _ _ c.self.inside.set c.merge_begin.new.self (c.merge_begin.ensures.files told)
+    (ap (λ (u : SetData). u.snapshots) c.merge_begin.ensures.rest.is))
     c.merge_begin.ensures.faithful)
     c.merge_begin.ensures.files
     (λ told i seen.

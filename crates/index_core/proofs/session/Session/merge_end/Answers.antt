@@ -23,6 +23,7 @@ use Rattle.std.proofs.Common.{OnErr}
 use Rattle.segment_set.specs.Kept.{IsAsBefore}
 use Rattle.index_core.proofs.Arranging.{end_left, on_err_any}
 use Rattle.index_core.proofs.Lasting.{lasts_itself, lasts_seen, writes_last}
+use Rattle.index_core.proofs.Carrying.{views_named}
 use Rattle.index_core.proofs.session.Session.merge_end.Goals as goal
 use Rattle.segment_set.proofs.Doubted.{whole_shows}
 
@@ -51,6 +52,8 @@ returns-clause-applies g c =
       follows = c.merge_end.ensures.rewrites.follows;
       brings = λ told.
           brings_written _ _ _ _ _ _ _ _ told c.merge_end.ensures.rewrites.kept c.merge_end.ensures.rewrites.follows (c.merge_end.ensures.rewrites.canon told);
+      views = λ told. views_named _ _ _ _ c.self.inside.set c.merge_end.new.self told c.merge_end.ensures.rewrites.kept
+          c.leaf_size-leaf_size.ensures.well c.merge_end.ensures.stays.snapshots;
       faithful = c.merge_end.ensures.rewrites.faithful;
     })
     (λ told i seen.

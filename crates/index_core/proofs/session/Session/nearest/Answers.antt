@@ -24,6 +24,7 @@ use Rattle.index_core.proofs.Showing.{damage_to, leaf_none, leaf_to}
 use Rattle.std.proofs.Common.{refl}
 use Rattle.index_core.proofs.Keeping.{still_same, still_seen}
 use Rattle.index_core.proofs.Keeping.{fault_keeps}
+use Rattle.index_core.proofs.Carrying.{view_shows}
 use Rattle.index_core.proofs.session.Session.nearest.Goals as goal
 
 pub nearest-requires : goal.nearest-requires
@@ -51,7 +52,8 @@ returns-in_err-found-clause-applies g c =
     (applies_fault _ _ _ _ _ _ c.in_err-found.field-0.0
     (calm_cache _ _ _ _ _ _ _ _ _ _ _ _ c.nearest.ensures.rest c.nearest.ensures.files c.nearest.ensures.faithful)
     (p.1 ∙ ap (λ (e : PageFault). Err e) p.2) c.nearest.ensures.seen (begins_itself _) c.in_err-found.ensures.cause c.in_err-found.ensures.damaged.whole
-    c.in_err-found.ensures.damaged.evident)
+    (view_shows {X = Unit {0}} _ _ _ _ (view_name c.args.view.now) c.self.inside.set (Err c.in_err-found.field-0.0) (λ t. t)
+    (λ t. c.nearest.ensures.files t.0) c.in_err-found.ensures.damaged.evident))
 
 pub returns-in_err-put_near-clause-applies : goal.returns-in_err-put_near-clause-applies
 returns-in_err-put_near-clause-applies g c =

@@ -1,10 +1,11 @@
 -- A snapshot goes, where one has the name.
-use Rattle.std.proofs.Common.{◌≡◌, Err, refl, sym, ap, ◌∙◌}
+use Rattle.std.proofs.Common.{◌≡◌, not, Err, refl, sym, ap, ◌∙◌}
 use Rattle.std.proofs.lemmas.Result.{err_from_is_err_and}
 use Rattle.page_cache.specs.declared.faults.PageFault.{PageFault}
 use Rattle.script_lang.specs.declared.faults.Refusal.TheVariants as why
 use Rattle.index_model.specs.declared.session.Applied.TheVariants as applied
-use Rattle.segment_set.specs.Sets.{SetData}
+use Rattle.std.specs.Str.{bytes_eq}
+use Rattle.segment_set.specs.Sets.{NamedView, SetData}
 use Rattle.segment_set.proofs.Carried.{follows_same}
 use Rattle.index_core.proofs.Answering.{applies, applies_memory, applies_refused, applies_seen, begins_with, no_cause}
 use Rattle.index_core.proofs.CalmCalls.{calm_like}
@@ -21,6 +22,7 @@ use Rattle.index_core.proofs.Guarding.{grows_same}
 use Rattle.std.proofs.Common.{subst}
 use Rattle.segment_set.specs.Sets.{set_released}
 use Rattle.index_core.proofs.Arranging.{on_err_any, undone_any}
+use Rattle.index_core.proofs.Carrying.{views_fewer}
 use Rattle.index_core.proofs.session.Session.release.Goals as goal
 
 pub returns-then-not-has_snapshot-clause-applies : goal.returns-then-not-has_snapshot-clause-applies
@@ -40,7 +42,10 @@ returns-clause-applies g c files faults = applies_seen _ _ _ _ _ _ _ _ _ _ _ c.s
     (grows_same _ _ (ap (λ (u : SetData). u.leaf_size) c.release.ensures.kept) (ap (λ (u : SetData). u.next) c.release.ensures.kept)
     (ap (λ (u : SetData). u.points_given) c.release.ensures.kept))
     (follows_same _ _ _ (ap (λ (u : SetData). u.parts) c.release.ensures.kept)) (λ told. refl)
-    (λ told. brings_same _ _ _ _ _ refl (ap (λ (u : SetData). u.parts) c.release.ensures.kept)) (λ told. c.release.ensures.faithful files))
+    (λ told. brings_same _ _ _ _ _ refl (ap (λ (u : SetData). u.parts) c.release.ensures.kept))
+    (λ told. views_fewer files (λ (v : NamedView). not (bytes_eq v.name c.args.name.now)) c.self.inside.set c.release.new.self
+    (ap (λ (u : SetData). u.snapshots) c.release.ensures.kept))
+    (λ told. c.release.ensures.faithful files))
     (λ told i seen. does_release _ _ _ _ i _ _ _ seen (sym c.has_snapshot.ensures ∙ c.if-not-has_snapshot.false) (c.release.ensures.seen files i seen)
     c.in_ok-put_ok.ensures.ok)
     (begins_with _ _ _ c.in_ok-put_ok.ensures.ok) (no_cause faults applied.Done) (λ told i seen. tt) tt)

@@ -1,5 +1,5 @@
 -- What is stored is attached anew.
-use Rattle.std.proofs.Common.{◌≡◌, Err, IsTrue, Some, is_some, refl, sym, ap, subst, ◌∙◌, ◌⊎◌, inr}
+use Rattle.std.proofs.Common.{◌≡◌, Err, Some, is_some, refl, sym, ap, subst, ◌∙◌, ◌⊎◌, inr}
 use Rattle.std.proofs.lemmas.Result.{err_from_is_err_and}
 use Rattle.page_cache.specs.declared.faults.PageFault.{PageFault}
 use Rattle.outer_io.specs.Files.{Files}
@@ -10,9 +10,9 @@ use Rattle.index_model.specs.declared.session.Applied.TheVariants as applied
 use Rattle.stored_index.specs.Stored.{IsStored}
 use Rattle.stored_index.specs.Kept.{SameKept}
 use Rattle.segment_set.specs.Seen.{Sees}
-use Rattle.index_opening.specs.Evidence.{IsTwice}
 use Rattle.segment_set.specs.Faithful.{IsFaithful}
-use Rattle.index_opening.proofs.Evident.{on_evident_at}
+use Rattle.index_opening.proofs.Evident.{on_evident_files, on_evident_wider}
+use Rattle.index_core.specs.Carried.{Carries, IsFileOf}
 use Rattle.index_core.specs.Sessions.{AreTraced, Guards, IsCommitAnew, IsUnchanged, SessionData}
 use Rattle.index_core.specs.Effects.{BringsCanonical}
 use Rattle.index_core.proofs.Bringing.{brings_anew, brings_then}
@@ -34,8 +34,10 @@ use Rattle.index_core.proofs.Arranging.{on_err_any}
 use Rattle.index_core.specs.Lasting.{Lasts}
 use Rattle.index_core.proofs.Lasting.{NoneGoes}
 use Rattle.index_core.proofs.LosingNone.{lasts_then}
-use Rattle.index_core.proofs.Renewed.{attached_last, lasting_read, own_read, stays_read}
+use Rattle.index_core.proofs.Renewed.{attached_last, brings_read, lasting_read, lasts_read, own_read, stays_read}
 use Rattle.index_core.proofs.session.Session.reopen.Given as given
+use Rattle.segment_view.specs.LiveSegments.{ids_of}
+use Rattle.index_core.proofs.Carrying.{carries_anew, carries_then}
 use Rattle.index_core.proofs.session.Session.reopen.Goals as goal
 use Rattle.segment_set.proofs.Saving.{cause_after}
 
@@ -66,7 +68,7 @@ returns-in_err-commit-clause-applies g c =
       faults = record {
         cause = fault_to _ _ c.in_err-commit.field-0.0 c.in_err-commit.ensures.faults.cause;
         whole = λ told i seen guards. c.in_err-commit.ensures.faults.whole told i seen;
-        evident = c.in_err-commit.ensures.faults.evident;
+        evident = on_evident_wider {X = Unit {0}} (IsFileOf _ _ _) _ _ _ (Err c.in_err-commit.field-0.0) (λ t. t) c.in_err-commit.ensures.faults.evident;
       };
     })
 
@@ -93,18 +95,16 @@ returns-in_err-set-clause-applies g c =
         anew = λ changed. tt;
         levels = λ changed none. tt;
       };
-      canon = λ told i seen guards.
-          subst (λ (f : Files). BringsCanonical g.row.D (g.F.Pages.files c.args.folder.now) f c.args.self.now.set.parts c.commit.new.self.set.parts)
-          (sym (c.attach_anew.ensures.files told)) (c.commit.ensures.canon told);
+      canon = λ told i seen guards. brings_read _ _ _ _ _ c.args.self.now c.attach_anew.ensures.files c.commit.new.self.set told (c.commit.ensures.canon told);
       faults = record {
         cause = fault_to _ _ c.in_err-set.field-0.0 (cause_after _ _ _ _ c.in_ok-commit.ensures.faults.cause.on_ok c.in_err-set.ensures.cause);
         whole = λ told i seen owed.
             let guards = owed refl in
             c.in_err-set.ensures.whole told c.in_ok-commit.ensures.done.unchanged.done (c.commit.ensures.stays.guards told guards) (Some (at_rest i))
             (c.in_ok-commit.ensures.durable.stored told i seen guards).0;
-        evident = on_evident_at {X = Unit {0}} IsTwice _ _ _ _ (Err c.in_err-set.field-0.0)
+        evident = on_evident_wider {X = Unit {0}} (IsFileOf _ _ _) _ _ _ (Err c.in_err-set.field-0.0)
             (λ (told, trusts). (told, c.in_ok-commit.ensures.done.unchanged.done, c.commit.ensures.stays.guards told trusts.guards))
-            (λ (told, trusts). c.attach_anew.ensures.files told) c.in_err-set.ensures.evident;
+            (on_evident_files {X = Unit {0}} _ _ _ _ (Err c.in_err-set.field-0.0) (λ t. t) (λ t. c.attach_anew.ensures.files t.0) c.in_err-set.ensures.evident);
       };
     })
 
@@ -131,9 +131,7 @@ returns-in_err-put_ok-clause-applies g c =
         anew = λ changed. tt;
         levels = λ changed none. tt;
       };
-      canon = λ told i seen guards.
-          subst (λ (f : Files). BringsCanonical g.row.D (g.F.Pages.files c.args.folder.now) f c.args.self.now.set.parts c.commit.new.self.set.parts)
-          (sym (c.attach_anew.ensures.files told)) (c.commit.ensures.canon told);
+      canon = λ told i seen guards. brings_read _ _ _ _ _ c.args.self.now c.attach_anew.ensures.files c.commit.new.self.set told (c.commit.ensures.canon told);
       faults = record {
         cause = memory_cause _ _ (cause_after _ _ _ _ c.in_ok-commit.ensures.faults.cause.on_ok c.attach_anew.ensures.cause).later;
         whole = λ told i seen guards. tt;
@@ -178,6 +176,11 @@ returns-clause-applies g c = record {
     traced = λ told trusts. subst (λ (f : Files). AreTraced g.row.D f c.renew.new.self.parts) (sym (c.attach_anew.ensures.files told))
         (subst (λ (u : SetData). AreTraced g.row.D (g.F.Pages.files c.commit.new.folder) u.parts) (sym (kept g c))
         (c.in_ok-set.ensures.traced told c.in_ok-commit.ensures.done.unchanged.done (c.commit.ensures.stays.guards told trusts.guards)));
+    carries = λ told. let last = c.in_ok-commit.ensures.done.unchanged in let rest = c.in_ok-set.ensures.unchanged last.commit last.is in
+        subst (λ (f : Files). Carries (g.F.Pages.files c.args.folder.now) f c.args.self.now.set c.renew.new.self) (sym (c.attach_anew.ensures.files told))
+        (carries_then _ _ _ c.args.self.now.set c.commit.new.self.set c.renew.new.self (c.commit.ensures.stays.carries told)
+        (carries_anew _ c.commit.new.self.set c.renew.new.self last.commit last.same
+        (ap (λ (u : SetData). ids_of u.parts) (kept g c) ∙ rest.as_committed.ids) (ap (λ (u : SetData). u.snapshots) (kept g c) ∙ rest.snapshots)));
   };
   keeps = record {
     kept = λ told guards. subst (λ (u : SessionData). SaysCommit (g.F.Pages.files c.attach_anew.new.folder) u.commit) (sym c.self.view_is)
@@ -187,7 +190,7 @@ returns-clause-applies g c = record {
       subst (λ (f : Files). IsStored f (Some (at_rest i))) (sym (c.attach_anew.ensures.files told))
           (c.in_ok-commit.ensures.durable.stored told i seen guards).0,
       ap (λ (u : SetData). u.buffer) (kept g c) ∙ (c.in_ok-set.ensures.unchanged c.in_ok-commit.ensures.done.unchanged.commit
-          c.in_ok-commit.ensures.done.unchanged.is).empty,
+          c.in_ok-commit.ensures.done.unchanged.is).as_committed.empty,
     );
     own = own_read _ _ _ _ _ _ c.attach_anew.ensures.files c.commit.ensures.durable.own;
     lasting = lasting_read _ _ _ _ _ _ c.attach_anew.ensures.files c.commit.ensures.durable.lasting;
@@ -202,7 +205,7 @@ returns-clause-applies g c = record {
           done = last.done;
           same = as_same c.in_ok-set.set c.renew.new.self last.commit (ap (λ (u : SetData). u.next) same) (ap (λ (u : SetData). u.points_given) same)
               (ap (λ (u : SetData). u.parts) same)
-              (ap (λ (u : SetData). u.buffer) same) (c.in_ok-set.ensures.unchanged last.commit last.is);
+              (ap (λ (u : SetData). u.buffer) same) (c.in_ok-set.ensures.unchanged last.commit last.is).as_committed;
         });
     anew = λ changed. let written = c.in_ok-commit.ensures.done.anew changed in
         subst (λ (u : SessionData). IsCommitAnew c.args.self.now (record u { set = c.renew.new.self })) (sym c.self.view_is)
@@ -218,7 +221,7 @@ returns-clause-applies g c = record {
       (brings_anew _ _ c.commit.new.self.set c.in_ok-set.set i (at_rest i) (c.commit.ensures.seen told i seen)
       (c.in_ok-set.ensures.seen told c.in_ok-commit.ensures.done.unchanged.done (c.commit.ensures.stays.guards told guards) (at_rest i)
       (c.in_ok-commit.ensures.durable.stored told i seen guards).0)
-      ((c.in_ok-set.ensures.unchanged last.commit last.is).ids ∙ sym last.same.ids))));
+      ((c.in_ok-set.ensures.unchanged last.commit last.is).as_committed.ids ∙ sym last.same.ids))));
   faults = record {
     cause = done_cause _ _ c.in_ok-set.set applied.Done (cause_after _ _ _ _ c.in_ok-commit.ensures.faults.cause.on_ok c.in_ok-set.ensures.cause);
     whole = λ told i seen guards. tt;
@@ -274,13 +277,11 @@ returns-in_err-put_ok-clause-left g c = on_err_any _ c.from_residual-in_err-put_
 
 pub returns-in_err-set-clause-lasts : goal.returns-in_err-set-clause-lasts
 returns-in_err-set-clause-lasts g c told faithful guards =
-    subst (λ (f : Files). Lasts g.row.D NoneGoes (g.F.Pages.files c.args.folder.now) f c.args.self.now.set c.commit.new.self.set)
-    (sym (c.attach_anew.ensures.files told)) (c.commit.ensures.durable.lasts told faithful)
+    lasts_read _ _ _ _ _ c.args.self.now c.attach_anew.ensures.files c.commit.new.self.set told (c.commit.ensures.durable.lasts told faithful)
 
 pub returns-in_err-put_ok-clause-lasts : goal.returns-in_err-put_ok-clause-lasts
 returns-in_err-put_ok-clause-lasts g c told faithful guards =
-    subst (λ (f : Files). Lasts g.row.D NoneGoes (g.F.Pages.files c.args.folder.now) f c.args.self.now.set c.commit.new.self.set)
-    (sym (c.attach_anew.ensures.files told)) (c.commit.ensures.durable.lasts told faithful)
+    lasts_read _ _ _ _ _ c.args.self.now c.attach_anew.ensures.files c.commit.new.self.set told (c.commit.ensures.durable.lasts told faithful)
 
 pub returns-in_err-commit-clause-lasts : goal.returns-in_err-commit-clause-lasts
 returns-in_err-commit-clause-lasts g c told faithful guards = c.commit.ensures.durable.lasts told faithful
@@ -294,6 +295,6 @@ returns-clause-lasts g c told faithful guards =
     (lasts_then g.row.D NoneGoes (g.F.Pages.files c.args.folder.now) committed c.args.self.now.set c.commit.new.self.set
     (c.commit.ensures.durable.lasts told faithful) NoneGoes NoneGoes committed c.renew.new.self (λ number gone. gone) (λ number gone. gone)
     (attached_last g.row.D committed c.commit.new.self.set c.in_ok-set.set c.renew.new.self last.commit (ap (λ (u : SetData). u.parts) (kept g c))
-    (ap (λ (u : SetData). u.buffer) (kept g c)) last.same (c.in_ok-set.ensures.unchanged last.commit last.is)
+    (ap (λ (u : SetData). u.buffer) (kept g c)) last.same (c.in_ok-set.ensures.unchanged last.commit last.is).as_committed
     (c.commit.ensures.stays.faithful told faithful).heads (c.in_ok-set.ensures.faithful told).heads
     (c.in_ok-commit.ensures.done.lives told guards last.commit last.is) (c.in_ok-set.ensures.lives told last.commit last.is)))

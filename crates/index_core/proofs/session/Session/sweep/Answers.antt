@@ -1,5 +1,5 @@
 -- What the commit needs stays.
-use Rattle.std.proofs.Common.{◌≡◌, false, true, IsTrue, OnOk, Some, refl, sym, ap, subst, ◌∙◌, inl, inr}
+use Rattle.std.proofs.Common.{◌≡◌, false, true, IsTrue, OnOk, Some, refl, sym, ap, subst, ◌∙◌, inl, inr, ⊎_elim}
 use Rattle.std.specs.List.{Contains}
 use Rattle.outer_io.specs.declared.file_name.FileName.{FileName}
 use Rattle.outer_io.specs.declared.file_name.FileName.TheVariants.{Segment}
@@ -79,9 +79,11 @@ Needed g c = (m : FileName) → is_named c.sweep.new.self.names.names m ≡ true
 
 pub returns-clause-removes : goal.returns-clause-removes
 returns-clause-removes g c = record {
-  segments = λ told p there.
-      c.sweep.ensures.swept.needed told (Segment p.head.id)
-      (inr (inl (p, subst (λ (u : SessionData). Contains u.set.parts p) (sym c.self.view_is) there, refl)));
+  segments = λ told p there. c.sweep.ensures.swept.needed told (Segment p.head.id)
+      (inr (⊎_elim
+      (λ now. inl (p, subst (λ (u : SessionData). Contains u.set.parts p) (sym c.self.view_is) now, refl))
+      (λ (v, kept, inside). inr (v, subst (λ (u : SessionData). Contains u.set.snapshots v) (sym c.self.view_is) kept, (p, inside, refl)))
+      there));
   tracked = λ told m.
       let before = g.F.Pages.files c.args.folder.now in
       let after = g.F.Pages.files c.sweep.new.folder in

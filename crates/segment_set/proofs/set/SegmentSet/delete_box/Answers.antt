@@ -18,7 +18,7 @@ use Rattle.file_names.specs.Names.{is_named}
 use Rattle.segment_file.specs.Damages.{IsLeafDamageOf}
 use Rattle.segment_view.specs.Damages.{IsPartDamage}
 use Rattle.segment_set.specs.Faithful.{IsFaithful}
-use Rattle.index_opening.specs.Evidence.{IsEvident}
+use Rattle.index_opening.specs.Evidence.{IsEvidentOf}
 use Rattle.segment_set.proofs.set.SegmentSet.delete_box.Goals as goal
 
 pub returns-in_err-hits-clause-reads : goal.returns-in_err-hits-clause-reads
@@ -102,7 +102,8 @@ returns-in_err-hits-clause-damaged g c = record {
   damage = λ told agrees. same_damage (IsLeafDamageOf (g.F.Pages.files c.args.folder.now)) c.in_err-hits.field-0.0 c.from_residual.result
       c.from_residual.ensures.1 (c.in_err-hits.ensures.damaged.damage told agrees);
   evident = same_damage
-      (IsEvident (IsTrue g.F.Pages.told × IsFaithful g.row.D (g.F.Pages.files c.args.folder.now) c.args.self.now) (g.F.Pages.files c.visit.new.folder))
+      (IsEvidentOf c.args.self.now.parts (IsTrue g.F.Pages.told × IsFaithful g.row.D (g.F.Pages.files c.args.folder.now) c.args.self.now)
+      (g.F.Pages.files c.visit.new.folder))
       c.in_err-hits.field-0.0 c.from_residual.result c.from_residual.ensures.1 c.in_err-hits.ensures.damaged.evident;
 }
 

@@ -1,0 +1,103 @@
+#!/usr/bin/env python3
+"""Proves a crate and all that it stands on, side by side on all processors.
+
+usage: release/prove.py CRATE        it tells each crate as it begins, in a line `== NAME`
+
+Of the crates whose libraries below are proved the one with the longest way to CRATE before it begins first, with two
+processors, or those that no other takes, up to four. What is proved already is kept, as `rt check` keeps it; rt itself takes one
+crate after the other, or each with one processor. It asks the kit's own rtlib.py for all that it does.
+"""
+import concurrent.futures
+import importlib.machinery
+import importlib.util
+import os
+import shutil
+import sys
+import tempfile
+
+ROOT = os.path.realpath(os.path.join(os.path.dirname(os.path.abspath(__file__)), ".."))
+MOST_JOBS = 4
+
+
+def kit():
+    """Returns the library that `rt` of this machine works by."""
+    sys.dont_write_bytecode = True
+    path = os.path.join(os.path.dirname(os.path.realpath(shutil.which("rt"))), "rtlib.py")
+    loader = importlib.machinery.SourceFileLoader("rtlib", path)
+    module = importlib.util.module_from_spec(importlib.util.spec_from_loader("rtlib", loader))
+    sys.modules["rtlib"] = module
+    loader.exec_module(module)
+    return module
+
+
+def size(crate):
+    """Returns about how long the crate takes: the lines of its sources and proofs."""
+    count = 0
+    for folder, _, files in os.walk(crate.folder):
+        if "/out" not in folder[len(crate.folder):]:
+            for file in files:
+                if file.endswith((".rt", ".antt")):
+                    with open(os.path.join(folder, file), "rb") as text:
+                        count += text.read().count(b"\n")
+    return count
+
+
+def ways(crates):
+    """Returns for each crate how much is to be proved from it on, along the longest way to the last one."""
+    sizes, longest = {it: size(it) for it in crates}, {}
+    for it in reversed(crates):
+        above = [longest[other] for other in longest if it in other.below()]
+        longest[it] = sizes[it] + max(above, default=0)
+    return longest
+
+
+def prove(crate, jobs):
+    """Proves a crate over the libraries below it. Returns its status, and what was printed."""
+    os.makedirs(f"{crate.folder}/out", exist_ok=True)
+    with tempfile.TemporaryFile("a+", errors="replace") as crate.out:
+        flags = ["--jobs", str(jobs)]
+        status = crate.build_rlib(flags, anew=False) if crate.makes_rlib() else crate.check(flags)
+        crate.out.seek(0)
+        return status, crate.out.read()
+
+
+def main():
+    if len(sys.argv) != 2 or not shutil.which("rt"):
+        sys.exit(__doc__.strip())
+    rt = kit()
+    folder = f"{ROOT}/crates/{sys.argv[1]}"
+    os.chdir(folder)
+    last = rt.Crate(folder, ROOT, {})
+    crates = [*last.below(), last]
+    held = rt.lock(crates)
+    for it in crates:
+        rt.stop_on_links(it.folder)
+        rt.stop_on_text(it, "check")
+    longest, left, free = ways(crates), list(crates), len(os.sched_getaffinity(0))
+    running, done = {}, set()
+    with concurrent.futures.ThreadPoolExecutor(free) as pool:
+        while left or running:
+            ready = sorted((it for it in left if done >= {*it.below()}), key=longest.get, reverse=True)
+            for at, it in enumerate(ready[:free]):
+                others = min(len(ready), free + at) - at - 1
+                jobs = min(MOST_JOBS, max(free - others, 1 if at or free == 1 else 2))
+                print(f"== {it.name}", flush=True)
+                running[pool.submit(prove, it, jobs)] = it, jobs
+                left.remove(it)
+                free -= jobs
+                if free == 0:
+                    break
+            ended, _ = concurrent.futures.wait(running, return_when=concurrent.futures.FIRST_COMPLETED)
+            for future in ended:
+                (status, said), (it, jobs) = future.result(), running.pop(future)
+                if status:
+                    print(said, end="", flush=True)
+                    sys.exit(f"== {it.name} was not proved")
+                done.add(it)
+                free += jobs
+    for it in held:
+        os.close(it)
+
+
+if __name__ == "__main__":
+    main()
