@@ -75,8 +75,8 @@ lines-preserved g c =
             (c.in-Ok.ensures.lasts told (c.lines.invariant.trusts told h)),
       );
       trusts = λ told h. c.in-Ok.ensures.trusts told (c.lines.invariant.trusts told h);
-      carries = λ told. carries_then _ (g.F.Pages.files c.lines.folder) _ _ c.lines.session.set _ (c.lines.invariant.carries told)
-          (c.in-Ok.ensures.carries told);
+      carries = λ told. carries_then _ (g.F.Pages.files c.lines.folder) _ c.args.session.now.set c.lines.session.set c.answer_line.new.session.set
+          (c.lines.invariant.carries told) (c.in-Ok.ensures.carries told);
       counted = omega (arith, c.lines.invariant.counted, at_most_one _ _ c.from-refused.ensures);
       folder_later = omega (arith, c.lines.invariant.folder_later, c.answer_line.ensures.cause.folder_later);
       sink_later = omega (arith, c.lines.invariant.sink_later, c.answer_line.ensures.cause.sink_later);
