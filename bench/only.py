@@ -73,8 +73,9 @@ def stub(root, place, body):
     proofs = f"{root}/crates/{crate}/proofs"
     places = [at for at, _, _ in os.walk(proofs) if is_of(f"{at}/{function}", source)]
     [folder] = ([f"{at}/{function}" for at in places if glob.glob(f"{at}/{function}/*.antt")]
-                # one that search proves has no folder: beside another one of its type
-                or [f"{at}/{function}" for at in places if os.path.basename(at)[:1].isupper()])
+                # one that search proves has no folder: beside another one of its type, or of its file
+                or [f"{at}/{function}" for at in places if os.path.basename(at)[:1].isupper()]
+                or [f"{proofs}/{file.removesuffix('.rt')}/{function}"])
     shutil.rmtree(folder, ignore_errors=True)
     os.makedirs(folder)
     module = ".".join(["Rattle", crate, "proofs", *os.path.relpath(folder, proofs).split("/"), "Statement"])

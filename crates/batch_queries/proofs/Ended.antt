@@ -14,7 +14,8 @@ use Rattle.index_model.specs.declared.session.Applied.TheVariants as applied
 use Rattle.stored_index.specs.Kept.{SameKept}
 use Rattle.stored_index.specs.Stored.{IsStored}
 use Rattle.stored_index.proofs.KeptFiles.{kept_after}
-use Rattle.index_opening.proofs.Evident.{on_evident_less}
+use Rattle.page_cache.specs.Evidence.{NotDamaged}
+use Rattle.index_opening.proofs.Evident.{none_evident, on_evident_less}
 use Rattle.segment_view.specs.LiveSegments.{LiveSegment}
 use Rattle.file_names.specs.Names.{is_named}
 use Rattle.segment_set.specs.Kept.{Follows, IsSubset}
@@ -53,16 +54,16 @@ ended_is D files i s before after (applied.Refused why) h = absurd h
 module _ (D : ℕ) (told : Type 0) (ids : List ℕ) (i : Index) (a b : StepMoment) where
   -- a fault of the call that ends it
   pub end_stopped : {T : Type 0} (fault : PageFault) (r : Result T PageFault) → r ≡ Err fault
-      → Applies D told (λ j. step_on j asks.MergeEnd) false a b (Err fault)
+      → Applies D told (λ j. step_on j asks.MergeEnd) false a b (Err fault) → NotDamaged {T = T} (Err fault)
       → EndsMerge D told ids i (moment_of a) (moment_of b) r
-  end_stopped {T} fault r is ends = subst (EndsMerge D told ids i (moment_of a) (moment_of b)) (sym is) (record {
+  end_stopped {T} fault r is ends whole = subst (EndsMerge D told ids i (moment_of a) (moment_of b)) (sym is) (record {
     keeps = λ t g. inl (ends.keeps.kept t g.trusts.guards);
     done = λ t g. tt;
     undone = λ t g. fault_kept a.files b.files (ends.keeps.kept t g.trusts.guards) fault;
     lasting = λ t g. inl (ends.keeps.kept t g.trusts.guards);
     whole = λ t g. ends.faults.whole t (merging i) g.seen (λ e. g.trusts.guards);
     cause = fault_to a.faults b.faults fault ends.faults.cause;
-    evident = ends.faults.evident;
+    evident = none_evident {X = T} (told × Trusts D a.files a.session) b.files (Err fault) whole;
   })
 
   module _ (x : Applied) (ends : Applies D told (λ j. step_on j asks.MergeEnd) false a b (Ok x)) where

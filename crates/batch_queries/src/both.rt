@@ -5,6 +5,7 @@ ghost use Rattle.std.specs.Thread.{IsSync};
 ghost use Rattle.script_lang.specs.Requests as asks;
 ghost use Rattle.script_lang.specs.Seen.{IsWithinLimits, request_of};
 ghost use Rattle.index_model.specs.Step.{step_on};
+ghost use Rattle.index_core.specs.Damages.{ShowsDamage};
 ghost use Rattle.index_core.specs.Effects.{HasBegun, Leaves, OnDone};
 ghost use Rattle.index_core.specs.Steps.{Applies, is_committing};
 ghost use Rattle.batch_run.specs.Queries.{IsInRange};
@@ -120,6 +121,8 @@ pub(crate) fn apply<const D: usize, R: Threads + Sync, F: Folder, G: Gate>(
     ensures leaves { OnDone result
         (Leaves D (IsTrue F.told) (request_of command.now) (F.files folder.old) (F.files folder.new) session.old.set
         session.new.set) }
+    ensures damage { ShowsDamage D (IsTrue F.told) (request_of command.now) (F.files folder.old)
+        (F.files folder.new) session.old session.new result }
 {
     session.apply(rt, alloc, folder, command, text, gate)
 }

@@ -170,8 +170,8 @@ pub reads_evident : {T : Type 0} (D : ℕ) (told : Type 0) (files : Files) (part
     → OnDamage r (IsEvident (told × AreTrue D files parts cache) files)
 reads_evident D told files parts cache r damage shown =
     on_part_evident (λ file. ⊥) (IsTwice files) (told × AreTrue D files parts cache) D files parts r
-    (λ t. All-weaker (HasOwnHead D files) (λ (p : LiveSegment). ∥ IsHeadIn files D p.head ∥₁) (λ p h. merely h) parts t.1.1.0)
-    (λ t p there. inl (inr (All-contains (λ (q : LiveSegment). IsOfListed files (Segment q.head.id)) parts p t.1.1.1 there)))
+    (λ t. All-weaker (HasOwnHead D files) (λ (p : LiveSegment). ∥ IsHeadIn files D p.head ∥₁) (λ p h. merely h) parts t.1.1)
+    (λ t p there. inl (inr (All-contains (λ (q : LiveSegment). IsOfListed files (Segment q.head.id)) parts p t.1.2 there)))
     (λ t. damage t.0 t.1.0) shown
 
 -- ---- a line

@@ -32,7 +32,8 @@ counting_at D old new parts s same = subst (λ (f : Files). IsCounting D f parts
 
 pub true_at : (D : ℕ) (old new : Files) (parts : List LiveSegment) (before after : PageCache) → new ≡ old → (Agrees old before → Agrees new after)
     → AreTrue D old parts before → AreTrue D new parts after
-true_at D old new parts before after same agrees h = (agrees h.0, (subst (λ (f : Files). AreTrue D f parts before) (sym same) h).1)
+true_at D old new parts before after same agrees h =
+    let still = subst (λ (f : Files). AreTrue D f parts before) (sym same) h in (agrees h.0, still.1, still.2)
 
 -- what shows that no state is stored is no damage of files that store one
 pub never_stored : (files : Files) (state : State) (fault : PageFault) → IsStored files state → FaultShows (λ _. IsUndefined files) fault

@@ -17,6 +17,7 @@ pub returns-in_err-apply : goal.returns-in_err-apply
 returns-in_err-apply g c = λ ids i.
     let p = err_from_is_err_and c.from_residual.result c.from_residual.ensures.1 in
     end_stopped g.row.D _ ids i _ _ c.in_err-apply.field-0.0 _ (p.1 ∙ ap (λ (e : PageFault). Err e) p.2) c.in_err-apply.ensures.applies
+    c.in_err-apply.ensures.damage
 
 pub returns : goal.returns
 returns g c = λ ids i.
