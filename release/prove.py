@@ -65,6 +65,8 @@ def main():
     if len(sys.argv) != 2 or not shutil.which("rt"):
         sys.exit(__doc__.strip())
     rt = kit()
+    # (it sets what the signals do, which only this thread may)
+    rt.guarded()
     folder = f"{ROOT}/crates/{sys.argv[1]}"
     os.chdir(folder)
     last = rt.Crate(folder, ROOT, {})
