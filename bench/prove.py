@@ -1,33 +1,21 @@
 #!/usr/bin/env python3
 """Proves a crate and all that it stands on, side by side on all processors.
 
-usage: release/prove.py CRATE        it tells each crate as it begins, in a line `== NAME`
+usage: bench/prove.py CRATE        it tells each crate as it begins, in a line `== NAME`
 
-Of the crates whose libraries below are proved the one with the longest way to CRATE before it begins first, with two
-processors, or those that no other takes, up to four. What is proved already is kept, as `rt check` keeps it; rt itself takes one
-crate after the other, or each with one processor. It asks the kit's own rtlib.py for all that it does.
+Of the crates that can begin the one with the longest way to CRATE comes first, with two processors, or with those that
+no other takes, up to four. What is proved already is kept, as `rt check` keeps it; rt itself takes one crate after the
+other, or each with one processor. It asks the kit's own rtlib.py for all that it does.
 """
 import concurrent.futures
-import importlib.machinery
-import importlib.util
 import os
 import shutil
 import sys
 import tempfile
 
-ROOT = os.path.realpath(os.path.join(os.path.dirname(os.path.abspath(__file__)), ".."))
+from only import ROOT, kit
+
 MOST_JOBS = 4
-
-
-def kit():
-    """Returns the library that `rt` of this machine works by."""
-    sys.dont_write_bytecode = True
-    path = os.path.join(os.path.dirname(os.path.realpath(shutil.which("rt"))), "rtlib.py")
-    loader = importlib.machinery.SourceFileLoader("rtlib", path)
-    module = importlib.util.module_from_spec(importlib.util.spec_from_loader("rtlib", loader))
-    sys.modules["rtlib"] = module
-    loader.exec_module(module)
-    return module
 
 
 def size(crate):
