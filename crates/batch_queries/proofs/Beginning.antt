@@ -19,7 +19,7 @@ use Rattle.index_model.specs.Step.{Refused, done_ok, step_on}
 use Rattle.index_model.specs.declared.session.Applied.{Applied}
 use Rattle.index_model.specs.declared.session.Applied.TheVariants as applied
 use Rattle.stored_index.proofs.KeptFiles.{kept_itself}
-use Rattle.index_opening.specs.Evidence.{IsTwice}
+use Rattle.index_opening.specs.Evidence.{IsOfEntries}
 use Rattle.index_opening.proofs.Evident.{on_evident_named}
 use Rattle.segment_view.specs.LiveSegments.{ids_of}
 use Rattle.file_names.specs.Names.{is_named}
@@ -108,7 +108,7 @@ module _ (D : ℕ) (told : Type 0) (r : Resident D) where
       kept = λ t o. begins.keeps.kept t o.trusts.guards;
       whole = λ t o. begins.faults.whole t o.index (o.seen o.index o.stored) (λ e. o.trusts.guards);
       cause = fault_to a.faults b.faults fault begins.faults.cause;
-      evident = on_evident_named {X = Applied} (IsFileOf a.files b.files a.session.set) (λ _. ⊥) (IsTwice b.files) (told × Trusts D a.files a.session)
+      evident = on_evident_named {X = Applied} (IsFileOf a.files b.files a.session.set) (λ _. ⊥) (IsOfEntries b.files) (told × Trusts D a.files a.session)
           (told × AreOpen D a.files r a.session) b.files (Err fault) (λ h. (h.0, h.1.trusts))
           (λ h file o. merely (inl (inr (listed_kept a.files b.files file (begins.keeps.kept h.0 h.1.trusts.guards)
           (listed_file a.files b.files a.session.set h.1.own file o)))))

@@ -13,7 +13,7 @@ use Rattle.page_cache.proofs.Damages.{on_damage_weaker}
 use Rattle.segment_set.specs.Faithful.{IsFaithful}
 use Rattle.segment_set.specs.Seen.{Sees}
 use Rattle.index_core.specs.Carried.{AreOfListed}
-use Rattle.index_core.specs.Sessions.{AreTraced, Guards, IsUnchanged, SessionData}
+use Rattle.index_core.specs.Sessions.{Guards, IsSetTraced, IsUnchanged, SessionData}
 use Rattle.batch_run.specs.declared.resident.Resident.{Resident}
 use Rattle.batch_run.specs.Copies.{IsCommitIn}
 use Rattle.batch_run.specs.Residents.{IsCopyIn, IsCopyOf}
@@ -30,7 +30,7 @@ pub opened : (D : ℕ) (first middle last : Files) (c : CommitData) (r : Residen
     → IsCopyIn first c r
     → (IsCommitIn middle c → (i : Index) → IsStored middle (Some i) → Sees D middle s.set i) → (IsCommitIn middle c → Guards D middle s)
     → IsFaithful D middle s.set
-    → (IsCommitIn middle c → AreTraced D middle s.set.parts) → (IsCommitIn middle c → AreOfListed middle s.set) → IsUnchanged s → AreOpen D last r s
+    → (IsCommitIn middle c → IsSetTraced D middle s.set) → (IsCommitIn middle c → AreOfListed middle s.set) → IsUnchanged s → AreOpen D last r s
 opened D first middle last c r s same again says copy seen guards faithful traced own unchanged =
     subst (λ (f : Files). AreOpen D f r s) (sym again) (record {
       index = index_of c there.0;

@@ -67,7 +67,7 @@ pub record CountCosts (source : Type 0) (lines : List (List ℕ)) (old new : Fil
   pub reads : source → counts.ReadsFew old lines before now
 
 -- A command that is done as a whole leaves few segments of each level. Whatever the folder holds, it loses nothing that
--- is kept where it isn't done, and no document that is kept live
+-- is kept where it isn't done, and no number that is kept live
 pub record WholeLeaves (old new : Files) (s : Status) : Type 0 where
   pub levels : (state : State) → IsStored old state → IsAnswer s → KeepsLevels old new
   pub undone : StatusKeeps old new s

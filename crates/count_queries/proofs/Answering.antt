@@ -19,7 +19,7 @@ use Rattle.index_model.specs.State.{Index, State}
 use Rattle.segment_view.specs.LiveSegments.{LiveSegment}
 use Rattle.segment_view.specs.Held.{HasOwnHead}
 use Rattle.segment_view.specs.Damages.{IsPartDamage}
-use Rattle.index_opening.specs.Evidence.{IsEvident, IsHeadIn, IsOfListed, IsTwice}
+use Rattle.index_opening.specs.Evidence.{IsEvident, IsHeadIn, IsOfListed, IsOfEntries}
 use Rattle.index_opening.proofs.LeafEvident.{on_part_evident}
 use Rattle.script_lang.specs.Replies.{line_fault_text, refusal_text}
 use Rattle.script_lang.specs.declared.faults.LineFault.{LineFault}
@@ -169,7 +169,7 @@ pub reads_evident : {T : Type 0} (D : ℕ) (told : Type 0) (files : Files) (part
     → (told → Agrees files cache → OnDamage r (IsLeafDamageOf files)) → OnDamage r (IsPartDamage D parts)
     → OnDamage r (IsEvident (told × AreTrue D files parts cache) files)
 reads_evident D told files parts cache r damage shown =
-    on_part_evident (λ file. ⊥) (IsTwice files) (told × AreTrue D files parts cache) D files parts r
+    on_part_evident (λ file. ⊥) (IsOfEntries files) (told × AreTrue D files parts cache) D files parts r
     (λ t. All-weaker (HasOwnHead D files) (λ (p : LiveSegment). ∥ IsHeadIn files D p.head ∥₁) (λ p h. merely h) parts t.1.1)
     (λ t p there. inl (inr (All-contains (λ (q : LiveSegment). IsOfListed files (Segment q.head.id)) parts p t.1.2 there)))
     (λ t. damage t.0 t.1.0) shown

@@ -26,7 +26,7 @@ use Rattle.script_lang.specs.Replies.{line_fault_text}
 use Rattle.segment_set.specs.Sets.{SetData}
 use Rattle.segment_set.specs.Seen.{Sees}
 use Rattle.segment_set.specs.Kept.{StaysButCache}
-use Rattle.index_opening.specs.Evidence.{IsEvident, IsEvidentOf, IsOfListed, IsOfPart, IsTwice}
+use Rattle.index_opening.specs.Evidence.{IsEvident, IsEvidentOf, IsOfListed, IsOfPart, IsOfEntries}
 use Rattle.index_opening.proofs.Evident.{on_evident_named}
 use Rattle.segment_set.specs.Faithful.{IsFaithful}
 use Rattle.explain_queries.specs.Explained.{Scope, Tells, TellsIn, TellsLine, TellsOn, TellsReading, reach}
@@ -134,7 +134,7 @@ looks_knows D told old new tells r looks t knows = record {
 
 looks_shows : {T : Type 0} (D : ℕ) (told : Type 0) (old new : ExplainMoment) (tells : Telling) (r : Result T PageFault) → Looks D told old new tells r
     → OnDamage r (IsEvident (told × KnowsFiles D old.files old.set) new.files)
-looks_shows D told old new tells r looks = on_evident_named (IsOfPart old.set.parts) (λ _. ⊥) (IsTwice new.files) (told × IsFaithful D old.files old.set)
+looks_shows D told old new tells r looks = on_evident_named (IsOfPart old.set.parts) (λ _. ⊥) (IsOfEntries new.files) (told × IsFaithful D old.files old.set)
     (told × KnowsFiles D old.files old.set) new.files r (λ (t, knows). (t, knows.faithful))
     (λ (t, knows) file (p, there, is). merely (inl (inr (subst (IsOfListed new.files) (sym is)
     (subst (λ (f : Files). IsOfListed f (Segment p.head.id)) (sym (looks.files t)) (knows.listed p there))))))

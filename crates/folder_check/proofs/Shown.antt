@@ -1,5 +1,5 @@
 -- What a damage that was found shows.
-use Rattle.std.proofs.Common.{◌≢◌, ℕ, List, Result, refl, sym, subst, ◌∙◌, Option, arith}
+use Rattle.std.proofs.Common.{◌≢◌, ℕ, List, Result, refl, sym, subst, ◌∙◌, Option, inl, arith}
 use Rattle.std.specs.Prelude.{IfSome}
 use Rattle.std.specs.List.{AllZip}
 use Rattle.std.proofs.lemmas.Grind.{merely}
@@ -17,8 +17,8 @@ use Rattle.stored_index.specs.Segments.{SegmentData, live_entries}
 use Rattle.stored_index.proofs.Pairwise.{partner_of}
 use Rattle.segment_view.specs.LiveSegments.{live_segment}
 use Rattle.document_checks.specs.Crowded.{IsLeastCrowded}
-use Rattle.index_opening.specs.Evidence.{HasNoBody, HoldsEntries, InSegment, IsEvident, IsHeadIn, IsTrueOf, IsTwice, LacksLeaf}
-use Rattle.index_opening.specs.Evidence.{InCommit, InLive, IsFilePair, IsFound, NamesLooked, OfFiles}
+use Rattle.index_opening.specs.Evidence.{HasNoBody, HoldsEntries, InSegment, IsEvident, IsHeadIn, IsTrueOf, IsOfEntries, LacksLeaf}
+use Rattle.index_opening.specs.Evidence.{InCommit, InLive, IsFilePair, IsFound, NamesLooked}
 use Rattle.folder_check.specs.declared.findings.Finding.{Finding}
 use Rattle.folder_check.specs.Found.{TooMany, Crowding, HasAll, IsMoreThanGiven, IsCrowding, IsLacking, IsWrong, Lacking}
 use Rattle.folder_check.proofs.Gathered.{HoldsBut, IsFoundIn, IsTalliedIn, all_held, all_tallied, entries_found}
@@ -44,14 +44,14 @@ module _ (files : Files) (c : CommitData) (held : List SegmentData) (findings : 
   tallied : AllZip HasAll c.listed findings → AllZip IsTalliedIn held findings
   tallied all = all_tallied files c c.listed held findings g.but g.found all
 
-  crowding_carried : AllZip HasAll c.listed findings → (d : Damage) → IsCrowding findings d → IsTrueOf (λ file. ⊥) (IsTwice files) files d
+  crowding_carried : AllZip HasAll c.listed findings → (d : Damage) → IsCrowding findings d → IsTrueOf (λ file. ⊥) (IsOfEntries files) files d
   crowding_carried all d (number, tells, least) =
       let at = partner_of IsTalliedIn held findings (tallied all) least.finding least.there in
       let e : SegmentData = at.0 in
       let part = partner_of (HoldsBut files c) c.listed held g.but e at.1 in
       let s : Listed = part.0 in
       let crowded : IsLeastCrowded number (live_entries e) = subst (λ (o : Option ℕ). IfSome o (λ n. IsLeastCrowded n (live_entries e))) least.is at.2.some in
-      subst (IsTrueOf (λ file. ⊥) (IsTwice files) files) (sym tells)
+      subst (IsTrueOf (λ file. ⊥) (IsOfEntries files) files) (sym tells)
       (InSegment c g.says s part.1 (live_segment e.head e.live) part.2.id part.2.live (record {
         items = e.entries;
         held = subst (λ id. IsSegment c.dims (bytes_of (files (Segment id))) e.head e.entries) (sym part.2.id) part.2.segment;
@@ -63,10 +63,10 @@ module _ (files : Files) (c : CommitData) (held : List SegmentData) (findings : 
       InCommit c g.says held (all_held files c c.listed held findings g.but g.found all) refl refl
       (b.is (entries_fit files c held findings g all) ∙ entries_found held findings (tallied all))
 
-  wrong_carried : (d : Damage) → IsWrong c.listed c.points_given findings d → IsTrueOf (λ file. ⊥) (IsTwice files) files d
-  wrong_carried d (Lacking l) = subst (IsTrueOf (λ file. ⊥) (IsTwice files) files) (sym l.tells) (OfFiles (lacking_pair d l))
+  wrong_carried : (d : Damage) → IsWrong c.listed c.points_given findings d → IsTrueOf (λ file. ⊥) (IsOfEntries files) files d
+  wrong_carried d (Lacking l) = subst (IsTrueOf (λ file. ⊥) (IsOfEntries files) files) (sym l.tells) (inl (lacking_pair d l))
   wrong_carried d (Crowding all crowd) = crowding_carried all d crowd
-  wrong_carried d (TooMany all none b) = subst (IsTrueOf (λ file. ⊥) (IsTwice files) files) (sym b.tells) (OfFiles (given_pair all d b))
+  wrong_carried d (TooMany all none b) = subst (IsTrueOf (λ file. ⊥) (IsOfEntries files) files) (sym b.tells) (inl (given_pair all d b))
 
   wrong_named : (d : Damage) → IsWrong c.listed c.points_given findings d → NamesLooked files d
   wrong_named d (Lacking l) = subst (NamesLooked files) (sym l.tells) (lacking_pair d l)

@@ -1,28 +1,27 @@
 -- A session that makes the index, call after call.
 use Rattle.std.proofs.Common.{◌≡◌, ◌+◌, ℕ, List, [], ◌∷◌, ◌++◌, Result, Ok, Err, refl, sym, ap, subst, ◌∙◌, ℤ}
-use Rattle.std.specs.List.{Contains}
 use Rattle.outer_io.specs.Files.{Files}
 use Rattle.page_cache.specs.declared.faults.PageFault.{PageFault}
 use Rattle.page_cache.specs.declared.faults.PageFault.TheVariants as page
 use Rattle.page_cache.specs.Causes.{HasPageCause}
 use Rattle.page_cache.specs.Evidence.{NotDamaged, OnDamage}
 use Rattle.documents.specs.Documents.{Document}
-use Rattle.documents.proofs.Lists.{nil_none}
 use Rattle.index_model.specs.State.{Index, new_index}
 use Rattle.stored_index.specs.Kept.{SameKept}
 use Rattle.stored_index.proofs.KeptFiles.{kept_after, kept_itself}
-use Rattle.segment_view.specs.LiveSegments.{LiveSegment}
+use Rattle.segment_set.specs.Sets.{SetData}
+use Rattle.segment_set.specs.Kept.{StaysButCache}
 use Rattle.segment_set.specs.Seen.{Sees}
 use Rattle.index_opening.specs.Evidence.{IsEvidentOf}
 use Rattle.segment_set.specs.Faithful.{IsFaithful}
 use Rattle.index_opening.proofs.Evident.{on_evident_less}
-use Rattle.index_core.specs.Sessions.{AreTraced, Guards, IsTraced, SessionData, Trusts}
+use Rattle.index_core.specs.Sessions.{Guards, IsSetTraced, SessionData, Trusts}
 use Rattle.index_core.specs.Effects.{BringsCanonical}
 use Rattle.index_core.specs.Whole.{Adds, SessionMoment, with_points}
 use Rattle.index_core.proofs.Answering.{no_cause}
 use Rattle.index_core.proofs.FaultCauses.{fault_to}
 use Rattle.index_core.proofs.Bringing.{brings_same, brings_then}
-use Rattle.index_core.proofs.Tracing.{parts_shows}
+use Rattle.index_core.proofs.Tracing.{parts_shows, traced_read}
 use Rattle.drawn_points.specs.Draws.{point}
 use Rattle.drawn_points.specs.Generated.{document, documents, kept_docs}
 use Rattle.generate_index.specs.Generates.{IsDrawn, Makes, drawn_index}
@@ -53,13 +52,9 @@ pub makes_trusts : {T : Type 0} (told : Type 0) (Before After : At) (a b : Sessi
 makes_trusts told Before After a b r makes t trusts =
     record { guards = makes.guards t trusts.guards; faithful = makes.faithful t trusts.faithful; traced = makes.traced t trusts }
 
--- a new session has no segment
-pub created_trusts : (files : Files) (s : SessionData) → Guards 2 files s → IsFaithful 2 files s.set → s.set.parts ≡ [] → Trusts 2 files s
-created_trusts files s guards faithful bare = record {
-  guards = guards;
-  faithful = faithful;
-  traced = λ p there. nil_none p (IsTraced 2 files p) (subst (λ (ps : List LiveSegment). Contains ps p) bare there);
-}
+-- a new session
+pub created_trusts : (files : Files) (s : SessionData) → Guards 2 files s → IsFaithful 2 files s.set → IsSetTraced 2 files s.set → Trusts 2 files s
+created_trusts files s guards faithful traced = record { guards = guards; faithful = faithful; traced = traced }
 
 -- some of it is made, and then the rest
 pub makes_then : {T U : Type 0} (told : Type 0) (Before Between After : At) (a b c : SessionMoment) (x : U) (r : Result T PageFault)
@@ -124,22 +119,20 @@ makes_add told seed n p a b r drawn all more_all more adds = record {
 -- a call that only reads
 pub makes_reads : {T : Type 0} (told : Type 0) (i : Index) (a b : SessionMoment) (r : Result T PageFault)
     → (told → Sees 2 a.files a.session.set i → Sees 2 b.files b.session.set i)
-    → (told → Guards 2 a.files a.session → Guards 2 b.files b.session) → (told → b.files ≡ a.files) → b.session.set.parts ≡ a.session.set.parts
+    → (told → Guards 2 a.files a.session → Guards 2 b.files b.session) → (told → b.files ≡ a.files) → StaysButCache a.session.set b.session.set
     → HasPageCause a.faults b.faults r
     → (told → Sees 2 a.files a.session.set i → NotDamaged r) → (told → IsFaithful 2 a.files a.session.set → IsFaithful 2 b.files b.session.set)
     → OnDamage r (IsEvidentOf a.session.set.parts (told × IsFaithful 2 a.files a.session.set) b.files)
     → Makes told (λ (at : SessionMoment). Sees 2 at.files at.session.set i) (λ (at : SessionMoment). Sees 2 at.files at.session.set i) a b r
-makes_reads told i a b r seen guards files parts cause whole faithful evident = record {
+makes_reads told i a b r seen guards files rest cause whole faithful evident = record {
   made = λ t before. on_ok_any r (seen t before);
   guards = guards;
   kept = λ t g. subst (λ (f : Files). SameKept a.files f) (sym (files t)) (kept_itself a.files);
-  canon = λ t. brings_same 2 a.files b.files a.session.set.parts b.session.set.parts (files t) parts;
+  canon = λ t. brings_same 2 a.files b.files a.session.set.parts b.session.set.parts (files t) (ap (λ (u : SetData). u.parts) rest.is);
   cause = cause;
   whole = whole;
   faithful = faithful;
-  traced = λ t trusts.
-      subst (λ (ps : List LiveSegment). AreTraced 2 b.files ps) (sym parts)
-      (subst (λ (f : Files). AreTraced 2 f a.session.set.parts) (sym (files t)) trusts.traced);
+  traced = λ t trusts. traced_read 2 a.files b.files a.session.set b.session.set rest (files t) trusts.traced;
   evident = parts_shows 2 told a.files b.files a.session r files evident;
 }
 
@@ -148,7 +141,7 @@ pub makes_deletes : {T : Type 0} (told : Type 0) (seed n : ℕ) (files : Files) 
     → ((files : Files) (faults seed : ℕ) → IsDrawn seed n 0 (record { files = files; session = s; faults = faults })
     → IsDrawn seed n n (record { files = files; session = t; faults = faults }))
     → ((files : Files) → Guards 2 files s → Guards 2 files t) → ((files : Files) → IsFaithful 2 files s.set → IsFaithful 2 files t.set)
-    → ((files : Files) → AreTraced 2 files s.set.parts → AreTraced 2 files t.set.parts)
+    → ((files : Files) → IsSetTraced 2 files s.set → IsSetTraced 2 files t.set)
     → ((files : Files) → BringsCanonical 2 files files s.set.parts t.set.parts)
     → Makes told (IsDrawn seed n 0) (IsDrawn seed n n) (record { files = files; session = s; faults = faults })
     (record { files = files; session = t; faults = faults }) (Ok x)

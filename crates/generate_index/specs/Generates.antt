@@ -10,7 +10,7 @@ use Rattle.segment_set.specs.Seen.{Sees}
 use Rattle.index_opening.specs.Evidence.{IsEvident}
 use Rattle.segment_set.specs.Faithful.{IsFaithful}
 use Rattle.index_core.specs.Effects.{BringsCanonical}
-use Rattle.index_core.specs.Sessions.{AreTraced, Guards, Trusts}
+use Rattle.index_core.specs.Sessions.{Guards, IsSetTraced, Trusts}
 use Rattle.index_core.specs.Whole.{SessionMoment}
 use Rattle.drawn_points.specs.Generated.{documents, kept_docs}
 
@@ -38,5 +38,5 @@ pub record Makes {T : Type 0} (told : Type 0) (Before After : SessionMoment → 
   pub cause : HasPageCause old.faults new.faults result
   pub whole : told → Before old → NotDamaged result
   pub faithful : told → IsFaithful 2 old.files old.session.set → IsFaithful 2 new.files new.session.set
-  pub traced : told → Trusts 2 old.files old.session → AreTraced 2 new.files new.session.set.parts
+  pub traced : told → Trusts 2 old.files old.session → IsSetTraced 2 new.files new.session.set
   pub evident : OnDamage result (IsEvident (told × Trusts 2 old.files old.session) new.files)

@@ -12,7 +12,7 @@ ghost use Rattle.stored_index.specs.Stored.{IsStored};
 ghost use Rattle.index_opening.specs.Evidence.{IsEvident};
 ghost use Rattle.segment_set.specs.Faithful.{IsFaithful};
 ghost use Rattle.index_core.specs.Brought.{KeepsCommit};
-ghost use Rattle.index_core.specs.Sessions.{AreTraced, Guards};
+ghost use Rattle.index_core.specs.Sessions.{Guards, IsSetTraced};
 ghost use Rattle.index_core.specs.Effects.{BringsCanonical};
 ghost use Rattle.index_core.specs.KeptLive.{KeepsLive};
 ghost use Rattle.index_core.specs.Light.{KeepsLevels};
@@ -196,8 +196,7 @@ fn delete_tenths(session: &mut Session<2>, docs: u32) -> u32
         → result ≡ length (made_docs seed docs) }
     ensures guards { (files : Files) → Guards 2 files session.old → Guards 2 files session.new }
     ensures faithful { (files : Files) → IsFaithful 2 files session.old.set → IsFaithful 2 files session.new.set }
-    ensures traced { (files : Files) → AreTraced 2 files session.old.set.parts
-        → AreTraced 2 files session.new.set.parts }
+    ensures traced { (files : Files) → IsSetTraced 2 files session.old.set → IsSetTraced 2 files session.new.set }
     ensures canon { (files : Files) → BringsCanonical 2 files files session.old.set.parts session.new.set.parts }
 {
     documents_deleted();

@@ -25,7 +25,9 @@ use Rattle.stored_index.proofs.KeptFiles.{kept_after, kept_itself}
 use Rattle.segment_set.specs.Sets.{IsWell, SetData}
 use Rattle.segment_set.specs.Seen.{Sees}
 use Rattle.segment_set.specs.Kept.{AreCanonical, Follows, KeepsNamed, StaysButCache}
-use Rattle.index_opening.specs.Evidence.{IsEvidentIn, IsEvidentOf}
+use Rattle.index_opening.specs.Evidence.{IsEvidentOf}
+use Rattle.segment_set.specs.Damages.{IsEvidentIn}
+use Rattle.segment_set.specs.Losing.{KeepsCounts}
 use Rattle.segment_set.specs.Faithful.{IsFaithful}
 use Rattle.segment_set.proofs.Carried.{follows_same, keeps_calm}
 use Rattle.index_opening.proofs.Evident.{on_evident_less}
@@ -107,8 +109,7 @@ adds_then D told xs ys a b c x r first second = record {
 
 -- after a fault it says the same of all that were to come
 pub adds_stopped : {T U : Type 0} (D : ℕ) (told : Type 0) (xs ys : List (List ℤ)) (a b : SessionMoment) (fault : PageFault) (r : Result U PageFault)
-    → r ≡ Err fault
-    → Adds {T = T} D told xs a b (Err fault) → Adds D told ys a b r
+    → r ≡ Err fault → Adds {T = T} D told xs a b (Err fault) → Adds D told ys a b r
 adds_stopped {T = T} {U = U} D told xs ys a b fault r is adds = subst (Adds D told ys a b) (sym is) (record {
   seen = λ t i seen. tt;
   points_given = tt;
@@ -130,6 +131,11 @@ adds_stopped {T = T} {U = U} D told xs ys a b fault r is adds = subst (Adds D to
 
 -- ---- one document
 
+-- a damage is evident of a merge of segments of the set
+abbrev pub IsMergeOf : (D : ℕ) (told : Type 0) → (old new : SessionMoment) → Damage → Type 0
+IsMergeOf D told old new = IsEvidentIn D old.files old.session.set.parts (length old.session.set.buffer) old.session.set.points_given
+    (told × IsFaithful D old.files old.session.set) new.files
+
 -- what the set's call says, in a session whose other parts stay
 pub record IsPut (D : ℕ) (told : Type 0) (point : List ℤ) (old new : SessionMoment) (r : Result ℕ AddFault) : Type 0 where
   pub commit : new.session.commit ≡ old.session.commit
@@ -146,7 +152,8 @@ pub record IsPut (D : ℕ) (told : Type 0) (point : List ℤ) (old new : Session
   pub cause : HasCauseOf add.Failed old.faults new.faults r
   pub whole : told → (i : Index) → Sees D old.files old.session.set i → OnAddDamage r (λ _. ⊥)
   pub faithful : told → IsFaithful D old.files old.session.set → IsFaithful D new.files new.session.set
-  pub evident : OnAddDamage r (IsEvidentIn D old.session.set.parts (told × IsFaithful D old.files old.session.set) new.files)
+  pub counts : told → IsFaithful D old.files old.session.set → KeepsCounts D old.files new.files old.session.set new.session.set
+  pub evident : OnAddDamage r (IsMergeOf D told old new)
 
 put_cause : (before now : ℕ) (r : Result ℕ AddFault) → HasCauseOf add.Failed before now r → HasPageCause before now (add_result r)
 put_cause before now (Ok n) cause = record { later = cause.later; on_ok = cause.on_ok; failed = λ e. absurd cc }
@@ -177,7 +184,8 @@ adds_one D told point old new r put = record {
   stays = record {
     guards = λ t guards. guards_after D told old.files new.files old.session new.session t put.commit put.refused put.keeps put.follows put.grows guards;
     faithful = put.faithful;
-    traced = λ t trusts. traced_by D told old.files new.files old.session new.session.set t put.keeps put.follows (put.second t) trusts;
+    traced = λ t trusts. traced_by D told old.files new.files old.session new.session.set t put.keeps put.follows (put.second t) put.grows.points_given
+        (put.counts t) trusts;
     carries = λ t. carries_written D told old.files new.files old.session old.session new.session.set refl t put.keeps put.follows (put.second t) put.well
         put.snapshots;
   };
@@ -189,7 +197,7 @@ adds_one D told point old new r put = record {
     cause = put_cause old.faults new.faults r put.cause;
     whole = λ t i seen. put_shows (λ _. ⊥) r (put.whole t i seen);
     evident = traced_shows D told old.files new.files old.session new.session.set.names (add_result r) put.keeps put.well.named
-        (put_shows (IsEvidentIn D old.session.set.parts (told × IsFaithful D old.files old.session.set) new.files) r put.evident);
+        (put_shows (IsMergeOf D told old new) r put.evident);
   };
 }
 

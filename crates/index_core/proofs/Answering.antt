@@ -16,8 +16,9 @@ use Rattle.stored_index.proofs.KeptFiles.{kept_itself}
 use Rattle.segment_set.specs.Sets.{IsNamed, SetData}
 use Rattle.segment_set.specs.Seen.{Sees}
 use Rattle.segment_set.specs.Kept.{Follows, KeepsNamed}
-use Rattle.index_opening.specs.Evidence.{IsEvident, IsEvidentIn, IsTwice}
+use Rattle.index_opening.specs.Evidence.{IsEvident, IsOfEntries}
 use Rattle.segment_set.specs.Faithful.{IsFaithful}
+use Rattle.segment_set.specs.Losing.{KeepsCounts}
 use Rattle.index_opening.proofs.Evident.{none_with, on_evident_wider, on_less_with}
 use Rattle.index_core.specs.Carried.{IsEvidentOver, IsFileOf}
 use Rattle.index_core.specs.Sessions.{SessionData, Trusts}
@@ -26,7 +27,8 @@ use Rattle.index_core.specs.Steps.{Applies, DoesOver, StepMoment}
 use Rattle.index_core.proofs.Bringing.{brings_same}
 use Rattle.index_core.proofs.Carrying.{ViewsStay, carries_by, stays_itself}
 use Rattle.index_core.proofs.Guarding.{Grows, guards_after, kept_after_calls}
-use Rattle.index_core.proofs.Tracing.{calm_shows, traced_after, traced_shows}
+use Rattle.index_core.proofs.Accounting.{accounted_after}
+use Rattle.index_core.proofs.Tracing.{OnMerge, calm_shows, excess_kept, traced_after, traced_shows}
 use Rattle.index_core.proofs.FaultCauses.{memory_cause, done_cause, fault_cause}
 
 -- ---- texts
@@ -73,6 +75,7 @@ pub record IsCalm (D : ℕ) (told : Type 0) (old new : StepMoment) : Type 0 wher
   pub follows : Follows old.session.set.names old.session.set.parts new.session.set.parts
   pub brings : told → BringsCanonical D old.files new.files old.session.set.parts new.session.set.parts
   pub views : told → ViewsStay old.files new.files old.session.set new.session.set
+  pub counts : told → IsFaithful D old.files old.session.set → KeepsCounts D old.files new.files old.session.set new.session.set
   pub faithful : told → IsFaithful D old.files old.session.set → IsFaithful D new.files new.session.set
 
 -- where no other file is needed
@@ -90,9 +93,13 @@ applies_with D told outcome old new r calm does begins cause whole evident = rec
   stays = record {
     guards = λ is_told. guards_after D told old.files new.files old.session new.session is_told calm.commit calm.refused calm.keeps calm.follows calm.grows;
     faithful = calm.faithful;
-    traced = λ is_told trusts.
-        traced_after D told old.files new.files old.session.set new.session.set is_told calm.keeps calm.follows (calm.brings is_told) trusts.guards.set
-        trusts.traced;
+    traced = λ is_told trusts. record {
+      parts = traced_after D told old.files new.files old.session.set new.session.set is_told calm.keeps calm.follows (calm.brings is_told)
+          trusts.guards.set trusts.traced.parts;
+      entries = accounted_after D old.files new.files old.session.set new.session.set
+          (excess_kept D told old.files new.files old.session.set new.session.set.names is_told calm.keeps trusts.guards.set) calm.grows.points_given
+          (calm.counts is_told trusts.faithful) trusts.traced.entries;
+    };
     carries = λ is_told. carries_by D old.files new.files old.session.set new.session.set (calm.brings is_told) (calm.views is_told);
   };
   keeps = record {
@@ -113,7 +120,7 @@ pub applies : (D : ℕ) (told : Type 0) (outcome : Index → Outcome) (old new :
     → OnDamage r (IsEvidentOver old.files old.session.set (told × IsFaithful D old.files old.session.set) new.files)
     → Applies D told outcome false old new r
 applies D told outcome old new r calm does begins cause whole evident = applies_with D told outcome old new r calm does begins cause whole
-    (on_less_with (IsFileOf old.files new.files old.session.set) (IsTwice new.files) (told × IsFaithful D old.files old.session.set)
+    (on_less_with (IsFileOf old.files new.files old.session.set) (IsOfEntries new.files) (told × IsFaithful D old.files old.session.set)
     (told × Trusts D old.files old.session) new.files r (λ (is_told, trusts). (is_told, trusts.faithful)) evident)
 
 -- a call that may merge, whose set has all its segments named
@@ -121,7 +128,7 @@ pub applies_merging : (D : ℕ) (told : Type 0) (outcome : Index → Outcome) (o
     → All (IsNamed old.session.set.names) old.session.set.parts
     → (told → (i : Index) → Sees D old.files old.session.set i → DoesOver D new.files (outcome i) i new.session.set old.text new.text r)
     → Begins old.text new.text → HasPageCause old.faults new.faults r → (told → (i : Index) → Sees D old.files old.session.set i → NotDamaged r)
-    → OnDamage r (IsEvidentIn D old.session.set.parts (told × IsFaithful D old.files old.session.set) new.files) → Applies D told outcome false old new r
+    → OnMerge D told old.files new.files old.session.set r → Applies D told outcome false old new r
 applies_merging D told outcome old new r calm named does begins cause whole evident = applies_with D told outcome old new r calm does begins cause whole
     (strictly (told × Trusts D old.files old.session) old new r
     (traced_shows D told old.files new.files old.session new.session.set.names r calm.keeps named evident))
@@ -131,7 +138,7 @@ pub applies_merging_calm : (D : ℕ) (told : Type 0) (outcome : Index → Outcom
     → (told → new.files ≡ old.files)
     → (told → (i : Index) → Sees D old.files old.session.set i → DoesOver D new.files (outcome i) i new.session.set old.text new.text r)
     → Begins old.text new.text → HasPageCause old.faults new.faults r → (told → (i : Index) → Sees D old.files old.session.set i → NotDamaged r)
-    → OnDamage r (IsEvidentIn D old.session.set.parts (told × IsFaithful D old.files old.session.set) new.files) → Applies D told outcome false old new r
+    → OnMerge D told old.files new.files old.session.set r → Applies D told outcome false old new r
 applies_merging_calm D told outcome old new r calm same does begins cause whole evident = applies_with D told outcome old new r calm does begins cause whole
     (strictly (told × Trusts D old.files old.session) old new r (calm_shows D told old.files new.files old.session r same evident))
 
@@ -157,7 +164,7 @@ applies_still D told outcome files session before after faults r does begins cau
   faults = record {
     cause = cause;
     whole = λ is_told i seen guards. whole;
-    evident = none_with (IsFileOf files files session.set) (IsTwice files) (told × Trusts D files session) files r whole;
+    evident = none_with (IsFileOf files files session.set) (IsOfEntries files) (told × Trusts D files session) files r whole;
   };
 }
 
@@ -194,14 +201,14 @@ pub applies_merging_fault : {T : Type 0} (D : ℕ) (told : Type 0) (outcome : In
     → All (IsNamed old.session.set.names) old.session.set.parts → r ≡ Err fault
     → (told → (i : Index) → Sees D old.files old.session.set i → Sees D new.files new.session.set i) → Begins old.text new.text
     → HasPageCause {T = T} old.faults new.faults (Err fault) → (told → (i : Index) → Sees D old.files old.session.set i → NotDamaged {T = T} (Err fault))
-    → FaultShows (IsEvidentIn D old.session.set.parts (told × IsFaithful D old.files old.session.set) new.files) fault → Applies D told outcome false old new r
+    → OnMerge {X = T} D told old.files new.files old.session.set (Err fault) → Applies D told outcome false old new r
 applies_merging_fault D told outcome old new r fault calm named same seen begins cause whole evident = applies_merging D told outcome old new r calm named
     (λ is_told i sees. subst (DoesOver D new.files (outcome i) i new.session.set old.text new.text) (sym same)
     (does_fault D new.files (outcome i) i new.session.set old.text new.text fault (seen is_told i sees)))
     begins
     (fault_cause old.faults new.faults fault r same cause)
     (λ is_told i sees. subst NotDamaged (sym same) (whole is_told i sees))
-    (subst (λ q. OnDamage q (IsEvidentIn D old.session.set.parts (told × IsFaithful D old.files old.session.set) new.files)) (sym same) evident)
+    (subst (OnMerge D told old.files new.files old.session.set) (sym same) evident)
 
 -- it was done, but there is no memory for the reply: the set is seen as before
 pub applies_unsaid : {T : Type 0} (D : ℕ) (told : Type 0) (outcome : Index → Outcome) (old new : StepMoment) (r : Result Applied PageFault) (x : T)
@@ -261,7 +268,7 @@ applies_told D told outcome old new r is = record {
     cause = is.faults.cause;
     whole = λ is_told. is.faults.whole tt;
     evident =
-        on_less_with (IsFileOf old.files new.files old.session.set) (IsTwice new.files) (Unit {0} × Trusts D old.files old.session)
+        on_less_with (IsFileOf old.files new.files old.session.set) (IsOfEntries new.files) (Unit {0} × Trusts D old.files old.session)
         (told × Trusts D old.files old.session) new.files r (λ (is_told, trusts). (tt, trusts)) is.faults.evident;
   };
 }

@@ -16,6 +16,8 @@ use Rattle.segment_set.specs.declared.faults.SnapFault.TheVariants as snap
 use Rattle.segment_set.specs.Sets.{SetData, set_snapped}
 use Rattle.segment_set.specs.Kept.{Follows, StaysButCache}
 use Rattle.segment_set.specs.Faithful.{IsFaithful}
+use Rattle.segment_set.specs.Losing.{KeepsCounts}
+use Rattle.segment_set.proofs.Counts.{counts_read, counts_same}
 use Rattle.segment_set.proofs.Carried.{follows_same, keeps_calm}
 use Rattle.index_core.specs.Effects.{BringsCanonical}
 use Rattle.index_core.specs.Replies.{snap_answer, text_after}
@@ -31,10 +33,10 @@ use Rattle.index_core.proofs.Guarding.{Grows, grows_like}
 pub calm_like : (D : ℕ) (told : Type 0) (files after : Files) (s t : SetData) (commit : Option CommitData) (refused : Bool) (text new_text : List ℕ)
     (faults new_faults : ℕ) → t.names ≡ s.names → Grows s t
     → Follows s.names s.parts t.parts → (told → after ≡ files) → (told → BringsCanonical D files after s.parts t.parts) → (told → ViewsStay files after s t)
-    → (told → IsFaithful D files s → IsFaithful D after t)
+    → (told → KeepsCounts D files after s t) → (told → IsFaithful D files s → IsFaithful D after t)
     → IsCalm D told (record { files = files; session = record { set = s; commit = commit; refused = refused }; text = text; faults = faults })
     (record { files = after; session = record { set = t; commit = commit; refused = refused }; text = new_text; faults = new_faults })
-calm_like D told files after s t commit refused text new_text faults new_faults names grows follows same brings views faithful = record {
+calm_like D told files after s t commit refused text new_text faults new_faults names grows follows same brings views counts faithful = record {
   commit = refl;
   refused = refl;
   grows = grows;
@@ -42,6 +44,7 @@ calm_like D told files after s t commit refused text new_text faults new_faults 
   follows = follows;
   brings = brings;
   views = views;
+  counts = λ is_told kept. counts is_told;
   faithful = faithful;
 }
 
@@ -55,7 +58,8 @@ calm_cache D told files after s t commit refused text new_text faults new_faults
     (grows_like s t (record s { cache = t.cache }) stays.is refl refl refl)
     (follows_same s.names s.parts t.parts (ap (λ (u : SetData). u.parts) stays.is)) same
     (λ is_told. brings_same D files after s.parts t.parts (same is_told) (ap (λ (u : SetData). u.parts) stays.is))
-    (λ is_told. views_same files after s t (same is_told) (ap (λ (u : SetData). u.snapshots) stays.is)) faithful
+    (λ is_told. views_same files after s t (same is_told) (ap (λ (u : SetData). u.snapshots) stays.is))
+    (λ is_told. counts_read D files after s t stays (same is_told)) faithful
 
 -- a text that is cut to its length of before
 pub cut_back : (n : ℕ) (text more : List ℕ) → n ≡ length text → take n (text ++ more) ≡ text
@@ -90,10 +94,14 @@ calm_snap D told files s t name (Ok x) commit refused text new_text faults done 
     (grows_like s t (set_snapped name s) done refl refl refl)
     (follows_same s.names s.parts t.parts (ap (λ (u : SetData). u.parts) done)) (λ is_told. refl)
     (λ is_told. brings_same D files files s.parts t.parts refl (ap (λ (u : SetData). u.parts) done))
-    (λ is_told. views_more files name s t (ap (λ (u : SetData). u.snapshots) done)) (λ is_told. faithful)
+    (λ is_told. views_more files name s t (ap (λ (u : SetData). u.snapshots) done))
+    (λ is_told. counts_same D files files s t (ap (λ (u : SetData). u.parts) done) (ap (λ (u : SetData). u.buffer) done)
+    (ap (λ (u : SetData). u.points_given) done) (λ p there. refl)) (λ is_told. faithful)
 calm_snap D told files s t name (Err e) commit refused text new_text faults done same faithful =
     calm_like D told files files s t commit refused text new_text faults faults (ap (λ (u : SetData). u.names) same)
     (grows_like s t s same refl refl refl)
     (follows_same s.names s.parts t.parts (ap (λ (u : SetData). u.parts) same)) (λ is_told. refl)
     (λ is_told. brings_same D files files s.parts t.parts refl (ap (λ (u : SetData). u.parts) same))
-    (λ is_told. views_same files files s t refl (ap (λ (u : SetData). u.snapshots) same)) (λ is_told. faithful)
+    (λ is_told. views_same files files s t refl (ap (λ (u : SetData). u.snapshots) same))
+    (λ is_told. counts_same D files files s t (ap (λ (u : SetData). u.parts) same) (ap (λ (u : SetData). u.buffer) same)
+    (ap (λ (u : SetData). u.points_given) same) (λ p there. refl)) (λ is_told. faithful)

@@ -21,7 +21,7 @@ use Rattle.segment_set.specs.Sets.{IsNamed, IsWell, NamedView, SetData, viewed_p
 use Rattle.segment_set.specs.Kept.{AreCanonical, Follows, IsAsCommitted, IsAtRest, KeepsNamed, StaysButFiles}
 use Rattle.segment_set.proofs.Viewed.{viewed_all}
 use Rattle.segment_set.proofs.WholeFiles.{canonical_whole}
-use Rattle.index_opening.specs.Evidence.{HoldsWhole, IsEvidentOf, IsOfListed, IsOfPart, IsTwice, MayBeNeeded}
+use Rattle.index_opening.specs.Evidence.{HoldsWhole, IsEvidentOf, IsOfListed, IsOfPart, IsOfEntries, MayBeNeeded}
 use Rattle.index_opening.proofs.Evident.{on_evident_named}
 use Rattle.index_core.specs.Carried.{AreOfListed, Carries, IsEvidentOver, IsFileOf, IsOfSet}
 use Rattle.index_core.specs.Effects.{BringsCanonical, IsOfBefore}
@@ -167,7 +167,7 @@ of_view view s p = viewed_all (λ (ps : List LiveSegment). Contains ps p → IsO
 -- a damage that a query of a view shows, which changes no file
 pub view_shows : {X : Type 0} (S T : Type 0) (f g : Files) (view : Option (List ℕ)) (s : SetData) (r : Result X PageFault) → (T → S) → (T → g ≡ f)
     → OnDamage r (IsEvidentOf (viewed_parts view s) S g) → OnDamage r (IsEvidentOver f s T g)
-view_shows S T f g view s r back same = on_evident_named (IsOfPart (viewed_parts view s)) (IsFileOf f g s) (IsTwice g) S T g r back
+view_shows S T f g view s r back same = on_evident_named (IsOfPart (viewed_parts view s)) (IsFileOf f g s) (IsOfEntries g) S T g r back
     (λ t file (p, there, is).
     merely (inr (inr (record { part = p; there = of_view view s p there; is = is; same = ap (λ (h : Files). h file) (same t) }))))
 
@@ -187,7 +187,7 @@ file_carried f g h s t carries file o = ∥∥₁_map (carries o.part o.there) (
 pub on_evident_carried : {X : Type 0} (S T : Type 0) (f g h : Files) (s t : SetData) (r : Result X PageFault) → (T → S) → (T → Carries f g s t)
     → OnDamage r (IsEvidentOver g t S h) → OnDamage r (IsEvidentOver f s T h)
 on_evident_carried S T f g h s t r back carries =
-    on_evident_named (IsFileOf g h t) (IsFileOf f h s) (IsTwice h) S T h r back (λ told. file_carried f g h s t (carries told))
+    on_evident_named (IsFileOf g h t) (IsFileOf f h s) (IsOfEntries h) S T h r back (λ told. file_carried f g h s t (carries told))
 
 -- ---- of a session that was opened
 

@@ -30,3 +30,5 @@ pub mod Thinned
 pub mod Attached
 pub mod Renewed
 pub mod Unchanged
+pub mod Accounting
+pub mod TracedCommits

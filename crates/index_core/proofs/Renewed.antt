@@ -34,7 +34,7 @@ use Rattle.index_core.specs.Brought.{KeepsCommit, KeepsOwn}
 use Rattle.index_core.specs.Lasting.{Lasts}
 use Rattle.index_core.specs.Carried.{Carries}
 use Rattle.index_core.specs.Effects.{BringsCanonical}
-use Rattle.index_core.specs.Sessions.{AreTraced, Guards, IsLast, IsLastCommit, IsSound, IsUnchanged, SessionData, StaysTrue, Trusts}
+use Rattle.index_core.specs.Sessions.{Guards, IsLast, IsLastCommit, IsSetTraced, IsSound, IsUnchanged, SessionData, StaysTrue, Trusts}
 use Rattle.index_core.specs.Steps.{SaysCommit}
 use Rattle.index_core.proofs.Committing.{some_same}
 use Rattle.index_core.proofs.Guarding.{cons_first, cons_rest}
@@ -150,7 +150,7 @@ module _ (D : ℕ) (told : Type 0) (old mid new : Files) (s t : SessionData) (sa
   stays_read stays = record {
     guards = λ is_told guards. subst (λ (f : Files). Guards D f t) (sym (same is_told)) (stays.guards is_told guards);
     faithful = λ is_told faithful. subst (λ (f : Files). IsFaithful D f t.set) (sym (same is_told)) (stays.faithful is_told faithful);
-    traced = λ is_told trusts. subst (λ (f : Files). AreTraced D f t.set.parts) (sym (same is_told)) (stays.traced is_told trusts);
+    traced = λ is_told trusts. subst (λ (f : Files). IsSetTraced D f t.set) (sym (same is_told)) (stays.traced is_told trusts);
     carries = λ is_told. subst (λ (f : Files). Carries old f s.set t.set) (sym (same is_told)) (stays.carries is_told);
   }
 

@@ -69,7 +69,7 @@ pub record IsListedLive (files : Files) (c : CommitData) (p : LiveSegment) : Typ
       (bytes_of (files (Live listed.segment listed.generation))) p.live
 
 -- The commit is that of the set once it is flushed: choices of the policy were merged, each whole, and the buffer went
--- to a segment; all else is listed as it was, and with what is live. No document is lost by that.
+-- to a segment; all else is listed as it was, and with what is live. No live number is lost by that.
 pub record IsCommitAfter (D : ℕ) (told : Type 0) (files new : Files) (s : SetData) (c : CommitData) : Type 0 where
   pub flushed : SetMoment
   pub flushes : Flushes D told (moment files s) flushed

@@ -29,12 +29,12 @@ use Rattle.index_core.specs.Costs.{ReadsAtMost}
 use Rattle.index_core.specs.Effects.{KeepsStill, OnRefused}
 use Rattle.index_core.specs.KeptLive.{FindsKept}
 use Rattle.index_core.specs.Light.{CommitsFewOfLevels, IsBarred, KeepsLevels, StaysLight, is_light, points_in}
-use Rattle.index_core.specs.Sessions.{AreTraced, Guards, IsCommitAnew, IsUnchanged, SessionData, Trusts}
+use Rattle.index_core.specs.Sessions.{Guards, IsCommitAnew, IsSetTraced, IsUnchanged, SessionData, Trusts}
 use Rattle.index_core.specs.Steps.{KeepsOver, KeepsUndone, Stores}
 
 -- The last commit is kept, or the one in flight: once it is done the Commit file says it, and what is seen is stored.
 -- After a damage all that is kept is as it was. Whatever the files hold, a new commit is that of the session's set, and
--- each file that it lists is whole. No document goes.
+-- each file that it lists is whole. No live number goes.
 pub record IsDurable {T : Type 0} (D : ℕ) (told : Type 0) (old new : Files) (s t : SessionData)
     (result : Result T PageFault) : Type 0 where
   pub kept : told → Guards D old s → KeepsOver true old new t result
@@ -64,7 +64,7 @@ pub record Attaches (D : ℕ) (told : Type 0) (files : Files) (commit : CommitDa
       → IfOk result (λ s. Sees D files s.set i)
   pub guards : told → IsCommitFile (bytes_of (files Commit)) commit → IfOk result (Guards D files)
   pub faithful : told → IfOk result (λ s. IsFaithful D files s.set)
-  pub traced : told → IsCommitFile (bytes_of (files Commit)) commit → IfOk result (λ s. AreTraced D files s.set.parts)
+  pub traced : told → IsCommitFile (bytes_of (files Commit)) commit → IfOk result (λ s. IsSetTraced D files s.set)
   pub finds : told → IsCommitFile (bytes_of (files Commit)) commit → IfOk result (λ s. FindsKept D files s.set)
   pub own : told → IsCommitFile (bytes_of (files Commit)) commit → IfOk result (λ s. AreOfListed files s.set)
   pub unchanged : IfOk result IsUnchanged
@@ -102,7 +102,7 @@ pub record SweepsAway {T : Type 0} (told : Type 0) (old new : Files) (s t : Sess
 -- What a request doesn't do. It reads no more than this, and nothing where it is refused. Blank lines, queries and what
 -- is refused leave all but the kept pages; where no segment has to be written the files and segments stay. Where the
 -- set alone says that it is refused there is no fault. A fault leaves the set, but that segments may be arranged anew.
--- Whatever is answered, no document goes that it doesn't take out.
+-- Whatever is answered, no live number goes that it doesn't take out.
 pub record Spares (D : ℕ) (told : Type 0) (r : Request) (old new : Files) (s t : SessionData) (before now : ℕ)
     (result : Result Applied PageFault) : Type 0 where
   pub reads : ReadsAtMost D told r old s before now

@@ -7,7 +7,7 @@ use Rattle.outer_io.specs.Files.{Files}
 use Rattle.page_cache.specs.declared.faults.Damage.{Damage}
 use Rattle.segment_view.specs.LiveSegments.{LiveSegment}
 use Rattle.segment_set.specs.Sets.{NamedView, SetData}
-use Rattle.index_opening.specs.Evidence.{HoldsWhole, IsEvidentWith, IsOfListed, IsTwice}
+use Rattle.index_opening.specs.Evidence.{HoldsWhole, IsEvidentWith, IsOfListed, IsOfEntries}
 
 -- a segment of now, or one that a snapshot keeps
 abbrev pub IsOfSet : SetData → LiveSegment → Type 0
@@ -32,4 +32,4 @@ Carries old new s t = (p : LiveSegment) → IsOfSet t p
 
 -- the damage is evident, and may be of a file of such a segment
 abbrev pub IsEvidentOver : (old : Files) → SetData → (told : Type 0) → Files → Damage → Type 0
-IsEvidentOver old s told new = IsEvidentWith (IsFileOf old new s) (IsTwice new) told new
+IsEvidentOver old s told new = IsEvidentWith (IsFileOf old new s) (IsOfEntries new) told new

@@ -74,7 +74,7 @@ pub record IsMergedAll (D : ℕ) (told : Type 0) (files new_files : Files) (s t 
   pub canon : told → AreCanonical D new_files s.names t.parts
 
 -- A merge is begun of the segments at these positions, and all else is as before. What is built of them has no dead
--- entry, and no document is lost.
+-- entry, and no live number is lost.
 pub record HasBegun (D : ℕ) (told : Type 0) (files : Files) (positions : List ℕ) (s t : SetData) : Type 0 where
   pub inputs : (b : BegunMerge) × (t.begun ≡ Some b) × (b.inputs ≡ chosen_ids positions (ids_of s.parts))
   pub built : (b : BegunMerge) → t.begun ≡ Some b → Collects D s.leaf_size told files s.parts b

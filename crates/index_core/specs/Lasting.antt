@@ -1,4 +1,4 @@
--- That no document goes which the request doesn't take out, whatever the files hold.
+-- That no live number goes which the request doesn't take out, whatever the files hold.
 use Rattle.std.specs.Prelude.{◌≡◌, ◌⊎◌, ℕ, true, List, Contains}
 use Rattle.outer_io.specs.declared.file_name.FileName.TheVariants.{Segment}
 use Rattle.outer_io.specs.Files.{Files}
@@ -31,7 +31,7 @@ TakesOut (asks.Delete doc) number = number ≡ doc
 TakesOut (asks.DeleteBox lo hi) number = Unit {0}
 TakesOut _ number = ⊥
 
--- No document goes but those: the set has the others, and what is kept is the same, or the new commit has them.
+-- No live number goes but those: the set has the others, and what is kept is the same, or the new commit has them.
 pub record LosesNone (D : ℕ) (Goes : ℕ → Type 0) (old new : Files) (s t : SetData) : Type 0 where
   pub lasts : Lasts D Goes old new s t
   pub kept : KeepsSet D Goes old new s

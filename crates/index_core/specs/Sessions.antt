@@ -1,9 +1,10 @@
 -- What contracts see of a session, and when it guards the files of its folder.
-use Rattle.std.specs.Prelude.{◌≡◌, ◌≤◌, ◌⊎◌, ℕ, Bool, true, false, if◌then◌else◌, List, [], All, Contains}
-use Rattle.std.specs.Prelude.{Option, None, Some}
+use Rattle.std.specs.Prelude.{◌≡◌, ◌≤◌, ◌<◌, ◌+◌, ◌⊎◌, ℕ, Bool, true, false, if◌then◌else◌, List, [], length, All}
+use Rattle.std.specs.Prelude.{Contains, Option, None, Some}
 use Rattle.outer_io.specs.declared.file_name.FileName.{FileName}
 use Rattle.outer_io.specs.declared.file_name.FileName.TheVariants.{Commit}
 use Rattle.outer_io.specs.Files.{Files, bytes_of}
+use Rattle.point_codec.specs.Points.{Item}
 use Rattle.live_bits.specs.LiveSet.{IsLiveSet}
 use Rattle.commit_list.specs.declared.listed.Listed.{Listed}
 use Rattle.commit_list.specs.Commits.{CommitData}
@@ -15,6 +16,7 @@ use Rattle.segment_set.specs.Sets.{SetData, IsWell}
 use Rattle.segment_set.specs.Kept.{HasCanonical, IsAsCommitted, StaysButCache}
 use Rattle.segment_set.specs.Saved.{CoversPart, IsLastOrFresh, KeepsLine}
 use Rattle.segment_set.specs.Faithful.{IsFaithful}
+use Rattle.index_opening.specs.Evidence.{AreOfSome, IsExcess}
 use Rattle.index_core.specs.Carried.{Carries}
 
 -- the dimensions of a commit, where there is one
@@ -82,19 +84,30 @@ IsTraced D files p = IsListedWith D files p ⊎ HasCanonical D files p.head
 abbrev pub AreTraced : ℕ → Files → List LiveSegment → Type 0
 AreTraced D files parts = (p : LiveSegment) → Contains parts p → IsTraced D files p
 
--- the session guards the files, what its set keeps of them is theirs, and it is known where each segment of now comes
--- from
+-- where more live entries are held and wait than points were given, the commit's segments have as many too many
+abbrev pub IsAccounted : ℕ → Files → SetData → Type 0
+IsAccounted D files s = (items : List Item) → AreOfSome D files s.parts items
+    → s.points_given < length items + length s.buffer
+    → ∥ IsExcess files s.points_given (length items + length s.buffer) ∥₁
+
+-- it is known where each segment of now comes from, and where the live entries do
+pub record IsSetTraced (D : ℕ) (files : Files) (s : SetData) : Type 0 where
+  pub parts : AreTraced D files s.parts
+  pub entries : IsAccounted D files s
+
+-- the session guards the files, what its set keeps of them is theirs, and it is known where its segments and entries
+-- come from
 pub record Trusts (D : ℕ) (files : Files) (s : SessionData) : Type 0 where
   pub guards : Guards D files s
   pub faithful : IsFaithful D files s.set
-  pub traced : AreTraced D files s.set.parts
+  pub traced : IsSetTraced D files s.set
 
 -- What the session knows of the files is so of those of now: it guards them, and can be trusted as before. Its segments
 -- are carried.
 pub record StaysTrue (D : ℕ) (told : Type 0) (old new : Files) (s t : SessionData) : Type 0 where
   pub guards : told → Guards D old s → Guards D new t
   pub faithful : told → IsFaithful D old s.set → IsFaithful D new t.set
-  pub traced : told → Trusts D old s → AreTraced D new t.set.parts
+  pub traced : told → Trusts D old s → IsSetTraced D new t.set
   pub carries : told → Carries old new s.set t.set
 
 -- nothing changed since the last commit: there is one, none was refused since, and the set is as it says

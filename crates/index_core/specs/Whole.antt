@@ -44,7 +44,7 @@ pub record SessionMoment : Type 0 where
   pub faults : ℕ
 
 -- From the one place to the other a document came for each point, where it is done; after a fault some of them may
--- have come. What is kept stays, no document goes, and each segment that is written is canonical.
+-- have come. What is kept stays, no live number goes, and each segment that is written is canonical.
 pub record Adds {T : Type 0} (D : ℕ) (told : Type 0) (points : List (List ℤ)) (old new : SessionMoment)
     (result : Result T PageFault) : Type 0 where
   pub seen : told → (i : Index) → Sees D old.files old.session.set i

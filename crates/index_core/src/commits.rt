@@ -17,7 +17,8 @@ ghost use Rattle.segment_set.specs.Seen.{Sees};
 ghost use Rattle.segment_set.specs.Faithful.{IsFaithful};
 ghost use Rattle.segment_set.specs.Sets.{IsSettled, IsWell};
 ghost use Rattle.segment_set.specs.Kept.{Follows, IsCommitOf, StaysButFiles};
-ghost use Rattle.index_core.specs.Sessions.{AreTraced, Guards, GuardsSet, IsSound, IsUnchanged, StaysTrue, last_lines};
+ghost use Rattle.index_core.specs.Sessions.{Guards, GuardsSet, IsSetTraced, IsSound, IsUnchanged, StaysTrue};
+ghost use Rattle.index_core.specs.Sessions.{last_lines};
 ghost use Rattle.index_core.specs.Arranged.{IsArranged};
 ghost use Rattle.index_core.specs.Lasting.{Lasts};
 ghost use Rattle.index_core.specs.Calls.{HasNoDamage, IsCommitted, IsDurable, ShowsFault, SweepsAway};
@@ -156,8 +157,8 @@ impl<const D: usize> Session<D> {
         ensures traced { IsTrue F.told
             → AllZip (λ l p. IsLiveFile l.segment l.generation
             (bytes_of (F.files folder.old (Live l.segment l.generation))) p.live) commit.listed self.old.set.parts
-            → AreTraced D (F.files folder.old) self.old.set.parts
-            → AreTraced D (F.files folder.new) self.new.set.parts }
+            → IsSetTraced D (F.files folder.old) self.old.set
+            → IsSetTraced D (F.files folder.new) self.new.set }
         ensures kept { IsTrue F.told → KeepsOver true (F.files folder.old) (F.files folder.new) self.new result }
         ensures stored { IsTrue F.told → (i : Index)
             → ((files : Files) → IsCommitFile (bytes_of (files CommitName)) commit
@@ -196,8 +197,8 @@ impl<const D: usize> Session<D> {
         ensures guards { IsTrue F.told → Guards D (F.files folder.old) self.old
             → Guards D (F.files folder.new) self.new }
         ensures traced { IsTrue F.told → Guards D (F.files folder.old) self.old
-            → AreTraced D (F.files folder.old) self.old.set.parts
-            → AreTraced D (F.files folder.new) self.new.set.parts }
+            → IsSetTraced D (F.files folder.old) self.old.set
+            → IsSetTraced D (F.files folder.new) self.new.set }
         ensures kept { IsTrue F.told → Guards D (F.files folder.old) self.old
             → SameKept (F.files folder.old) (F.files folder.new) }
         ensures faults { HasNoDamage (F.faults folder.old) (F.faults folder.new) result }

@@ -14,7 +14,8 @@ ghost use Rattle.segment_view.specs.Costs.{IsCostOf};
 ghost use Rattle.segment_set.specs.Seen.{Sees};
 ghost use Rattle.index_opening.specs.Evidence.{IsEvidentOf};
 ghost use Rattle.segment_set.specs.Faithful.{IsFaithful};
-ghost use Rattle.index_core.specs.Sessions.{AreTraced, Guards};
+ghost use Rattle.segment_set.specs.Kept.{StaysButCache};
+ghost use Rattle.index_core.specs.Sessions.{Guards, IsSetTraced};
 ghost use Rattle.index_core.specs.Effects.{BringsCanonical};
 ghost use Rattle.index_core.specs.Whole.{Adds, add_result};
 
@@ -162,7 +163,7 @@ impl<const D: usize> Session<D> {
         ensures live { (files : Files) (i : Index) → Sees D files self.old.set i → result ≡ is_live doc i.docs }
         ensures guards { (files : Files) → Guards D files self.old → Guards D files self.new }
         ensures faithful { (files : Files) → IsFaithful D files self.old.set → IsFaithful D files self.new.set }
-        ensures traced { (files : Files) → AreTraced D files self.old.set.parts → AreTraced D files self.new.set.parts }
+        ensures traced { (files : Files) → IsSetTraced D files self.old.set → IsSetTraced D files self.new.set }
         ensures canon { (files : Files) → BringsCanonical D files files self.old.set.parts self.new.set.parts }
     {
         self.set.delete(doc)
@@ -185,7 +186,7 @@ impl<const D: usize> Session<D> {
         ensures guards { IsTrue F.told → Guards D (F.files folder.old) self.old
             → Guards D (F.files folder.new) self.new }
         ensures files { IsTrue F.told → F.files folder.new ≡ F.files folder.old }
-        ensures parts { self.new.set.parts ≡ self.old.set.parts }
+        ensures rest { StaysButCache self.old.set self.new.set }
         ensures cause { HasPageCause (F.faults folder.old) (F.faults folder.new) result }
         ensures whole { IsTrue F.told → (i : Index) → Sees D (F.files folder.old) self.old.set i → NotDamaged result }
         ensures faithful { IsTrue F.told → IsFaithful D (F.files folder.old) self.old.set
@@ -219,7 +220,7 @@ impl<const D: usize> Session<D> {
         ensures guards { IsTrue F.told → Guards D (F.files folder.old) self.old
             → Guards D (F.files folder.new) self.new }
         ensures files { IsTrue F.told → F.files folder.new ≡ F.files folder.old }
-        ensures parts { self.new.set.parts ≡ self.old.set.parts }
+        ensures rest { StaysButCache self.old.set self.new.set }
         ensures cause { HasPageCause (F.faults folder.old) (F.faults folder.new) result }
         ensures whole { IsTrue F.told → (i : Index) → Sees D (F.files folder.old) self.old.set i → NotDamaged result }
         ensures faithful { IsTrue F.told → IsFaithful D (F.files folder.old) self.old.set

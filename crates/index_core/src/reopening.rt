@@ -18,7 +18,7 @@ ghost use Rattle.segment_set.specs.Faithful.{IsFaithful};
 ghost use Rattle.index_opening.specs.Damages.{IsAttachDamage, IsAttachDamageOf};
 ghost use Rattle.file_names.specs.Names.{is_named};
 ghost use Rattle.segment_set.specs.Kept.{IsAtRest};
-ghost use Rattle.index_core.specs.Sessions.{AreTraced, Guards};
+ghost use Rattle.index_core.specs.Sessions.{Guards, IsSetTraced};
 ghost use Rattle.index_core.specs.Arranged.{IsArranged};
 ghost use Rattle.index_core.specs.Lasting.{Lasts};
 ghost use Rattle.index_core.specs.Damages.{ShowsDamage};
@@ -91,7 +91,7 @@ impl<const D: usize> Session<D> {
             → IfOk result (λ s. Guards D (F.files folder.old) (record self.now { set = s })) }
         ensures faithful { IsTrue F.told → IfOk result (IsFaithful D (F.files folder.old)) }
         ensures traced { IsTrue F.told → self.now.refused ≡ false → Guards D (F.files folder.old) self.now
-            → IfOk result (λ s. AreTraced D (F.files folder.old) s.parts) }
+            → IfOk result (λ s. IsSetTraced D (F.files folder.old) s) }
         ensures names { (c : CommitData) → self.now.commit ≡ Some c
             → IfOk result (λ s. (m : FileName) → is_named s.names.names m ≡ true → ListsFile c m) }
         ensures unchanged { (c : CommitData) → self.now.commit ≡ Some c → IfOk result (λ s. IsAtRest s c) }

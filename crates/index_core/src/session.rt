@@ -50,7 +50,7 @@ impl<const D: usize> Model for Session<D> {
 }
 
 impl<const D: usize> Session<D> {
-    ghost use Rattle.index_core.specs.Sessions.{Guards};
+    ghost use Rattle.index_core.specs.Sessions.{Guards, IsSetTraced};
     ghost use Rattle.index_core.specs.Calls.{Attaches, Spares};
     ghost use Rattle.index_core.specs.Steps.{Applies, is_committing};
     ghost use Rattle.index_core.specs.Carried.{AreOfListed};
@@ -66,6 +66,7 @@ impl<const D: usize> Session<D> {
         ensures guards { IfOk result (λ s. (files : Files) → files CommitName ≡ None → Guards D files s) }
         ensures faithful { IfOk result (λ s. (files : Files) → IsFaithful D files s.set) }
         ensures bare { IfOk result (λ s. s.set.parts ≡ []) }
+        ensures traced { IfOk result (λ s. (files : Files) → IsSetTraced D files s.set) }
         ensures own { IfOk result (λ s. (files : Files) → AreOfListed files s.set) }
     {
         let set = SegmentSet::new(alloc, leaf_size, settings)?;

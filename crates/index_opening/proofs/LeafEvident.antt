@@ -39,7 +39,7 @@ leaf_shows P D head root tree is has (NotGiven doc next) h = absurd h
 leaf_shows P D head root tree is has (Doubled doc) h = absurd h
 
 -- the head is that of its file, which has the pages of all leaves then
-leaf_carried : (O : FileName → Type 0) (W : ℕ → Type 0) (D : ℕ) (files : Files) (head : Head) (root : Region) (tree : IndexTree)
+leaf_carried : (O : FileName → Type 0) (W : Damage → Type 0) (D : ℕ) (files : Files) (head : Head) (root : Region) (tree : IndexTree)
     → MayBeNeeded O files (Segment head.id) → IsHeadIn files D head
     → HasTree D head.index root tree → (d : Damage) → IsLeafDamage D head 0 front tree d
     → IsLeafDamageOf files d → IsTrueOf O W files d
@@ -54,7 +54,7 @@ leaf_carried O W D files head root tree may is has (NotGiven doc next) shown h =
 leaf_carried O W D files head root tree may is has (Doubled doc) shown h = absurd h
 
 -- of a segment that is read, whose head is that of its file
-pub part_evident : (O : FileName → Type 0) (W : ℕ → Type 0) (T : Type 0) (D : ℕ) (files : Files) (parts : List LiveSegment) (d : Damage)
+pub part_evident : (O : FileName → Type 0) (W : Damage → Type 0) (T : Type 0) (D : ℕ) (files : Files) (parts : List LiveSegment) (d : Damage)
     → (T → All (λ (q : LiveSegment). ∥ IsHeadIn files D q.head ∥₁) parts)
     → (T → (p : LiveSegment) → Contains parts p → MayBeNeeded O files (Segment p.head.id)) → (T → IsLeafDamageOf files d) → IsPartDamage D parts d
     → IsEvidentWith O W T files d
@@ -68,7 +68,7 @@ part_evident O W T D files parts d heads may truth (p, there, read) = record {
   };
 }
 
-pub on_part_evident : {X : Type 0} (O : FileName → Type 0) (W : ℕ → Type 0) (T : Type 0) (D : ℕ) (files : Files) (parts : List LiveSegment)
+pub on_part_evident : {X : Type 0} (O : FileName → Type 0) (W : Damage → Type 0) (T : Type 0) (D : ℕ) (files : Files) (parts : List LiveSegment)
     (r : Result X PageFault)
     → (T → All (λ (q : LiveSegment). ∥ IsHeadIn files D q.head ∥₁) parts)
     → (T → (p : LiveSegment) → Contains parts p → MayBeNeeded O files (Segment p.head.id)) → (T → OnDamage r (IsLeafDamageOf files))

@@ -5,3 +5,4 @@ pub mod Evident
 pub mod ListedShows
 pub mod Named
 pub mod LeafEvident
+pub mod Whole

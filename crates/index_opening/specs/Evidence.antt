@@ -1,6 +1,7 @@
 -- What a damage shows of a folder's files, whichever call answers it: by what it carries alone, and of the files where
 -- those are told.
-use Rattle.std.specs.Prelude.{◌≡◌, ◌≤◌, ◌<◌, ◌⊎◌, ℕ, List, None, Contains, length, filter, count_by}
+use Rattle.std.specs.Prelude.{◌≡◌, ◌≤◌, ◌<◌, ◌+◌, ◌⊎◌, ℕ, List, [], ◌∷◌, None, Contains, length, map}
+use Rattle.std.specs.Prelude.{filter, count_by}
 use Rattle.outer_io.specs.declared.file_name.FileName.{FileName}
 use Rattle.outer_io.specs.declared.file_name.FileName.TheVariants.{Commit, CommitNew, Segment, Live}
 use Rattle.outer_io.specs.Files.{Files, bytes_of}
@@ -18,11 +19,11 @@ use Rattle.commit_list.specs.declared.listed.Listed.{Listed}
 use Rattle.commit_list.specs.Commits.{CommitData}
 use Rattle.commit_list.specs.CommitFiles.{IsCommitFile, IsNoCommitBody, AsksCommit}
 use Rattle.segment_file.specs.Heads.{Head, HasRanges}
-use Rattle.segment_file.specs.Segments.{IsHeadOf, IsSegment}
+use Rattle.segment_file.specs.Segments.{IsHeadOf, IsSegment, Joins}
 use Rattle.segment_file.specs.Damages.{AreHeadPair, AsksFor, BeginsNoHead, BeginsNoSet, IsNoLeaf}
 use Rattle.stored_index.specs.Segments.{SegmentData, all_live_entries, places}
 use Rattle.stored_index.specs.Stored.{HasLive, HaveLive, HoldAll}
-use Rattle.segment_view.specs.LiveSegments.{LiveSegment}
+use Rattle.segment_view.specs.LiveSegments.{LiveSegment, ids_of, lives_of}
 use Rattle.document_checks.specs.Crowded.{IsCrowded}
 use Rattle.index_opening.specs.Damages.{IsPair}
 
@@ -99,12 +100,6 @@ pub data IsFilePair (files : Files) (file : FileName) (said found : ℕ) : Type 
       → file ≡ Commit → said ≡ c.points_given → found ≡ length (all_live_entries parts)
       → IsFilePair files file said found
 
--- Where entries are about to be merged that are more than the points given, the Commit file is named too, and the
--- numbers need be none of files.
-pub data ArePair (files : Files) (file : FileName) (said found : ℕ) : Type 0 where
-  OfFiles : IsFilePair files file said found → ArePair files file said found
-  OfGiven : file ≡ Commit → said < found → ArePair files file said found
-
 -- the damage names a file that was looked at, if any, and two numbers that differ are a pair of the files
 abbrev pub NamesLooked : Files → Damage → Type 0
 NamesLooked files (Page file number bytes) = IsLookedAt files file
@@ -119,6 +114,34 @@ NamesLooked files (Doubled doc) = Unit {0}
 -- so it is with each damage that looking at the files finds
 abbrev pub IsFound : Files → Damage → Type 0
 IsFound files d = ∥ NamesLooked files d ∥₁
+
+-- ---- the live entries, and the points given
+
+-- these are the live entries that the segment's file holds, or none of them is looked at
+abbrev pub IsHeldOrNone : ℕ → Files → LiveSegment → List Item → Type 0
+IsHeldOrNone D files p items =
+    (items ≡ [])
+    ⊎ ((entries : List Item) × IsSegment D (bytes_of (files (Segment p.head.id))) p.head entries
+    × (items ≡ filter (λ x. is_live p.live x.doc) entries))
+
+-- those of some of these segments, one after another
+abbrev pub AreOfSome : ℕ → Files → List LiveSegment → List Item → Type 0
+AreOfSome D files [] items = items ≡ []
+AreOfSome D files (p ∷ parts) items = Joins (IsHeldOrNone D files p) (AreOfSome D files parts) items
+
+-- So many points are said to be given, and more live entries are found. They are more by no more than those of the
+-- segments that the commit lists are more than the points that it says were given.
+pub record IsExcess (files : Files) (said found : ℕ) : Type 0 where
+  pub commit : CommitData
+  pub says : IsCommitFile (bytes_of (files Commit)) commit
+  pub parts : List LiveSegment
+  pub ids : ids_of parts ≡ map (λ l. l.segment) commit.listed
+  pub lives : HaveLive files commit (lives_of parts)
+  pub items : List Item
+  pub held : AreOfSome commit.dims files parts items
+  pub later : commit.points_given ≤ said
+  pub more : said < found
+  pub excess : found + commit.points_given ≤ said + length items
 
 -- the number is live in a listed segment, and this is the commit's next one
 pub record IsLiveNotGiven (files : Files) (doc next : ℕ) : Type 0 where
@@ -148,6 +171,13 @@ pub data IsTwice (files : Files) (doc : ℕ) : Type 0 where
       → (p : LiveSegment) → p.head.id ≡ s.segment → HasLive files s p.live → CrowdsPart c.dims files p doc
       → IsTwice files doc
 
+-- What entries show that are about to be merged: more are live than points were given, which names the Commit file, or
+-- a number is Doubled.
+abbrev pub IsOfEntries : Files → Damage → Type 0
+IsOfEntries files (Unequal file said found) = (file ≡ Commit) × IsExcess files said found
+IsOfEntries files (Doubled doc) = IsTwice files doc
+IsOfEntries files d = ⊥
+
 -- one of these segments has the file
 abbrev pub IsOfPart : List LiveSegment → FileName → Type 0
 IsOfPart parts file = (p : LiveSegment) × Contains parts p × (file ≡ Segment p.head.id)
@@ -164,46 +194,42 @@ pub record HoldsWhole (files : Files) (file : FileName) : Type 0 where
 abbrev pub MayBeNeeded : (others : FileName → Type 0) → Files → FileName → Type 0
 MayBeNeeded others files file = IsLookedAt files file ⊎ HoldsWhole files file ⊎ others file
 
--- What a damage carries is that of the files, of one that may be needed. `twice` is what is shown of a number that is
--- Doubled.
-abbrev pub IsTrueOf : (others : FileName → Type 0) → (twice : ℕ → Type 0) → Files → Damage → Type 0
-IsTrueOf others twice files (Page file number bytes) = IsPageOf files file number bytes.value.b
+-- What a damage carries is that of the files, of one that may be needed. `merged` is what is shown of entries.
+abbrev pub IsTrueOf : (others : FileName → Type 0) → (merged : Damage → Type 0) → Files → Damage → Type 0
+IsTrueOf others merged files (Page file number bytes) = IsPageOf files file number bytes.value.b
     × MayBeNeeded others files file
-IsTrueOf others twice files (Leaf file number offset len bytes) = IsPageOf files file number bytes.value.b
+IsTrueOf others merged files (Leaf file number offset len bytes) = IsPageOf files file number bytes.value.b
     × MayBeNeeded others files file
-IsTrueOf others twice files (Body file bytes) = ArePayloadsOf files file bytes × IsLookedAt files file
-IsTrueOf others twice files (Missing file) = (files file ≡ None) × IsOfListed files file
-IsTrueOf others twice files (Size file size needed) = IsSizeOf (AsksPages file) files file size needed
+IsTrueOf others merged files (Body file bytes) = ArePayloadsOf files file bytes × IsLookedAt files file
+IsTrueOf others merged files (Missing file) = (files file ≡ None) × IsOfListed files file
+IsTrueOf others merged files (Size file size needed) = IsSizeOf (AsksPages file) files file size needed
     × IsLookedAt files file
-IsTrueOf others twice files (Unequal file said found) = ArePair files file said found
-IsTrueOf others twice files (NotGiven doc next) = IsLiveNotGiven files doc next
-IsTrueOf others twice files (Doubled doc) = twice doc
+IsTrueOf others merged files (Unequal file said found) = IsFilePair files file said found
+    ⊎ merged (Unequal file said found)
+IsTrueOf others merged files (NotGiven doc next) = IsLiveNotGiven files doc next
+IsTrueOf others merged files (Doubled doc) = merged (Doubled doc)
 
 -- The damage is true of the files: what it carries is theirs, and a leaf that isn't spelled is one that the head of its
 -- file has.
-pub record IsTrueDamage (others : FileName → Type 0) (twice : ℕ → Type 0) (files : Files) (d : Damage)
+pub record IsTrueDamage (others : FileName → Type 0) (merged : Damage → Type 0) (files : Files) (d : Damage)
     : Type 0 where
   pub shows : ShowsItself (IsHeadIn files) d
-  pub carries : ∥ IsTrueOf others twice files d ∥₁
+  pub carries : ∥ IsTrueOf others merged files d ∥₁
 
 -- the damage is shown by what it carries, and is true of the files where they are told
-pub record IsEvidentWith (others : FileName → Type 0) (twice : ℕ → Type 0) (told : Type 0) (files : Files) (d : Damage)
-    : Type 0 where
+pub record IsEvidentWith (others : FileName → Type 0) (merged : Damage → Type 0) (told : Type 0) (files : Files)
+    (d : Damage) : Type 0 where
   pub shows : ShowsItself HasRanges d
-  pub of_files : told → IsTrueDamage others twice files d
+  pub of_files : told → IsTrueDamage others merged files d
 
--- where a number is Doubled the files that the commit lists show it; no other file is needed
+-- entries are those of the segments that the commit lists; no other file is needed
 abbrev pub IsEvident : (told : Type 0) → Files → Damage → Type 0
-IsEvident told files = IsEvidentWith (λ _. ⊥) (IsTwice files) told files
+IsEvident told files = IsEvidentWith (λ _. ⊥) (IsOfEntries files) told files
 
 -- a snapshot may need a segment that the commit of before lists, too
 abbrev pub IsEvidentSince : (before : Files) → (told : Type 0) → Files → Damage → Type 0
-IsEvidentSince before told files = IsEvidentWith (IsOfListed before) (IsTwice files) told files
+IsEvidentSince before told files = IsEvidentWith (IsOfListed before) (IsOfEntries files) told files
 
 -- of a search of these segments
 abbrev pub IsEvidentOf : List LiveSegment → (told : Type 0) → Files → Damage → Type 0
-IsEvidentOf parts told files = IsEvidentWith (IsOfPart parts) (IsTwice files) told files
-
--- of a merge of some of these segments: where a number is Doubled one of them shows it
-abbrev pub IsEvidentIn : ℕ → List LiveSegment → (told : Type 0) → Files → Damage → Type 0
-IsEvidentIn D parts told files = IsEvidentWith (IsOfPart parts) (IsCrowdedIn D files parts) told files
+IsEvidentOf parts told files = IsEvidentWith (IsOfPart parts) (IsOfEntries files) told files

@@ -3,8 +3,10 @@
 //! (`specs/Evidence`).
 #![tactic(auto)]
 
+mod laws;
 mod listed_index;
 mod opening;
 
+pub use laws::{unequal_needs_a_commit, whole_is_undamaged};
 pub use listed_index::open_index;
 pub use opening::{check_numbers, open_all};

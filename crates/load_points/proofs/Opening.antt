@@ -15,7 +15,7 @@ use Rattle.segment_view.specs.LiveSegments.{LiveSegment}
 use Rattle.segment_set.specs.Seen.{Sees}
 use Rattle.segment_set.specs.Faithful.{IsFaithful}
 use Rattle.index_core.specs.KeptLive.{FindsKept, IsKeptWithout}
-use Rattle.index_core.specs.Sessions.{AreTraced, Guards, IsTraced, IsUnchanged, SessionData, Trusts}
+use Rattle.index_core.specs.Sessions.{Guards, IsSetTraced, IsUnchanged, SessionData}
 use Rattle.index_core.proofs.Guarding.{says_some}
 use Rattle.index_core.proofs.Listed.{attached_listed}
 use Rattle.load_points.specs.Loaded.{opened_state}
@@ -59,12 +59,12 @@ attached_loading D files c s stored seen guards unchanged (says, (i, is, holds))
 
 -- where there is no Commit file, nothing is kept, and a new session has no segment
 pub made_trusts : (D : ℕ) (files : Files) (s : SessionData) → (files Commit ≡ None → Guards D files s) → IsFaithful D files s.set → s.set.parts ≡ []
-    → files Commit ≡ None → HasKept D files s
-made_trusts D files s guards faithful bare none = record {
+    → IsSetTraced D files s.set → files Commit ≡ None → HasKept D files s
+made_trusts D files s guards faithful bare traced none = record {
   trusts = record {
     guards = guards none;
     faithful = faithful;
-    traced = λ p there. nil_none p (IsTraced D files p) (subst (λ (ps : List LiveSegment). Contains ps p) bare there);
+    traced = traced;
   };
   finds = record {
     live = λ number kept. absurd (says_some files kept.commit none kept.says);
@@ -73,7 +73,7 @@ made_trusts D files s guards faithful bare none = record {
 }
 
 -- where the files are the same, what is so there of a session that was attached is so still
-pub trusts_still : (D : ℕ) (old new : Files) (s : SessionData) → new ≡ old → Guards D old s → IsFaithful D old s.set → AreTraced D old s.set.parts
+pub trusts_still : (D : ℕ) (old new : Files) (s : SessionData) → new ≡ old → Guards D old s → IsFaithful D old s.set → IsSetTraced D old s.set
     → FindsKept D old s.set → HasKept D new s
 trusts_still D old new s same guards faithful traced finds = subst (λ (f : Files). HasKept D f s) (sym same)
     (record { trusts = record { guards = guards; faithful = faithful; traced = traced }; finds = finds })

@@ -17,7 +17,7 @@ use Rattle.script_run.specs.declared.halt.Halt.{Halt}
 use Rattle.script_run.specs.declared.halt.Halt.TheVariants as halt
 use Rattle.script_run.proofs.Calling.{stop_after}
 use Rattle.script_run.proofs.Shown.{stop_named}
-use Rattle.index_opening.specs.Evidence.{IsEvidentSince, IsEvidentWith, IsOfListed, IsTwice, MayBeNeeded}
+use Rattle.index_opening.specs.Evidence.{IsEvidentSince, IsEvidentWith, IsOfListed, IsOfEntries, MayBeNeeded}
 use Rattle.script_run.specs.Script.{Meaning}
 use Rattle.run_status.proofs.Ending.{rose_from, cause_from}
 
@@ -79,8 +79,8 @@ halt_after {T} a b c (Err halt.Source) first h = kept_after a b c first h
 
 -- under another premise, over the same files, and where other files may be needed
 pub halt_named : {X : Type 0} (O P : FileName → Type 0) (S T : Type 0) (files : Files) (result : Result X Halt) → (T → S)
-    → (T → (file : FileName) → O file → ∥ MayBeNeeded P files file ∥₁) → OnHaltDamage result (IsEvidentWith O (IsTwice files) S files)
-    → OnHaltDamage result (IsEvidentWith P (IsTwice files) T files)
+    → (T → (file : FileName) → O file → ∥ MayBeNeeded P files file ∥₁) → OnHaltDamage result (IsEvidentWith O (IsOfEntries files) S files)
+    → OnHaltDamage result (IsEvidentWith P (IsOfEntries files) T files)
 halt_named {X} O P S T files (Ok x) less named h = tt
 halt_named {X} O P S T files (Err (halt.Stopped s)) less named h = stop_named {X = X} O P S T files (Err s) less named h
 halt_named {X} O P S T files (Err halt.Source) less named h = tt

@@ -1,22 +1,20 @@
 -- What a damage shows that a run stops for or ends with, from what it shows where a call answered it.
-use Rattle.std.proofs.Common.{◌≡◌, ℕ, List, [], None, Result, Ok, Err, IfOk, OnErr, IsErrOf, sym, subst, ◌⊎◌, inl, inr}
-use Rattle.std.specs.List.{Contains}
-use Rattle.documents.proofs.Lists.{nil_none}
-use Rattle.segment_view.specs.LiveSegments.{LiveSegment}
-use Rattle.outer_io.specs.declared.file_name.FileName.TheVariants.{Commit}
+use Rattle.std.proofs.Common.{◌≡◌, ℕ, Result, Ok, Err, IfOk, OnErr, IsErrOf, sym, subst, ◌⊎◌, inl, inr}
 use Rattle.outer_io.specs.Files.{Files}
 use Rattle.outer_io.specs.declared.file_name.FileName.{FileName}
 use Rattle.page_cache.specs.declared.faults.Damage.{Damage}
 use Rattle.page_cache.specs.declared.faults.PageFault.{PageFault}
 use Rattle.page_cache.specs.declared.faults.PageFault.TheVariants as page
 use Rattle.page_cache.specs.Evidence.{FaultShows, OnDamage}
-use Rattle.index_opening.specs.Evidence.{IsEvident, IsEvidentSince, IsEvidentWith, IsOfListed, IsTwice, MayBeNeeded}
+use Rattle.index_opening.specs.Evidence.{IsEvident, IsEvidentSince, IsEvidentWith, IsOfListed, IsOfEntries, MayBeNeeded}
 use Rattle.segment_set.specs.Faithful.{IsFaithful}
 use Rattle.segment_set.specs.Sets.{SetData}
-use Rattle.index_core.specs.Carried.{Carries, IsEvidentOver, IsFileOf}
+use Rattle.index_core.specs.Carried.{AreOfListed, Carries, IsEvidentOver, IsFileOf}
+use Rattle.index_core.specs.KeptLive.{FindsKept}
+use Rattle.script_run.specs.Origins.{KnowsFolder}
 use Rattle.index_core.proofs.Carrying.{file_carried}
 use Rattle.index_opening.proofs.Evident.{evident_files, evident_less, evident_named}
-use Rattle.index_core.specs.Sessions.{AreTraced, Guards, IsTraced, SessionData, Trusts}
+use Rattle.index_core.specs.Sessions.{Guards, IsSetTraced, SessionData}
 use Rattle.run_status.specs.Ends.{OnStatusDamage, OnStopDamage}
 use Rattle.run_status.specs.Stops.{status_of, stop_of}
 use Rattle.run_status.specs.declared.status.Status.{Status}
@@ -52,7 +50,7 @@ fault_status P (page.Damaged d) h = h
 pub status_since : (before : Files) (T : Type 0) (files : Files) (s : Status) → OnStatusDamage s (IsEvident T files)
     → OnStatusDamage s (IsEvidentSince before T files)
 status_since before T files (status.Damaged d) h =
-    evident_named (λ file. ⊥) (IsOfListed before) (IsTwice files) T T files d (λ t. t) (λ t file none. absurd none) h
+    evident_named (λ file. ⊥) (IsOfListed before) (IsOfEntries files) T T files d (λ t. t) (λ t file none. absurd none) h
 status_since before T files status.Usage h = tt
 status_since before T files status.SourceFault h = tt
 status_since before T files status.TooLarge h = tt
@@ -70,10 +68,10 @@ fault_at S T f g page.Memory less same h = tt
 fault_at S T f g (page.Damaged d) less same h = evident_files S T f g d less same h
 
 pub fault_wider : (P : FileName → Type 0) (S T : Type 0) (files : Files) (fault : PageFault) → (T → S) → FaultShows (IsEvident S files) fault
-    → FaultShows (IsEvidentWith P (IsTwice files) T files) fault
+    → FaultShows (IsEvidentWith P (IsOfEntries files) T files) fault
 fault_wider P S T files page.Failed less h = tt
 fault_wider P S T files page.Memory less h = tt
-fault_wider P S T files (page.Damaged d) less h = evident_named (λ file. ⊥) P (IsTwice files) S T files d less (λ t file none. absurd none) h
+fault_wider P S T files (page.Damaged d) less h = evident_named (λ file. ⊥) P (IsOfEntries files) S T files d less (λ t file none. absurd none) h
 
 pub stop_less : {X : Type 0} (S T : Type 0) (files : Files) (result : Result X Stop) → (T → S) → OnStopDamage result (IsEvident S files)
     → OnStopDamage result (IsEvident T files)
@@ -85,16 +83,16 @@ stop_less S T files (Err (stop.Damaged d)) less h = evident_less S T files d les
 
 -- where other files may be needed
 pub stop_named : {X : Type 0} (O P : FileName → Type 0) (S T : Type 0) (files : Files) (result : Result X Stop) → (T → S)
-    → (T → (file : FileName) → O file → ∥ MayBeNeeded P files file ∥₁) → OnStopDamage result (IsEvidentWith O (IsTwice files) S files)
-    → OnStopDamage result (IsEvidentWith P (IsTwice files) T files)
+    → (T → (file : FileName) → O file → ∥ MayBeNeeded P files file ∥₁) → OnStopDamage result (IsEvidentWith O (IsOfEntries files) S files)
+    → OnStopDamage result (IsEvidentWith P (IsOfEntries files) T files)
 stop_named O P S T files (Ok x) less named h = tt
 stop_named O P S T files (Err stop.SinkFault) less named h = tt
 stop_named O P S T files (Err stop.FolderFault) less named h = tt
 stop_named O P S T files (Err stop.Memory) less named h = tt
-stop_named O P S T files (Err (stop.Damaged d)) less named h = evident_named O P (IsTwice files) S T files d less named h
+stop_named O P S T files (Err (stop.Damaged d)) less named h = evident_named O P (IsOfEntries files) S T files d less named h
 
 pub stop_wider : {X : Type 0} (P : FileName → Type 0) (S T : Type 0) (files : Files) (result : Result X Stop) → (T → S)
-    → OnStopDamage result (IsEvident S files) → OnStopDamage result (IsEvidentWith P (IsTwice files) T files)
+    → OnStopDamage result (IsEvident S files) → OnStopDamage result (IsEvidentWith P (IsOfEntries files) T files)
 stop_wider P S T files result less = stop_named (λ file. ⊥) P S T files result less (λ t file none. absurd none)
 
 -- of the session at the begin, where one between two lines shows it
@@ -105,19 +103,10 @@ stop_carried S T f g h s t result less carries =
 
 -- ---- where the index comes from
 
--- what is attached is trusted with the files, which stay
-pub attached_trusts : (D : ℕ) (old new : Files) (result : Result SessionData PageFault) → new ≡ old → IfOk result (Guards D old)
-    → IfOk result (λ s. IsFaithful D old s.set)
-    → IfOk result (λ s. AreTraced D old s.set.parts) → IfOk result (Trusts D new)
-attached_trusts D old new (Ok s) same guards faithful traced =
-    subst (λ (f : Files). Trusts D f s) (sym same) (record { guards = guards; faithful = faithful; traced = traced })
-attached_trusts D old new (Err e) same guards faithful traced = tt
-
--- a session that has no segment, over files without an index, is trusted where it guards them and is faithful
-pub bare_trusts : (D : ℕ) (files : Files) (s : SessionData) → (files Commit ≡ None → Guards D files s) → IsFaithful D files s.set → s.set.parts ≡ []
-    → files Commit ≡ None → Trusts D files s
-bare_trusts D files s guards faithful bare none = record {
-  guards = guards none;
-  faithful = faithful;
-  traced = λ p there. nil_none p (IsTraced D files p) (subst (λ (ps : List LiveSegment). Contains ps p) bare there);
-}
+-- what is attached knows the files, which stay
+pub attached_knows : (D : ℕ) (old new : Files) (result : Result SessionData PageFault) → new ≡ old → IfOk result (Guards D old)
+    → IfOk result (λ s. IsFaithful D old s.set) → IfOk result (λ s. IsSetTraced D old s.set) → IfOk result (λ s. FindsKept D old s.set)
+    → IfOk result (λ s. AreOfListed old s.set) → IfOk result (KnowsFolder D new)
+attached_knows D old new (Ok s) same guards faithful traced finds own = subst (λ (f : Files). KnowsFolder D f s) (sym same)
+    (record { trusts = record { guards = guards; faithful = faithful; traced = traced }; finds = finds; own = own })
+attached_knows D old new (Err e) same guards faithful traced finds own = tt

@@ -1,10 +1,9 @@
 -- That no document goes that the lines don't take out, one line after the other.
-use Rattle.std.proofs.Common.{◌≡◌, ◌∷◌, ◌++◌, [], ℕ, List, Some, None, Result, Ok, Err, IfOk, sym, subst, inl, inr, ⊎_elim}
+use Rattle.std.proofs.Common.{◌≡◌, ◌∷◌, ◌++◌, [], ℕ, List, Some, None, Ok, sym, subst, inl, inr, ⊎_elim}
 use Rattle.std.specs.List.{Contains}
 use Rattle.std.proofs.lemmas.List.Elements.{Contains-append_left, Contains-append_right}
 use Rattle.outer_io.specs.declared.file_name.FileName.TheVariants.{Commit}
 use Rattle.outer_io.specs.Files.{Files, bytes_of}
-use Rattle.page_cache.specs.declared.faults.PageFault.{PageFault}
 use Rattle.commit_list.specs.Commits.{CommitData}
 use Rattle.commit_list.specs.CommitFiles.{IsCommitFile}
 use Rattle.documents.proofs.Lists.{cons_head, nil_none}
@@ -94,12 +93,6 @@ module _ (lang : Language) (D : ℕ) (first : List (List ℕ)) (f g : Files) (s 
         (taken_first lang D first (line ∷ more)) (taken_next lang D first line text more alike) so_far.lasts so_far.kept next.kept
 
 -- ---- where the index comes from
-
--- what is attached has what is kept, in files that stay
-pub attached_finds : (D : ℕ) (old new : Files) (result : Result SessionData PageFault) → new ≡ old → IfOk result (λ s. FindsKept D old s.set)
-    → IfOk result (λ s. FindsKept D new s.set)
-attached_finds D old new (Ok s) same finds = subst (λ (f : Files). FindsKept D f s.set) (sym same) finds
-attached_finds D old new (Err e) same finds = tt
 
 -- files without an index keep nothing, and a set without a segment has lost nothing
 pub bare_finds : (D : ℕ) (files : Files) (s : SetData) → s.parts ≡ [] → files Commit ≡ None → FindsKept D files s

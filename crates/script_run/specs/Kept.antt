@@ -46,7 +46,7 @@ HaltKeeps old new result = OnLines (StopKeeps old new) (SameKept old new) result
 abbrev pub ScriptKeeps : Files → Files → Status → Type 0
 ScriptKeeps old new s = StatusKeeps old new s × (s ≡ status.SinkFault → SameKept old new)
 
--- Lines that ask for no commit, and stop, keep what is kept. Whatever they ask for, no document goes that they don't
+-- Lines that ask for no commit, and stop, keep what is kept. Whatever they ask for, no live number goes that they don't
 -- take out
 pub record LinesKeep {T : Type 0} (quiet : Type 0) (Goes : ℕ → Type 0) (old new : Files) (result : Result T Halt)
     : Type 0 where
@@ -61,7 +61,7 @@ pub record AsksNoCommit (lang : Language) (files : Files) (lines : List (List �
 -- a script that begins no merge leaves few segments of each level; one of queries changes no file; it, or one that
 -- needs no segment to be merged, reads little.
 -- Whatever the folder of the commit holds, one that asks for no commit before its end loses nothing that is kept where
--- it isn't done, and none loses a document that it doesn't take out
+-- it isn't done, and none loses a live number that it doesn't take out
 pub record RunCosts (lang : Language) (lines : List (List ℕ)) (old new : Files) (before now : ℕ) (s : Status)
     : Type 0 where
   pub levels : (state : State) → IsStored old state → AllAsk lang begins_no_merge 1 state lines → IsAnswer s

@@ -4,13 +4,10 @@ ghost use Rattle.std.specs.Prelude.{◌≡◌, ◌≤◌, IsTrue, IfOk};
 ghost use Rattle.page_cache.specs.Causes.{HasPageCause};
 ghost use Rattle.page_cache.specs.Evidence.{NotDamaged, OnDamage};
 ghost use Rattle.index_opening.specs.Evidence.{IsEvident};
-ghost use Rattle.index_core.specs.KeptLive.{FindsKept};
-ghost use Rattle.index_core.specs.Carried.{AreOfListed};
-ghost use Rattle.index_core.specs.Sessions.{Trusts};
 ghost use Rattle.index_model.specs.State.{Index, State};
 ghost use Rattle.script_run.specs.LineAnswers.{IsSessionOf};
 ghost use Rattle.script_run.specs.Leads.{Opens};
-ghost use Rattle.script_run.specs.Origins.{dims_of, IsFrom, IsAllowed, IsOriginOf};
+ghost use Rattle.script_run.specs.Origins.{dims_of, IsFrom, IsAllowed, IsOriginOf, KnowsFolder};
 
 use commit_list::Commit;
 use index_core::{Session, Settings};
@@ -61,12 +58,8 @@ pub fn open<const D: usize, F: Folder>(
     ensures cause { HasPageCause (F.faults folder.old) (F.faults folder.new) result }
     ensures whole { IsTrue F.told → (i : Index) → (stored : State) → IsFrom (F.files folder.old) origin i stored
         → NotDamaged result }
-    ensures trusts { IsTrue F.told → IsOriginOf (F.files folder.old) origin
-        → IfOk result (Trusts D (F.files folder.new)) }
-    ensures finds { IsTrue F.told → IsOriginOf (F.files folder.old) origin
-        → IfOk result (λ s. FindsKept D (F.files folder.new) s.set) }
-    ensures own { IsTrue F.told → IsOriginOf (F.files folder.old) origin
-        → IfOk result (λ s. AreOfListed (F.files folder.old) s.set) }
+    ensures knows { IsTrue F.told → IsOriginOf (F.files folder.old) origin
+        → IfOk result (KnowsFolder D (F.files folder.new)) }
     ensures evident { OnDamage result
         (IsEvident (IsTrue F.told × IsOriginOf (F.files folder.old) origin) (F.files folder.new)) }
 {

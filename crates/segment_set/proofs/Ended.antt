@@ -1,6 +1,7 @@
 -- What the end of a begun merge does to a set.
 use Rattle.std.proofs.Common.{◌≡◌, ℕ, ◌≤◌, Bool, true, false, eqb, List, [], ◌∷◌, length, Option, None, Some, refl, sym, ap, subst, ◌∙◌, ◌⊎◌, inl, inr, arith}
 use Rattle.std.proofs.Common.{⊎_elim}
+use Rattle.std.proofs.Math.Logic.{∥∥₁_map}
 use Rattle.std.specs.List.{filter, list_any, sum_by}
 use Rattle.std.proofs.lemmas.Bool.{both_ways, cases_Bool}
 use Rattle.std.proofs.lemmas.List.Elements.{All-nil}
@@ -17,12 +18,13 @@ use Rattle.segment_set.specs.Sets.{BegunMerge, SetData, IsBuiltOf, IsWell, input
 use Rattle.segment_set.specs.Seen.{BegunStands, MergesInto, Sees}
 use Rattle.segment_set.specs.Kept.{KeepsNamed, StaysAlone, Follows, AreCanonical}
 use Rattle.segment_set.specs.Merged.{HasCome, IsEnded}
-use Rattle.segment_set.specs.Losing.{IsLossless, KeepsNumbers, is_built_live}
+use Rattle.segment_set.specs.Losing.{IsLossless, KeepsCounts, KeepsNumbers, TakesOver, is_built_live}
 use Rattle.segment_set.specs.Merges.{MakesLive, IsMade, Replaces, living, with_live, part_at}
 use Rattle.segment_set.proofs.Replaced.{one_if, place_in, some_place, length_parted}
 use Rattle.segment_set.proofs.Weller.{place_built, length_replaced}
 use Rattle.segment_set.proofs.Moved.{Moves, moved, well_moved, stays_moved, follows_moved, canon_moved, seen_moved}
 use Rattle.segment_set.proofs.Lossless.{dead_of, lossless_moved}
+use Rattle.segment_set.proofs.Counts.{counts_moved, fits_inputs}
 use Rattle.segment_set.proofs.Steps.{live_number}
 use Rattle.segment_set.proofs.WrittenBuffer.{some_is}
 
@@ -145,6 +147,14 @@ module _ (D : ℕ) (told : Type 0) (files new_files : Files) {s : SetData} (name
   unfolding end_moves
   end_loses keeps = lossless_moved D told files new_files s names b.inputs parts s.buffer end_moves None s.cache
       (λ number live. ⊎_elim (λ here. inl (built_living number b.built here)) inr (keeps number live)) (λ number there. inr there)
+
+  -- nor does any entry come from nowhere
+  pub end_counts : told → TakesOver D files (parts_among b.inputs s.parts) b.built
+      → KeepsCounts D files new_files s (moved s names parts s.buffer None s.cache)
+  unfolding end_moves
+  end_counts is_told takes =
+      counts_moved D told files new_files s names b.inputs parts s.buffer end_moves is_told well None s.cache (λ none. omega arith)
+      (λ n is. ∥∥₁_map (takes.entries n (living_is b.built n is).0) (fits_inputs D files (parts_among b.inputs s.parts) s.buffer n))
 
   pub end_seen : told → (i : Index) → Sees D files s i → Sees D new_files (moved s names parts s.buffer None s.cache) (record i { begun = false })
   unfolding end_moves

@@ -1,5 +1,5 @@
 -- A damage is shown by what it carries and is true of the files, from what the crates below say of it.
-use Rattle.std.proofs.Common.{◌≡◌, ◌≢◌, ℕ, ◌<◌, List, [], ◌∷◌, arith}
+use Rattle.std.proofs.Common.{◌≡◌, ◌≢◌, ℕ, ◌<◌, List, [], ◌∷◌, length, sym, subst, ◌∙◌, inr, arith}
 use Rattle.std.proofs.Math.Logic.{∥∥₁_elim, ∥∥₁_map, ∥∥₁_prop}
 use Rattle.std.proofs.lemmas.Grind.{merely}
 use Rattle.std.specs.List.{All}
@@ -12,11 +12,13 @@ use Rattle.page_cache.specs.declared.faults.Damage.TheVariants.{Page, Leaf, Body
 use Rattle.segment_file.specs.Heads.{Head, HasRanges}
 use Rattle.segment_view.specs.LiveSegments.{LiveSegment, parts_among}
 use Rattle.segment_view.specs.Held.{HasOwnHead, AreHeld}
-use Rattle.segment_set.specs.Damages.{IsDoubt}
-use Rattle.index_opening.specs.Evidence.{HasNoBody, IsCrowdedIn, IsEvidentIn, IsHeadIn, IsOfPart, IsTrueOf, LacksLeaf, OfGiven}
+use Rattle.segment_set.specs.Damages.{IsDoubt, IsEvidentIn, IsOfParts}
+use Rattle.index_opening.specs.Evidence.{HasNoBody, IsCrowdedIn, IsHeadIn, IsOfPart, IsTrueOf, LacksLeaf}
 use Rattle.segment_set.specs.Faithful.{HasFileHead}
-use Rattle.segment_set.specs.Sets.{AreAlone}
+use Rattle.segment_set.specs.Losing.{KeepsCounts}
+use Rattle.segment_set.specs.Sets.{AreAlone, SetData}
 use Rattle.segment_set.proofs.Crowds.{among_crowded}
+use Rattle.segment_set.proofs.SomeHeld.{some_among, some_held, sum_one}
 
 -- ---- entries that are none of documents
 
@@ -44,29 +46,57 @@ pub gathered_of_files : (D : ℕ) (files : Files) (ids : List ℕ) (parts : List
     → (All (HasOwnHead D files) parts → AreHeld D files (parts_among ids parts) items) → ∥ AreHeld D files (parts_among ids parts) items ∥₁
 gathered_of_files D files ids parts items heads held = ∥∥₁_map (all_merely (HasOwnHead D files) parts heads) held
 
-doubt_carried : (D : ℕ) (files : Files) (points_given : ℕ) (ids : List ℕ) (parts : List LiveSegment) (items : List Item) → AreAlone parts
-    → AreHeld D files (parts_among ids parts) items → (d : Damage) → IsDoubt points_given items d
-    → IsTrueOf (IsOfPart parts) (IsCrowdedIn D files parts) files d
-doubt_carried D files points_given ids parts items alone held (Unequal file said found) h =
-    let is : said ≡ points_given = h.1 in
-    let more : points_given < found = h.2 in
-    OfGiven h.0 (omega arith)
-doubt_carried D files points_given ids parts items alone held (Doubled doc) h = among_crowded D files ids parts items doc alone held h
-doubt_carried D files points_given ids parts items alone held (Page file number bytes) h = absurd h
-doubt_carried D files points_given ids parts items alone held (Leaf file number offset len bytes) h = absurd h
-doubt_carried D files points_given ids parts items alone held (Body file bytes) h = absurd h
-doubt_carried D files points_given ids parts items alone held (Missing file) h = absurd h
-doubt_carried D files points_given ids parts items alone held (Size file size needed) h = absurd h
-doubt_carried D files points_given ids parts items alone held (NotGiven doc next) h = absurd h
+doubt_carried : (D : ℕ) (files new_files : Files) (points_given : ℕ) (ids : List ℕ) (parts : List LiveSegment) (items : List Item) → AreAlone parts
+    → new_files ≡ files → AreHeld D files (parts_among ids parts) items → (d : Damage) → IsDoubt points_given items d
+    → IsTrueOf (IsOfPart parts) (IsOfParts D files new_files parts 0 points_given) new_files d
+doubt_carried D files new_files points_given ids parts items alone same held (Unequal file said found) h =
+    let all = some_among D files ids parts items (some_held D files (parts_among ids parts) items held) in
+    inr (h.0, h.1, h.2, (all.items, all.held, omega (arith, h.3, all.totals (λ _. 1), sum_one all.items, sum_one items)))
+doubt_carried D files new_files points_given ids parts items alone same held (Doubled doc) h =
+    among_crowded D new_files ids parts items doc alone (subst (λ (f : Files). AreHeld D f (parts_among ids parts) items) (sym same) held) h
+doubt_carried D files new_files points_given ids parts items alone same held (Page file number bytes) h = absurd h
+doubt_carried D files new_files points_given ids parts items alone same held (Leaf file number offset len bytes) h = absurd h
+doubt_carried D files new_files points_given ids parts items alone same held (Body file bytes) h = absurd h
+doubt_carried D files new_files points_given ids parts items alone same held (Missing file) h = absurd h
+doubt_carried D files new_files points_given ids parts items alone same held (Size file size needed) h = absurd h
+doubt_carried D files new_files points_given ids parts items alone same held (NotGiven doc next) h = absurd h
 
-pub doubt_evident : (T : Type 0) (D : ℕ) (files : Files) (points_given : ℕ) (ids : List ℕ) (parts : List LiveSegment) (items : List Item) (d : Damage)
-    → (T → AreAlone parts)
+pub doubt_evident : (T : Type 0) (D : ℕ) (files new_files : Files) (points_given : ℕ) (ids : List ℕ) (parts : List LiveSegment) (items : List Item) (d : Damage)
+    → (T → AreAlone parts) → (T → new_files ≡ files)
     → (T → ∥ AreHeld D files (parts_among ids parts) items ∥₁)
-    → IsDoubt points_given items d → IsEvidentIn D parts T files d
-doubt_evident T D files points_given ids parts items d alone held h = record {
+    → IsDoubt points_given items d → IsEvidentIn D files parts 0 points_given T new_files d
+doubt_evident T D files new_files points_given ids parts items d alone same held h = record {
   shows = merely (doubt_shows HasRanges points_given items d h);
   of_files = λ t. record {
-    shows = merely (doubt_shows (IsHeadIn files) points_given items d h);
-    carries = ∥∥₁_map (held t) (λ read. doubt_carried D files points_given ids parts items (alone t) read d h);
+    shows = merely (doubt_shows (IsHeadIn new_files) points_given items d h);
+    carries = ∥∥₁_map (held t) (λ read. doubt_carried D files new_files points_given ids parts items (alone t) (same t) read d h);
   };
 }
+
+-- ---- of more that waits, and of a set before
+
+pub more_waits : (D : ℕ) (f g : Files) (parts : List LiveSegment) (waiting points_given : ℕ) (d : Damage) → IsOfParts D f g parts 0 points_given d
+    → IsOfParts D f g parts waiting points_given d
+more_waits D f g parts waiting points_given (Unequal file said found) (is, of, more, (items, held, few)) =
+    (is, of, more, (items, held, omega (arith, few)))
+more_waits D f g parts waiting points_given (Doubled doc) h = h
+more_waits D f g parts waiting points_given (Page file number bytes) h = absurd h
+more_waits D f g parts waiting points_given (Leaf file number offset len bytes) h = absurd h
+more_waits D f g parts waiting points_given (Body file bytes) h = absurd h
+more_waits D f g parts waiting points_given (Missing file) h = absurd h
+more_waits D f g parts waiting points_given (Size file size needed) h = absurd h
+more_waits D f g parts waiting points_given (NotGiven doc next) h = absurd h
+
+pub parts_before : (D : ℕ) (f g h : Files) (s t : SetData) → t.points_given ≡ s.points_given → KeepsCounts D f g s t
+    → ((doc : ℕ) → IsCrowdedIn D h t.parts doc → IsCrowdedIn D h s.parts doc) → (d : Damage)
+    → IsOfParts D g h t.parts (length t.buffer) t.points_given d → ∥ IsOfParts D f h s.parts (length s.buffer) s.points_given d ∥₁
+parts_before D f g h s t given counts crowds (Unequal file said found) (is, of, more, (items, held, few)) =
+    ∥∥₁_map (counts.come items held)
+    (λ (was, of_was, fewer). (is, of ∙ given, omega (arith, more, given), (was, of_was, omega (arith, few, fewer, given))))
+parts_before D f g h s t given counts crowds (Doubled doc) crowd = merely (crowds doc crowd)
+parts_before D f g h s t given counts crowds (Page file number bytes) k = absurd k
+parts_before D f g h s t given counts crowds (Leaf file number offset len bytes) k = absurd k
+parts_before D f g h s t given counts crowds (Body file bytes) k = absurd k
+parts_before D f g h s t given counts crowds (Missing file) k = absurd k
+parts_before D f g h s t given counts crowds (Size file size needed) k = absurd k
+parts_before D f g h s t given counts crowds (NotGiven doc next) k = absurd k

@@ -57,7 +57,7 @@ faithful_parts D f g names old new named same follows canon has =
 -- ---- the set
 
 -- the files of its segments are those of names
-part_files : (D : ℕ) {f g : Files} (s : SetData) → IsWell D s → ((m : FileName) → is_named s.names.names m ≡ true → g m ≡ f m) → (p : LiveSegment)
+pub part_files : (D : ℕ) {f g : Files} (s : SetData) → IsWell D s → ((m : FileName) → is_named s.names.names m ≡ true → g m ≡ f m) → (p : LiveSegment)
     → Contains s.parts p → g (Segment p.head.id) ≡ f (Segment p.head.id)
 part_files D s well same p there = same (Segment p.head.id) (All-contains (IsNamed s.names) s.parts p well.named there)
 

@@ -54,3 +54,5 @@ pub mod Shows
 pub mod Exits
 pub mod Pushed
 pub mod WholeFiles
+pub mod Counts
+pub mod SomeHeld

@@ -1,5 +1,5 @@
 -- A live number of segments that are merged is that of an entry, or no entry of its segment has it.
-use Rattle.std.proofs.Common.{◌≡◌, ℕ, ◌++◌, Bool, true, false, ◌&&◌, ◌||◌, ◌⊎◌, eqb, List, [], ◌∷◌, Option, refl, sym, ap, ◌∙◌, inl, inr}
+use Rattle.std.proofs.Common.{◌≡◌, ℕ, ◌++◌, Bool, true, false, ◌&&◌, ◌||◌, ◌⊎◌, eqb, List, [], ◌∷◌, Option, Some, refl, sym, ap, ◌∙◌, inl, inr, arith}
 use Rattle.std.specs.List.{All}
 use Rattle.std.proofs.Math.Logic.{∥∥₁_map}
 use Rattle.std.proofs.lemmas.Bool.{both_ways}
@@ -13,9 +13,10 @@ use Rattle.segment_view.specs.LiveSegments.{LiveSegment, has_live, parts_among}
 use Rattle.segment_view.specs.Held.{HasOwnHead, IsHeld, AreHeld}
 use Rattle.segment_build.specs.NewSegments.{NewSegmentData}
 use Rattle.segment_set.specs.Losing.{HasNoEntry, is_built_live}
-use Rattle.segment_set.specs.Merges.{LosesNone}
+use Rattle.segment_set.specs.Merges.{HoldsLive, LosesNone}
 use Rattle.segment_set.proofs.Evident.{gathered_of_files}
 use Rattle.segment_set.proofs.Lossless.{dead_of}
+use Rattle.segment_set.proofs.SomeHeld.{some_held}
 use Rattle.segment_set.proofs.Well.{has_filtered}
 
 or_left : (a b : Bool) → (a || b) ≡ false → a ≡ false
@@ -78,10 +79,21 @@ no_entry D files (p ∷ ps) items number held live none = by (is_live p.live num
 pub loses_none : (D : ℕ) (told : Type 0) (files : Files) (ids : List ℕ) (parts : List LiveSegment) (items : List Item) (built : Option NewSegmentData)
     → (told → All (HasOwnHead D files) parts → AreHeld D files (parts_among ids parts) items)
     → ((number : ℕ) → is_built_live number built ≡ has_entry number items)
+    → ((n : NewSegmentData) → built ≡ Some n → HoldsLive D items n)
     → LosesNone D told files ids parts built
-loses_none D told files ids parts items built held same is_told heads number live = by (has_entry number items) refl
+loses_none D told files ids parts items built held same makes is_told heads = record {
+  numbers = λ number live. by number live (has_entry number items) refl;
+  entries = λ n is. ∥∥₁_map (gathered_of_files D files ids parts items heads (held is_told)) (λ h. record {
+    entries = (makes n is).items;
+    has = (makes n is).has;
+    items = items;
+    held = some_held D files (parts_among ids parts) items h;
+    fewer = λ f. omega (arith, (makes n is).same f);
+  });
+}
   where
-    by : (b : Bool) → has_entry number items ≡ b → (is_built_live number built ≡ true) ⊎ ∥ HasNoEntry D files (parts_among ids parts) number ∥₁
-    by true e = inl (same number ∙ e)
-    by false e = inr (∥∥₁_map (gathered_of_files D files ids parts items heads (held is_told))
+    by : (number : ℕ) → has_live number (parts_among ids parts) ≡ true → (b : Bool) → has_entry number items ≡ b
+        → (is_built_live number built ≡ true) ⊎ ∥ HasNoEntry D files (parts_among ids parts) number ∥₁
+    by number live true e = inl (same number ∙ e)
+    by number live false e = inr (∥∥₁_map (gathered_of_files D files ids parts items heads (held is_told))
         (λ h. no_entry D files (parts_among ids parts) items number h live e))

@@ -32,6 +32,7 @@ use Rattle.segment_set.proofs.Standing.{totals_length, totals_none, totals_then}
 use Rattle.segment_set.proofs.Grown.{grown}
 use Rattle.segment_set.proofs.Moved.{moved}
 use Rattle.segment_set.proofs.Lossless.{lossless_then}
+use Rattle.segment_set.proofs.Counts.{counts_none, counts_then}
 use Rattle.segment_set.proofs.Faithful.{faithful_parts}
 use Rattle.segment_set.proofs.Steps.{IsAfter, cached_more, step}
 
@@ -50,6 +51,7 @@ rearranges_none D told files s named = record {
   pinned = refl;
   saved = refl;
   loses = λ t well heads number live. inl live;
+  counts = λ t well heads. counts_none D files s;
 }
 
 pub rearranges_then : (D : ℕ) (told : Type 0) (f g h : Files) (a b c : SetData) → IsWell D b → Rearranges D told f g a b → Rearranges D told g h b c
@@ -69,6 +71,8 @@ rearranges_then D told f g h a b c well first second = record {
       (first.loses t before heads)
       (second.loses t well
       (faithful_parts D f g a.names a.parts b.parts before.named (first.kept.files t) first.follows (first.canon t) heads));
+  counts = λ t before heads. counts_then D f g h a b c (first.counts t before heads)
+      (second.counts t well (faithful_parts D f g a.names a.parts b.parts before.named (first.kept.files t) first.follows (first.canon t) heads));
 }
 
 -- what a call left that changed names, segments, buffer and cache
@@ -86,6 +90,7 @@ rearranges_after D told files new_files names parts buffer cache kept after = re
   pinned = after.pinned;
   saved = refl;
   loses = λ t well heads. after.loses t heads;
+  counts = λ t well heads. after.counts t heads;
 }
 
 -- ---- the entries of the segments

@@ -1,12 +1,11 @@
 -- What one call leaves and its damage shows, the call that hands it on leaves and shows too.
 use Rattle.std.proofs.Common.{◌<◌, ◌+◌, ◌^◌, ℕ}
-use Rattle.std.specs.Prelude.{All, Result, IsErrOf}
+use Rattle.std.specs.Prelude.{All, Result, IsErrOf, length}
 use Rattle.outer_io.specs.Files.{Files}
 use Rattle.page_cache.specs.declared.faults.Damage.{Damage}
-use Rattle.index_opening.specs.Evidence.{IsEvidentIn}
 use Rattle.segment_view.specs.LiveSegments.{live_in_parts}
 use Rattle.segment_set.specs.Sets.{IsNamed, SetData}
-use Rattle.segment_set.specs.Damages.{IsDoubt, IsMergeDamage, IsMergeDamageOf}
+use Rattle.segment_set.specs.Damages.{IsDoubt, IsEvidentIn, IsMergeDamage, IsMergeDamageOf}
 use Rattle.segment_set.specs.declared.faults.AddFault.{AddFault}
 use Rattle.segment_set.specs.declared.faults.AddFault.TheVariants as add
 use Rattle.segment_set.specs.Effects.{AddsAlone, RefusesFull, Rewrites, ShowsMergeDamage}
@@ -23,7 +22,7 @@ module _ (D : ℕ) (told : Type 0) (files new_files : Files) (s t : SetData) whe
     shown = carry (IsMergeDamage D s.points_given s.names t.names s.parts) h.shown;
     damage = λ is agrees. carry (IsMergeDamageOf new_files s.points_given) (h.damage is agrees);
     doubled = λ is agrees c reads. carry (IsDoubt s.points_given (live_in_parts c s.parts)) (h.doubled is agrees c reads);
-    evident = carry (IsEvidentIn D s.parts (told × IsFaithful D files s) new_files) h.evident;
+    evident = carry (IsEvidentIn D files s.parts (length s.buffer) s.points_given (told × IsFaithful D files s) new_files) h.evident;
   }
 
   -- an answer without a damage shows what any damage would
@@ -33,7 +32,7 @@ module _ (D : ℕ) (told : Type 0) (files new_files : Files) (s t : SetData) whe
     shown = none (IsMergeDamage D s.points_given s.names t.names s.parts);
     damage = λ is agrees. none (IsMergeDamageOf new_files s.points_given);
     doubled = λ is agrees c reads. none (IsDoubt s.points_given (live_in_parts c s.parts));
-    evident = none (IsEvidentIn D s.parts (told × IsFaithful D files s) new_files);
+    evident = none (IsEvidentIn D files s.parts (length s.buffer) s.points_given (told × IsFaithful D files s) new_files);
   }
 
 -- arranging anew writes new files alone, and leaves what adding leaves
@@ -45,6 +44,7 @@ rewrites_of D told files new_files s t m faithful = record {
   canon = m.canon;
   faithful = faithful;
   loses = λ t well keeps. m.loses t well keeps.heads;
+  counts = λ t well keeps. m.counts t well keeps.heads;
 }
 
 pub rewrites_none : (D : ℕ) (told : Type 0) (files : Files) (s : SetData) → All (IsNamed s.names) s.parts → Rewrites D told files files s s

@@ -1,6 +1,7 @@
 -- What one merge, one flush and the end of a merge do to a set.
 use Rattle.std.proofs.Common.{◌≡◌, ℕ, ◌≤◌, true, false, List, [], ◌∷◌, length, Option, None, Some}
 use Rattle.std.proofs.Common.{Result, Ok, Err, is_some, refl, sym, ap, subst, ◌∙◌, ◌⊎◌, inl, inr, arith}
+use Rattle.std.proofs.Math.Logic.{∥∥₁_map}
 use Rattle.std.specs.List.{All, Contains, sum_by}
 use Rattle.std.specs.Result.{OnOk, OnErr}
 use Rattle.std.proofs.lemmas.Bool.{cases_Bool}
@@ -19,7 +20,7 @@ use Rattle.file_names.specs.Names.{NameList, is_named}
 use Rattle.segment_set.specs.Sets.{SetData, IsBuiltOf, IsNamed, IsWell, inputs_of}
 use Rattle.segment_set.specs.Seen.{Sees}
 use Rattle.segment_set.specs.Kept.{KeepsNamed, StaysAlone, Follows, AreCanonical}
-use Rattle.segment_set.specs.Losing.{IsLossless, KeepsNumbers}
+use Rattle.segment_set.specs.Losing.{IsLossless, KeepsCounts, TakesOver}
 use Rattle.segment_set.specs.Faithful.{HasFileHead}
 use Rattle.segment_set.specs.Merges.{MakesLive, IsMade, IsGathered, IsMerged, Replaces}
 use Rattle.segment_set.proofs.Standing.{ids_named, sees_same}
@@ -27,6 +28,7 @@ use Rattle.segment_set.proofs.Replaced.{one_if, place_in, some_place, length_par
 use Rattle.segment_set.proofs.Weller.{place_built, length_replaced}
 use Rattle.segment_set.proofs.Moved.{Moves, moved, inputs_stay, well_moved, stays_moved, follows_moved, canon_moved, seen_moved, begun_moved}
 use Rattle.segment_set.proofs.Lossless.{lossless_moved}
+use Rattle.segment_set.proofs.Counts.{counts_moved, fits_inputs}
 use Rattle.page_cache.specs.Cache.{MarksGo}
 
 pub ok_or_err : {T E P Q : Type 0} (r : Result T E) → OnOk r P → OnErr r Q → P ⊎ Q
@@ -60,7 +62,7 @@ pub record IsStep (D : ℕ) (told : Type 0) (files new_files : Files) (cache : P
   pub moves : Moves D told files new_files s names gone parts s.buffer
   pub makes : told → Agrees files cache → (c : Contents) → AreRead D files c s.parts → MakesLive D (live_in_parts c (parts_among gone s.parts)) moves.built
   pub few : length parts ≤ length s.parts
-  pub loses : told → All (HasFileHead D files) s.parts → KeepsNumbers D files (parts_among gone s.parts) moves.built
+  pub loses : told → All (HasFileHead D files) s.parts → TakesOver D files (parts_among gone s.parts) moves.built
 
 module _ (D : ℕ) (told : Type 0) (files new_files : Files) (cache : PageCache) (s : SetData) (names : NameList) (ids : List ℕ) (parts : List LiveSegment)
     (kept : KeepsNamed told s.names names files new_files) where
@@ -77,7 +79,10 @@ module _ (D : ℕ) (told : Type 0) (files new_files : Files) (cache : PageCache)
     };
     makes = λ t agrees c reads. ap (live_in_parts c) (none_among s.parts);
     few = subst (λ (ps : List LiveSegment). length parts ≤ length ps) same (omega arith);
-    loses = λ t heads number live. let never : false ≡ true = sym (ap (has_live number) (none_among s.parts)) ∙ live in cc;
+    loses = λ t heads. record {
+      numbers = λ number live. let never : false ≡ true = sym (ap (has_live number) (none_among s.parts)) ∙ live in cc;
+      entries = λ n is. absurd cc;
+    };
   }
 
   fewer_built : (built : Option NewSegmentData) (inputs : List LiveSegment) (number : ℕ)
@@ -150,7 +155,14 @@ module _ (D : ℕ) (told : Type 0) (files new_files : Files) (before : PageCache
 
   pub step_loses : told → All (HasFileHead D files) s.parts → (cache : PageCache) → IsLossless D files s (moved s names parts s.buffer s.begun cache)
   step_loses is_told heads cache =
-      lossless_moved D told files new_files s names st.gone parts s.buffer st.moves s.begun cache (st.loses is_told heads) (λ number there. inr there)
+      lossless_moved D told files new_files s names st.gone parts s.buffer st.moves s.begun cache (st.loses is_told heads).numbers
+      (λ number there. inr there)
+
+  pub step_counts : told → All (HasFileHead D files) s.parts → (cache : PageCache)
+      → KeepsCounts D files new_files s (moved s names parts s.buffer s.begun cache)
+  step_counts is_told heads cache =
+      counts_moved D told files new_files s names st.gone parts s.buffer st.moves is_told well s.begun cache (λ none. omega arith)
+      (λ n is. ∥∥₁_map ((st.loses is_told heads).entries n is) (fits_inputs D files (parts_among st.gone s.parts) s.buffer n))
 
   pub step_well : IsApart → (cache : PageCache) → ((id : ℕ) → KeepsFile cache id → is_named s.names.names (Segment id) ≡ true) → MarksGo s.cache cache
       → IsWell D (moved s names parts s.buffer s.begun cache)
@@ -194,6 +206,7 @@ pub record IsAfter (D : ℕ) (told : Type 0) (files new_files : Files) (s t : Se
   pub canon : told → AreCanonical D new_files s.names t.parts
   pub pinned : parts_among (inputs_of s.begun) t.parts ≡ parts_among (inputs_of s.begun) s.parts
   pub loses : told → All (HasFileHead D files) s.parts → IsLossless D files s t
+  pub counts : told → All (HasFileHead D files) s.parts → KeepsCounts D files new_files s t
 
 pub merge_after : (D : ℕ) (told : Type 0) (files new_files : Files) {s : SetData} (well : IsWell D s) (names : NameList) (ids : List ℕ)
     (parts : List LiveSegment)
@@ -216,4 +229,5 @@ merge_after D told files new_files {s} well names ids parts cache kept apart agr
       canon = step_canon D told files new_files s.cache names ids parts st well;
       pinned = step_pinned D told files new_files s.cache names ids parts st well apart;
       loses = λ t heads. step_loses D told files new_files s.cache names ids parts st well t heads cache;
+      counts = λ t heads. step_counts D told files new_files s.cache names ids parts st well t heads cache;
     }

@@ -1,9 +1,9 @@
 -- What a set keeps of its files after calls that merge and add, and what is evident of a set.
-use Rattle.std.proofs.Common.{◌≡◌, ℕ, Bool, IsTrue, List, Option, None, Result, ℤ, refl, sym, subst, inr, arith}
+use Rattle.std.proofs.Common.{◌≡◌, ℕ, Bool, IsTrue, List, length, Option, None, Result, ℤ, refl, sym, subst, inr, arith}
 use Rattle.std.proofs.lemmas.Grind.{merely}
 use Rattle.std.proofs.lemmas.List.Elements.{All-contains}
 use Rattle.outer_io.specs.declared.file_name.FileName.TheVariants.{Segment}
-use Rattle.std.specs.List.{All}
+use Rattle.std.specs.List.{All, Contains}
 use Rattle.outer_io.specs.Files.{Files}
 use Rattle.page_cache.specs.declared.cache.PageCache.{PageCache}
 use Rattle.page_cache.specs.declared.faults.PageFault.{PageFault}
@@ -12,13 +12,16 @@ use Rattle.segment_view.specs.Calm.{IsCalm}
 use Rattle.segment_set.specs.Sets.{AreAlone, BegunMerge, IsNamed, IsSpread, IsWell, SetData, set_with}
 use Rattle.segment_set.specs.Merged.{Rearranges}
 use Rattle.segment_set.specs.Kept.{AreCanonical, Follows, KeepsNamed}
-use Rattle.index_opening.specs.Evidence.{IsCrowdedIn, IsEvidentIn, IsOfPart}
-use Rattle.segment_set.specs.Losing.{KeepsBegun}
+use Rattle.index_opening.specs.Evidence.{IsOfPart}
+use Rattle.segment_view.specs.LiveSegments.{LiveSegment}
+use Rattle.segment_set.specs.Damages.{IsEvidentIn, IsOfParts}
+use Rattle.segment_set.specs.Losing.{KeepsBegun, KeepsCounts}
 use Rattle.segment_set.specs.Faithful.{HasFileHead, IsFaithful}
 use Rattle.segment_set.proofs.BegunKept.{begun_none}
 use Rattle.segment_set.proofs.Crowds.{crowded_before}
 use Rattle.segment_set.proofs.WholeFiles.{needed_before}
-use Rattle.index_opening.proofs.Evident.{on_evident_by, on_less_with}
+use Rattle.index_opening.proofs.Evident.{on_evident_by}
+use Rattle.segment_set.proofs.Evident.{more_waits, parts_before}
 use Rattle.segment_set.proofs.Faithful.{faithful_named, faithful_parts}
 
 -- the files are told, and what the set keeps of them is theirs
@@ -57,23 +60,30 @@ faithful_with D files points s faithful = record { pages = faithful.pages; heads
 
 -- what is evident of the segments of now is so of the set
 pub on_evident_set : {X : Type 0} (D : ℕ) (told : Bool) (f g : Files) (s t : SetData) (r : Result X PageFault) → s ≡ t → IsSpread s.next s.parts s.buffer
-    → OnDamage r (IsEvidentIn D s.parts (IsTrue told × All (HasFileHead D f) s.parts × AreAlone s.parts) g)
-    → OnDamage r (IsEvidentIn D t.parts (IsTrusted told D f t) g)
+    → OnDamage r (IsEvidentIn D f s.parts 0 s.points_given (IsTrue told × All (HasFileHead D f) s.parts × AreAlone s.parts) g)
+    → OnDamage r (IsEvidentIn D f t.parts (length t.buffer) t.points_given (IsTrusted told D f t) g)
 on_evident_set D told f g s t r same spread evident =
-    subst (λ (u : SetData). OnDamage r (IsEvidentIn D u.parts (IsTrusted told D f u) g)) same
-    (on_less_with (IsOfPart s.parts) (IsCrowdedIn D g s.parts) (IsTrue told × All (HasFileHead D f) s.parts × AreAlone s.parts) (IsTrusted told D f s) g r
-    (λ trusted. (trusted.0, trusted.1.heads, λ number. omega (arith, spread.alone number))) evident)
+    subst (λ (u : SetData). OnDamage r (IsEvidentIn D f u.parts (length u.buffer) u.points_given (IsTrusted told D f u) g)) same
+    (on_evident_by (IsOfPart s.parts) (IsOfPart s.parts) (IsOfParts D f g s.parts 0 s.points_given) (IsOfParts D f g s.parts (length s.buffer) s.points_given)
+    (IsTrue told × All (HasFileHead D f) s.parts × AreAlone s.parts) (IsTrusted told D f s) g r
+    (λ trusted. (trusted.0, trusted.1.heads, λ number. omega (arith, spread.alone number)))
+    (λ trusted file of. merely (inr (inr of)))
+    (λ trusted d shown. merely (more_waits D f g s.parts (length s.buffer) s.points_given d shown))
+    evident)
 
 -- and of a set before, from which what is kept stays theirs
 pub on_evident_before : {X : Type 0} (D : ℕ) (told : Bool) (f g h : Files) (s t u : SetData) (r : Result X PageFault) → All (IsNamed t.names) t.parts
-    → Rearranges D (IsTrue told) f g s t
+    → Rearranges D (IsTrue told) f g s t → (IsTrue told → IsFaithful D f s → KeepsCounts D f g s t)
     → KeepsNamed (IsTrue told) t.names u.names g h → (IsTrue told → IsFaithful D f s → IsFaithful D g t)
-    → OnDamage r (IsEvidentIn D t.parts (IsTrusted told D g t) h)
-    → OnDamage r (IsEvidentIn D s.parts (IsTrusted told D f s) h)
-on_evident_before D told f g h s t u r named moves kept stays =
-    on_evident_by (IsOfPart t.parts) (IsOfPart s.parts) (IsCrowdedIn D h t.parts) (IsCrowdedIn D h s.parts) (IsTrusted told D g t) (IsTrusted told D f s) h r
+    → OnDamage r (IsEvidentIn D g t.parts (length t.buffer) t.points_given (IsTrusted told D g t) h)
+    → OnDamage r (IsEvidentIn D f s.parts (length s.buffer) s.points_given (IsTrusted told D f s) h)
+on_evident_before D told f g h s t u r named moves counts kept stays =
+    on_evident_by (IsOfPart t.parts) (IsOfPart s.parts) (IsOfParts D g h t.parts (length t.buffer) t.points_given)
+    (IsOfParts D f h s.parts (length s.buffer) s.points_given) (IsTrusted told D g t) (IsTrusted told D f s) h r
     (λ trusted. (trusted.0, stays trusted.0 trusted.1))
-    (λ trusted file of. needed_before D g h s.names s.parts t.parts file moves.follows (moves.canon trusted.0)
-    (λ p there. kept.files trusted.0 (Segment p.head.id) (All-contains (IsNamed t.names) t.parts p named there)) of)
-    (λ trusted number crowd. merely (crowded_before D g h s.names s.parts t.parts number moves.follows (moves.canon trusted.0)
-    (λ p there. kept.files trusted.0 (Segment p.head.id) (All-contains (IsNamed t.names) t.parts p named there)) crowd))
+    (λ trusted file of. needed_before D g h s.names s.parts t.parts file moves.follows (moves.canon trusted.0) (same trusted.0) of)
+    (λ trusted d shown. parts_before D f g h s t moves.stays.points_given (counts trusted.0 trusted.1)
+    (λ number crowd. crowded_before D g h s.names s.parts t.parts number moves.follows (moves.canon trusted.0) (same trusted.0) crowd) d shown)
+  where
+    same : IsTrue told → (p : LiveSegment) → Contains t.parts p → h (Segment p.head.id) ≡ g (Segment p.head.id)
+    same is_told p there = kept.files is_told (Segment p.head.id) (All-contains (IsNamed t.names) t.parts p named there)

@@ -24,7 +24,7 @@ use Rattle.file_names.specs.Names.{NameList}
 use Rattle.segment_set.specs.Sets.{NamedView, SetData, viewed_parts}
 use Rattle.index_opening.specs.Opened.{IsOpened}
 use Rattle.segment_set.specs.Swept.{IsUnneeded}
-use Rattle.index_opening.specs.Evidence.{IsEvidentOf, IsOfPart, IsTwice}
+use Rattle.index_opening.specs.Evidence.{IsEvidentOf, IsOfPart, IsOfEntries}
 use Rattle.segment_set.specs.Faithful.{HasFileHead, IsFaithful}
 use Rattle.index_opening.proofs.Ordered.{zip_right}
 use Rattle.segment_set.proofs.BegunKept.{begun_alike, begun_none}
@@ -54,8 +54,8 @@ pub looked_evident : {X : Type 0} (D : ℕ) (told : Bool) (f g : Files) (s t : S
     → OnDamage r (IsEvidentOf (viewed_parts view t) (IsTrue told × IsFaithful D f t) g)
 looked_evident D told f g s t view segments ids cache r same is calm shown of_files =
     subst (λ (ps : List LiveSegment). OnDamage r (IsEvidentOf ps (IsTrue told × IsFaithful D f t) g)) is
-    (on_evident_at (λ u. IsOfPart segments) IsTwice (IsTrue told × IsFaithful D f t) (IsTrue told × IsFaithful D f t) f g r (λ h. h) (λ h. calm.files h.0)
-    (on_part_evident (IsOfPart segments) (IsTwice f) (IsTrue told × IsFaithful D f t) D f segments r
+    (on_evident_at (λ u. IsOfPart segments) IsOfEntries (IsTrue told × IsFaithful D f t) (IsTrue told × IsFaithful D f t) f g r (λ h. h) (λ h. calm.files h.0)
+    (on_part_evident (IsOfPart segments) (IsOfEntries f) (IsTrue told × IsFaithful D f t) D f segments r
     (λ h. subst (All (HasFileHead D f)) (sym is) (viewed_heads D f view t h.1)) (λ h p there. of_part f segments p there)
     (λ h. of_files h.0 (subst (λ (u : SetData). Agrees f u.cache) (sym same) h.1.pages)) shown))
 

@@ -1,7 +1,8 @@
 -- What a flush of the buffer does to a set.
 use Rattle.std.proofs.Common.{◌≡◌, ℕ, ◌<◌, Bool, true, false, List, [], ◌++◌, length, Some, Result, Err, is_some, refl, sym, ap, subst, ◌∙◌, inl, inr, arith}
 use Rattle.std.specs.Result.{OnOk, OnErr}
-use Rattle.std.specs.List.{sum_by}
+use Rattle.std.specs.List.{filter, sum_by}
+use Rattle.std.proofs.lemmas.Grind.{merely}
 use Rattle.std.proofs.lemmas.List.{append-nil}
 use Rattle.std.proofs.lemmas.List.Sums.{sum_by-append}
 use Rattle.outer_io.specs.Files.{Files}
@@ -16,13 +17,15 @@ use Rattle.file_names.specs.Names.{NameList}
 use Rattle.segment_set.specs.Sets.{SetData, IsBuiltOf, IsWell, inputs_of}
 use Rattle.segment_set.specs.Seen.{Sees}
 use Rattle.segment_set.specs.Kept.{KeepsNamed, StaysAlone, Follows, AreCanonical}
-use Rattle.segment_set.specs.Losing.{IsLossless}
+use Rattle.segment_set.specs.Losing.{IsLossless, KeepsCounts}
 use Rattle.segment_set.specs.Merges.{IsMade, IsBufferWritten}
 use Rattle.segment_set.proofs.Standing.{sees_same}
 use Rattle.segment_set.proofs.Replaced.{one_if, ids_stay}
 use Rattle.segment_set.proofs.Weller.{length_replaced}
 use Rattle.segment_set.proofs.Moved.{Moves, moved, inputs_stay, well_moved, stays_moved, follows_moved, canon_moved, seen_moved, begun_moved}
 use Rattle.segment_set.proofs.Lossless.{lossless_moved}
+use Rattle.segment_set.proofs.Counts.{FitsIn, counts_moved}
+use Rattle.segment_set.proofs.SomeHeld.{some_none, sum_one}
 use Rattle.segment_set.proofs.Steps.{IsAfter, merge_after, none_among, ok_or_err}
 
 none_twice_none : NoneTwice []
@@ -80,6 +83,18 @@ module _ (D : ℕ) (told : Type 0) (files new_files : Files) {s : SetData} (name
       (λ number live. let never : false ≡ true = sym (ap (has_live number) (none_among s.parts)) ∙ live in cc)
       (λ number there. inl (ap (λ (f : ℕ → Bool). f number) sp.live ∙ there))
 
+  written_counts : told → KeepsCounts D files new_files s (moved s names parts [] s.begun s.cache)
+  unfolding written_moves
+  written_counts is_told = counts_moved D told files new_files s names [] parts [] written_moves is_told well s.begun s.cache (λ none. omega arith)
+      (λ n is. merely (subst (FitsIn D files (parts_among [] s.parts) [] s.buffer) (some_is sp.n n is) (record {
+        entries = sp.holds.items;
+        has = sp.holds.has;
+        items = [];
+        held = some_none D files (parts_among [] s.parts);
+        few = let live = filter (λ (x : Item). is_live sp.n.live x.doc) sp.holds.items in
+            omega (arith, sp.holds.same (λ _. 1), sum_one live, sum_one s.buffer);
+      })))
+
   pub written_seen : told → (i : Index) → Sees D files s i → Sees D new_files (moved s names parts [] s.begun s.cache) i
   unfolding written_moves
   written_seen is_told i h =
@@ -117,6 +132,7 @@ written_after D told files new_files {s} well names parts left few kept r writte
     canon = written_canon D told files new_files names parts kept sp.0 well;
     pinned = written_pinned D told files new_files names parts kept sp.0 well;
     loses = λ t heads. written_loses D told files new_files names parts kept sp.0 well;
+    counts = λ t heads. written_counts D told files new_files names parts kept sp.0 well t;
   })
   | inr same ↦
       subst (λ (es : List Item). IsAfter D told files new_files s (moved s names parts es s.begun s.cache)) (sym same.1)

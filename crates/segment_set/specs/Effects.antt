@@ -19,7 +19,7 @@ use Rattle.segment_file.specs.LiveFiles.{IsLiveFile}
 use Rattle.segment_view.specs.LiveSegments.{LiveSegment, Contents, AreRead, live_in_parts}
 use Rattle.segment_view.specs.Damages.{IsPartDamage}
 use Rattle.index_opening.specs.Damages.{IsAttachDamage, IsAttachDamageOf}
-use Rattle.index_opening.specs.Evidence.{IsEvident, IsEvidentIn, IsEvidentOf}
+use Rattle.index_opening.specs.Evidence.{IsEvident, IsEvidentOf}
 use Rattle.segment_set.specs.declared.faults.AddFault.{AddFault}
 use Rattle.segment_set.specs.declared.faults.AddFault.TheVariants as add
 use Rattle.segment_set.specs.Sets.{BegunMerge, IsWell, SetData}
@@ -29,19 +29,20 @@ use Rattle.segment_set.specs.Merged.{IsEnded}
 use Rattle.segment_set.specs.Merges.{Replaces, living}
 use Rattle.segment_set.specs.Settles.{SetMoment, IsLeft}
 use Rattle.segment_set.specs.Saved.{AreCovering, IsLastOrFresh, KeepsLine}
-use Rattle.segment_set.specs.Damages.{IsDoubt, IsMergeDamage, IsMergeDamageOf}
+use Rattle.segment_set.specs.Damages.{IsDoubt, IsEvidentIn, IsMergeDamage, IsMergeDamageOf}
 use Rattle.segment_set.specs.Faithful.{IsFaithful}
-use Rattle.segment_set.specs.Losing.{IsLossless}
+use Rattle.segment_set.specs.Losing.{IsLossless, KeepsCounts}
 use Rattle.segment_set.specs.Faults.{OnAddDamage}
 
 -- Files are written under new names alone. Each segment was there, or is canonical in a file of a new name. No
--- document is lost.
+-- document is lost, and no entry comes from nowhere.
 pub record Rewrites (D : ℕ) (told : Type 0) (files new_files : Files) (s t : SetData) : Type 0 where
   pub kept : KeepsNamed told s.names t.names files new_files
   pub follows : Follows s.names s.parts t.parts
   pub canon : told → AreCanonical D new_files s.names t.parts
   pub faithful : told → IsFaithful D files s → IsFaithful D new_files t
   pub loses : told → IsWell D s → IsFaithful D files s → IsLossless D files s t
+  pub counts : told → IsWell D s → IsFaithful D files s → KeepsCounts D files new_files s t
 
 -- ---- what a damage shows. `On P` says that P holds of the damage, where the call answers one
 
@@ -54,7 +55,8 @@ pub record ShowsMergeDamage (D : ℕ) (told : Type 0) (files new_files : Files) 
   pub damage : told → Agrees files s.cache → On (IsMergeDamageOf new_files s.points_given)
   pub doubled : told → Agrees files s.cache → (c : Contents) → AreRead D files c s.parts
       → On (IsDoubt s.points_given (live_in_parts c s.parts))
-  pub evident : On (IsEvidentIn D s.parts (told × IsFaithful D files s) new_files)
+  pub evident : On (IsEvidentIn D files s.parts (length s.buffer) s.points_given (told × IsFaithful D files s)
+      new_files)
 
 -- The damage comes of a query of these segments: where the set is seen as an index there is none; a leaf of one of them
 -- is damaged.
@@ -100,10 +102,11 @@ pub record EndsMerge {T E : Type 0} (D : ℕ) (told : Type 0) (new_files : Files
   pub replaced : (b : BegunMerge) → s.begun ≡ Some b
       → OnOk result (Replaces D told s.names t.names new_files b.inputs (living b.built) s.parts t.parts)
 
--- deletions alone: no number is live that wasn't
+-- deletions alone: no number is live that wasn't, nor any entry
 pub record DeletesAlone (s t : SetData) : Type 0 where
   pub stays : StaysAlone s t
   pub follows : Follows s.names s.parts t.parts
+  pub counts : (D : ℕ) (files : Files) → KeepsCounts D files files s t
   pub names : t.names ≡ s.names
   pub saved : t.saved ≡ s.saved
 

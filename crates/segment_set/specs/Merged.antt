@@ -13,7 +13,7 @@ use Rattle.segment_build.specs.NewSegments.{NewSegmentData}
 use Rattle.segment_set.specs.Sets.{BegunMerge, IsWell, SetData, inputs_of}
 use Rattle.segment_set.specs.Seen.{Sees}
 use Rattle.segment_set.specs.Kept.{AreCanonical, Follows, KeepsNamed, StaysAlone}
-use Rattle.segment_set.specs.Losing.{IsLossless}
+use Rattle.segment_set.specs.Losing.{IsLossless, KeepsCounts}
 use Rattle.segment_set.specs.Faithful.{HasFileHead}
 
 -- each of the numbers, where it first stands
@@ -63,7 +63,7 @@ pub record IsApart (ids inputs : List ℕ) (parts : List LiveSegment) : Type 0 w
 
 -- The documents of a set are arranged anew in segments: with the files now it is seen as it was. Names were only
 -- added; each segment was there or has a new name, and those of new names are canonical. The inputs of a begun merge
--- stay, and no document is lost.
+-- stay, no live number is lost, and no entry comes from nowhere.
 pub record Rearranges (D : ℕ) (told : Type 0) (files new_files : Files) (s t : SetData) : Type 0 where
   pub seen : told → (i : Index) → Sees D files s i → Sees D new_files t i
   pub stays : StaysAlone s t
@@ -74,6 +74,7 @@ pub record Rearranges (D : ℕ) (told : Type 0) (files new_files : Files) (s t :
   pub pinned : parts_among (inputs_of s.begun) t.parts ≡ parts_among (inputs_of s.begun) s.parts
   pub saved : t.saved ≡ s.saved
   pub loses : told → IsWell D s → All (HasFileHead D files) s.parts → IsLossless D files s t
+  pub counts : told → IsWell D s → All (HasFileHead D files) s.parts → KeepsCounts D files new_files s t
 
 -- where the kept pages were those of the files they are so still, and the segments have the live entries that they had
 pub record KeepsEntries (D : ℕ) (told : Type 0) (files new_files : Files) (s t : SetData) : Type 0 where

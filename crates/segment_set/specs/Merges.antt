@@ -16,7 +16,7 @@ use Rattle.file_names.specs.Names.{NameList, is_named}
 use Rattle.segment_set.specs.Sets.{BegunMerge, HasUncrowded}
 use Rattle.segment_set.specs.Given.{IsNextName}
 use Rattle.segment_set.specs.Faithful.{HasFileHead}
-use Rattle.segment_set.specs.Losing.{KeepsNumbers}
+use Rattle.segment_set.specs.Losing.{TakesOver}
 
 -- the live ones of the entries that the segment was built of are these, and each live number is that of one of them
 pub record HoldsLive (D : ℕ) (entries : List Item) (n : NewSegmentData) : Type 0 where
@@ -72,13 +72,14 @@ pub record IsGathered (D leaf_size : ℕ) (inputs : List LiveSegment) (n : NewSe
   pub all : ∥ HasLiveEntries D n ∥₁
   pub within : (number : ℕ) → is_live n.live number ≡ true → has_live number inputs ≡ true
 
--- no document is lost, where the heads of these segments, some of which are inputs, are those of their files
+-- no live number is lost and no entry comes from nowhere, where the heads of these segments, some of which are inputs,
+-- are those of their files
 abbrev pub LosesNone : (D : ℕ) (told : Type 0) (files : Files) (ids : List ℕ) (parts : List LiveSegment)
     → Option NewSegmentData → Type 0
 LosesNone D told files ids parts built =
-    told → All (HasFileHead D files) parts → KeepsNumbers D files (parts_among ids parts) built
+    told → All (HasFileHead D files) parts → TakesOver D files (parts_among ids parts) built
 
--- what is built of the inputs of a merge that is begun: no entry of it is dead, and no document is lost
+-- what is built of the inputs of a merge that is begun: no entry of it is dead, and no live number is lost
 pub record Collects (D leaf_size : ℕ) (told : Type 0) (files : Files) (parts : List LiveSegment) (b : BegunMerge)
     : Type 0 where
   pub gathered : (n : NewSegmentData) → b.built ≡ Some n → IsGathered D leaf_size (parts_among b.inputs parts) n

@@ -26,6 +26,7 @@ impl<const D: usize> SegmentSet<D> {
     ghost use Rattle.segment_set.specs.Effects.{DeletesAlone, ShowsLeafDamage};
     ghost use Rattle.segment_set.specs.Seen.{Sees};
     ghost use Rattle.segment_set.specs.Kept.{Follows, StaysAlone, StaysButCache};
+    ghost use Rattle.segment_set.specs.Losing.{KeepsCounts};
     ghost use Rattle.segment_set.specs.Faithful.{IsFaithful};
 
     /// Takes a document out. True exactly where it was live. It takes no memory and no folder.
@@ -91,6 +92,7 @@ impl<const D: usize> SegmentSet<D> {
         ensures faithful { (files : Files) → IsFaithful D files self.old → IsFaithful D files self.new }
         ensures stays { StaysAlone self.old self.new }
         ensures follows { Follows self.old.names self.old.parts self.new.parts }
+        ensures counts { (E : ℕ) (files : Files) → KeepsCounts E files files self.old self.new }
         ensures names { self.new.names ≡ self.old.names }
         ensures saved { self.new.saved ≡ self.old.saved }
     {

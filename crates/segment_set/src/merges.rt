@@ -97,7 +97,7 @@ impl<const D: usize> SegmentSet<D> {
         ensures inputs { OnOk result
             ((b : BegunMerge) × (self.new.begun ≡ Some b)
             × (b.inputs ≡ chosen_ids which.now (ids_of self.old.parts))) }
-        // what is built has no dead entry, and no document is lost
+        // what is built has no dead entry, and no live number is lost
         ensures built { OnOk result ((b : BegunMerge) → self.new.begun ≡ Some b
             → Collects D self.old.leaf_size (IsTrue F.told) (F.files folder.old) self.old.parts b) }
         // what stays

@@ -21,8 +21,7 @@ ghost use Rattle.segment_set.specs.Sets.{AreAlone, IsNamed};
 ghost use Rattle.segment_set.specs.Kept.{KeepsNamed};
 ghost use Rattle.segment_set.specs.Merges.{IsGathered, IsMerged, Swaps, IsBufferWritten, LosesNone, MakesLive};
 ghost use Rattle.segment_set.specs.Merges.{Replaces, living};
-ghost use Rattle.segment_set.specs.Damages.{IsDoubt, IsMergeDamage, IsMergeDamageOf};
-ghost use Rattle.index_opening.specs.Evidence.{IsEvidentIn};
+ghost use Rattle.segment_set.specs.Damages.{IsDoubt, IsEvidentIn, IsMergeDamage, IsMergeDamageOf};
 ghost use Rattle.segment_set.specs.Faithful.{HasFileHead};
 
 use crate::buffer::Buffer;
@@ -124,7 +123,7 @@ pub(crate) fn gathered<const D: usize, R: Threads + Sync, F: Pages, G: Gate>(
     ensures doubled { IsTrue F.told → (c : Contents) → AreRead D (F.files folder.old) c segments.now
         → OnDamage result (IsDoubt plan.now.points_given (live_in_parts c segments.now)) }
     ensures evident { OnDamage result
-        (IsEvidentIn D segments.now
+        (IsEvidentIn D (F.files folder.old) segments.now 0 plan.now.points_given
         (IsTrue F.told × All (HasFileHead D (F.files folder.old)) segments.now × AreAlone segments.now)
         (F.files folder.new)) }
 {
@@ -225,7 +224,7 @@ pub(crate) fn merge<const D: usize, R: Threads + Sync, F: Folder, G: Gate>(
     ensures doubled { IsTrue F.told → (c : Contents) → AreRead D (F.files folder.old) c segments.old
         → OnDamage result (IsDoubt plan.now.points_given (live_in_parts c segments.old)) }
     ensures evident { OnDamage result
-        (IsEvidentIn D segments.old
+        (IsEvidentIn D (F.files folder.old) segments.old 0 plan.now.points_given
         (IsTrue F.told × All (HasFileHead D (F.files folder.old)) segments.old × AreAlone segments.old)
         (F.files folder.new)) }
 {

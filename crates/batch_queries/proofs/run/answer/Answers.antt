@@ -1,12 +1,13 @@
 -- The lines are told over what the folder stores: no index, or the one whose commit was read.
-use Rattle.std.proofs.Common.{◌≤◌, ◌+◌, [], subst, sum_by, sym}
+use Rattle.std.proofs.Common.{◌≤◌, ◌+◌, [], IsTrue, subst, sum_by, sym}
 use Rattle.std.proofs.lemmas.Result.{err_from_is_err_and, on_ok_weaker}
 use Rattle.script_lang.specs.Lines.{lines_of}
 use Rattle.index_model.specs.State.{State}
 use Rattle.run_status.specs.Told.{TellsAll}
 use Rattle.batch_queries.specs.Batched.{TellsBatch}
 use Rattle.outer_io.specs.Files.{Files}
-use Rattle.batch_run.specs.Copies.{copied_pages}
+use Rattle.index_opening.proofs.Evident.{on_evident_files}
+use Rattle.batch_run.specs.Copies.{IsCommitIn, copied_pages}
 use Rattle.batch_queries.proofs.Tells.{reads_once}
 use Rattle.batch_queries.proofs.run.answer.Goals as goal
 use Rattle.stored_index.proofs.Whole.{not_damaged, no_index}
@@ -35,3 +36,14 @@ returns-in-Some-clause-reads g c = λ told.
     (subst (λ (f : Files). g.F.Pages.reads c.answer_stored.new.folder
     ≤ g.F.Pages.reads c.read_commit.new.folder + sum_by (copied_pages f) c.in-Some.commit.listed) (c.in_ok-read_commit.ensures.files told) h))
     (c.answer_stored.ensures.reads told)
+
+pub returns-in-Some-clause-evident : goal.returns-in-Some-clause-evident
+returns-in-Some-clause-evident g c =
+    let commit = c.in-Some.commit in
+    let read = g.F.Pages.files c.read_commit.new.folder in
+    on_evident_files (IsTrue g.F.Pages.told × IsCommitIn read commit) (IsTrue g.F.Pages.told) read (g.F.Pages.files c.args.folder.now) c.answer_stored.result
+    (λ told. (
+      told,
+      subst (λ (f : Files). IsCommitIn f commit) (sym (c.in_ok-read_commit.ensures.files told)) (rw c.in-Some.is at (c.in_ok-read_commit.ensures.found told)),
+    ))
+    (λ told. sym (c.in_ok-read_commit.ensures.files told)) c.answer_stored.ensures.evident

@@ -9,7 +9,7 @@ use Rattle.page_cache.specs.Evidence.{FaultShows, OnDamage}
 use Rattle.commit_list.specs.CommitFiles.{IsCommitFile}
 use Rattle.segment_file.specs.Damages.{IsLeafDamageOf}
 use Rattle.segment_view.specs.LiveSegments.{LiveSegment}
-use Rattle.index_opening.specs.Evidence.{IsOfListed, IsTwice}
+use Rattle.index_opening.specs.Evidence.{IsOfListed, IsOfEntries}
 use Rattle.index_opening.specs.Opened.{IsOpened}
 use Rattle.index_opening.proofs.LeafEvident.{on_part_evident}
 use Rattle.index_opening.proofs.Listed.{undefined_fault}
@@ -63,7 +63,7 @@ returns-in_err-findings-clause-evident g c =
     let fault = c.in_err-findings.field-0.0 in
     let e = err_from_is_err_and c.from_residual-in_err-findings.result c.from_residual-in_err-findings.ensures.1 in
     rw (e.1, e.2)
-    (on_part_evident {X = Unit {0}} (λ file. ⊥) (IsTwice files) (IsTrue g.F.Pages.told × IsCommitFile (bytes_of (files Commit)) c.args.c.now) g.row.D files
+    (on_part_evident {X = Unit {0}} (λ file. ⊥) (IsOfEntries files) (IsTrue g.F.Pages.told × IsCommitFile (bytes_of (files Commit)) c.args.c.now) g.row.D files
     parts (Err fault)
     (λ t. file_heads (IsTrue g.F.Pages.told) g.row.D files c.args.c.now parts t.0 c.requires c.in_ok-segments.ensures.opened)
     (λ t p there. inl (inr (All-contains (λ (q : LiveSegment). IsOfListed files (Segment q.head.id)) parts p

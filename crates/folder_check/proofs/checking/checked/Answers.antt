@@ -1,5 +1,5 @@
 -- What is told is so.
-use Rattle.std.proofs.Common.{◌∙◌, List, ap, refl, sym, subst, inr}
+use Rattle.std.proofs.Common.{◌∙◌, List, Err, ap, refl, sym, subst, inr}
 use Rattle.std.specs.List.{sum_by}
 use Rattle.std.proofs.lemmas.Result.{err_from_is_err_and}
 use Rattle.outer_io.specs.declared.file_name.FileName.TheVariants.{Commit}
@@ -7,6 +7,7 @@ use Rattle.outer_io.specs.Files.{Files, bytes_of}
 use Rattle.commit_list.specs.declared.listed.Listed.{Listed}
 use Rattle.commit_list.specs.CommitFiles.{IsCommitFile}
 use Rattle.stored_index.specs.Stored.{HoldsIndex}
+use Rattle.index_opening.proofs.Evident.{on_evident_files}
 use Rattle.index_opening.proofs.Listed.{undefined_fault}
 use Rattle.index_opening.proofs.Named.{commit_found}
 use Rattle.folder_check.specs.Checked.{ok_text}
@@ -98,3 +99,18 @@ returns-in_err-check_commit-clause-first g c = λ told.
     (listed_is_first (IsTrue g.F.Pages.told) files (g.F.Pages.files c.read_commit.new.folder) c.in-Some.commit c.in_err-check_commit.field-0.0
     (c.in_ok-commit.ensures.files told)
     (rw c.in-Some.is at (c.in_ok-commit.ensures.found told)) (c.in_err-check_commit.ensures.first told))
+
+pub returns-in_err-check_commit-clause-evident : goal.returns-in_err-check_commit-clause-evident
+returns-in_err-check_commit-clause-evident g c =
+    let commit = c.in-Some.commit in
+    let read = g.F.Pages.files c.read_commit.new.folder in
+    let e = err_from_is_err_and c.from_residual-in_err-check_commit.result c.from_residual-in_err-check_commit.ensures.1 in
+    rw (e.1, e.2)
+    (on_evident_files {X = Unit {0}} (IsTrue g.F.Pages.told × IsCommitFile (bytes_of (read Commit)) commit) (IsTrue g.F.Pages.told) read
+    (g.F.Pages.files c.args.folder.now) (Err c.in_err-check_commit.field-0.0)
+    (λ told. (
+      told,
+      subst (λ (f : Files). IsCommitFile (bytes_of (f Commit)) commit) (sym (c.in_ok-commit.ensures.files told))
+          (rw c.in-Some.is at (c.in_ok-commit.ensures.found told)),
+    ))
+    (λ told. sym (c.in_ok-commit.ensures.files told)) c.in_err-check_commit.ensures.evident)

@@ -24,7 +24,7 @@ queries-preserved g c = record {
   makes = λ seed n.
       makes_ok _ _ _ _ _ c.in_ok-found.found tt (makes_then _ _ _ _ _ _ _ tt _ (c.queries.invariant.makes seed n)
       (makes_reads _ (drawn_index seed n n) _ _ _ (λ t. c.nearest_to.ensures.seen t (drawn_index seed n n)) c.nearest_to.ensures.guards
-      c.nearest_to.ensures.files c.nearest_to.ensures.parts c.in_ok-found.ensures.cause
+      c.nearest_to.ensures.files c.nearest_to.ensures.rest c.in_ok-found.ensures.cause
       (λ t. c.in_ok-found.ensures.whole t (drawn_index seed n n)) c.nearest_to.ensures.faithful c.in_ok-found.ensures.evident));
   near = λ told seed n before drawn.
       let at = c.queries.invariant.drawn seed n drawn in
@@ -47,7 +47,7 @@ returns-in_err-found-clause-makes g c = λ seed n.
     makes_stopped _ _ _ _ _ _ c.in_err-found.field-0.0 _ (p.1 ∙ ap (λ (e : PageFault). Err e) p.2)
     (makes_then _ _ _ _ _ _ _ tt _ (c.queries.invariant.makes seed n)
     (makes_reads _ (drawn_index seed n n) _ _ _ (λ t. c.nearest_to.ensures.seen t (drawn_index seed n n)) c.nearest_to.ensures.guards c.nearest_to.ensures.files
-    c.nearest_to.ensures.parts c.in_err-found.ensures.cause
+    c.nearest_to.ensures.rest c.in_err-found.ensures.cause
     (λ t. c.in_err-found.ensures.whole t (drawn_index seed n n)) c.nearest_to.ensures.faithful c.in_err-found.ensures.evident))
 
 pub returns-clause-makes : goal.returns-clause-makes

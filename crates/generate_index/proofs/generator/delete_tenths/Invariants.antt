@@ -2,7 +2,7 @@ use Rattle.std.proofs.Common.{◌≡◌, ◌%◌, ◌-◌, ℕ, length}
 use Rattle.outer_io.specs.Files.{Files}
 use Rattle.segment_set.specs.Faithful.{IsFaithful}
 use Rattle.index_core.specs.Effects.{BringsCanonical}
-use Rattle.index_core.specs.Sessions.{AreTraced, Guards}
+use Rattle.index_core.specs.Sessions.{Guards, IsSetTraced}
 use Rattle.drawn_points.specs.Generated.{documents, kept_docs}
 use Rattle.generate_index.specs.Generates.{IsDrawn}
 use Rattle.generate_index.proofs.generator.delete_tenths.Given as goal
@@ -16,7 +16,7 @@ invariant-deletes l = record {
       → l.live ≡ length (kept_docs l.number (documents seed l.docs));
   guards : (files : Files) → Guards 2 files l.initial.session → Guards 2 files l.session;
   faithful : (files : Files) → IsFaithful 2 files l.initial.session.set → IsFaithful 2 files l.session.set;
-  traced : (files : Files) → AreTraced 2 files l.initial.session.set.parts → AreTraced 2 files l.session.set.parts;
+  traced : (files : Files) → IsSetTraced 2 files l.initial.session.set → IsSetTraced 2 files l.session.set;
   canon : (files : Files) → BringsCanonical 2 files files l.initial.session.set.parts l.session.set.parts;
   tenth : l.number % 10 ≡ 0;
 }

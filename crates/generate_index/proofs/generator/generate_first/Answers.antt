@@ -122,7 +122,7 @@ returns-in_err-summary-clause-evident g c =
     _ (p.1 ∙ ap (λ (e : PageFault). Err e) p.2)
     (λ told none. created_trusts (g.F.Pages.files c.args.folder.now) c.in_ok-session.session
     (c.in_ok-session.ensures.guards (g.F.Pages.files c.args.folder.now) none) (c.in_ok-session.ensures.faithful (g.F.Pages.files c.args.folder.now))
-    c.in_ok-session.ensures.bare)
+    (c.in_ok-session.ensures.traced (g.F.Pages.files c.args.folder.now)))
     c.in_err-summary.ensures.makes.evident
 
 pub returns-in_err-put_summary-clause-evident : goal.returns-in_err-put_summary-clause-evident
@@ -137,7 +137,7 @@ returns-in_err-commit-clause-evident g c =
     (g.F.Pages.files c.commit.new.folder) c.in_err-commit.field-0.0 _ (p.1 ∙ ap (λ (e : PageFault). Err e) p.2)
     (λ told none. makes_trusts _ _ _ _ _ _ c.in_ok-summary.ensures.makes told
     (created_trusts (g.F.Pages.files c.args.folder.now) c.in_ok-session.session (c.in_ok-session.ensures.guards (g.F.Pages.files c.args.folder.now) none)
-    (c.in_ok-session.ensures.faithful (g.F.Pages.files c.args.folder.now)) c.in_ok-session.ensures.bare))
+    (c.in_ok-session.ensures.faithful (g.F.Pages.files c.args.folder.now)) (c.in_ok-session.ensures.traced (g.F.Pages.files c.args.folder.now))))
     c.in_err-commit.ensures.faults.evident
 
 -- want of memory for the session is no fault of the folder
@@ -226,7 +226,7 @@ returns-in_err-commit-clause-lasting g c told none =
     (c.in_ok-summary.ensures.makes.kept told (c.in_ok-session.ensures.guards (g.F.Pages.files c.args.folder.now) none))
     (c.in_err-commit.ensures.durable.lasting told (makes_trusts _ _ _ _ _ _ c.in_ok-summary.ensures.makes told
     (created_trusts (g.F.Pages.files c.args.folder.now) c.in_ok-session.session (c.in_ok-session.ensures.guards (g.F.Pages.files c.args.folder.now) none)
-    (c.in_ok-session.ensures.faithful (g.F.Pages.files c.args.folder.now)) c.in_ok-session.ensures.bare)))
+    (c.in_ok-session.ensures.faithful (g.F.Pages.files c.args.folder.now)) (c.in_ok-session.ensures.traced (g.F.Pages.files c.args.folder.now)))))
 
 pub returns-clause-lasting : goal.returns-clause-lasting
 returns-clause-lasting g c told none =
@@ -234,4 +234,4 @@ returns-clause-lasting g c told none =
     (c.in_ok-summary.ensures.makes.kept told (c.in_ok-session.ensures.guards (g.F.Pages.files c.args.folder.now) none))
     (c.in_ok-commit.ensures.durable.lasting told (makes_trusts _ _ _ _ _ _ c.in_ok-summary.ensures.makes told
     (created_trusts (g.F.Pages.files c.args.folder.now) c.in_ok-session.session (c.in_ok-session.ensures.guards (g.F.Pages.files c.args.folder.now) none)
-    (c.in_ok-session.ensures.faithful (g.F.Pages.files c.args.folder.now)) c.in_ok-session.ensures.bare)))
+    (c.in_ok-session.ensures.faithful (g.F.Pages.files c.args.folder.now)) (c.in_ok-session.ensures.traced (g.F.Pages.files c.args.folder.now)))))

@@ -34,7 +34,8 @@ load_into-requires-after_bounds g c κs = λ _. (session_fits g.row.D c.requires
 
 pub returns-in-Ok : goal.returns-in-Ok
 returns-in-Ok g c =
-    loads_as _ _ _ _ _ _ _ _ _ c.load_into.result (made_trusts g.row.D _ _ (c.in-Ok.ensures.guards _) (c.in-Ok.ensures.faithful _) c.in-Ok.ensures.bare)
+    loads_as _ _ _ _ _ _ _ _ _ c.load_into.result (made_trusts g.row.D _ _ (c.in-Ok.ensures.guards _) (c.in-Ok.ensures.faithful _) c.in-Ok.ensures.bare
+    (c.in-Ok.ensures.traced _))
     (λ stored h. made_loading g.row.D _ _ _ stored c.greatest_leaf.ensures (c.in-Ok.ensures.seen _) (c.in-Ok.ensures.guards _) c.in-Ok.ensures.bare h)
     (λ stored h. refl) c.load_into.ensures
 

@@ -3,7 +3,7 @@ use Rattle.std.proofs.Common.{ℕ, IsTrue, arith, inr, refl, subst, ap, ◌∙�
 use Rattle.std.proofs.lemmas.Grind.{merely}
 use Rattle.outer_io.specs.Files.{Files}
 use Rattle.index_opening.specs.Evidence.{IsOfListed}
-use Rattle.index_core.specs.Carried.{IsFileOf}
+use Rattle.index_core.specs.Carried.{AreOfListed, IsFileOf}
 use Rattle.index_core.proofs.Carrying.{listed_file}
 use Rattle.index_core.proofs.Brought.{commit_equal, commit_then}
 use Rattle.index_core.proofs.LosingNone.{keeps_same}
@@ -73,8 +73,9 @@ pub returns-in-Ok-clause-evident : goal.returns-in-Ok-clause-evident
 returns-in-Ok-clause-evident g c =
     let old = g.F.Pages.files c.args.folder.now in
     halt_named (IsFileOf (g.F.Pages.files c.open.new.folder) (g.F.Pages.files c.run_made.new.folder) c.in-Ok.session.set) (IsOfListed old) _ _ _
-    c.run_made.result (λ p. (p.0, c.in-Ok.ensures.trusts p.0 p.1))
-    (λ p file o. merely (inr (inr (listed_file old (g.F.Pages.files c.run_made.new.folder) c.in-Ok.session.set (c.in-Ok.ensures.own p.0 p.1) file
+    c.run_made.result (λ p. (p.0, (c.in-Ok.ensures.knows p.0 p.1).trusts))
+    (λ p file o. merely (inr (inr (listed_file old (g.F.Pages.files c.run_made.new.folder) c.in-Ok.session.set
+    (subst (λ (f : Files). AreOfListed f c.in-Ok.session.set) (c.in-Ok.ensures.files p.0) (c.in-Ok.ensures.knows p.0 p.1).own) file
     (subst (λ (f : Files). IsFileOf f (g.F.Pages.files c.run_made.new.folder) c.in-Ok.session.set file) (c.in-Ok.ensures.files p.0) o)))))
     c.run_made.ensures.evident
 
@@ -86,14 +87,14 @@ returns-in-Err-clause-evident g c =
 pub returns-in-Ok-clause-keeps : goal.returns-in-Ok-clause-keeps
 returns-in-Ok-clause-keeps g c = λ told.
     of_same _ c.args.reader.now (g.S.Source.left c.args.input.now) _ _ (λ lines keeps there.
-    let made = keeps (c.in-Ok.ensures.trusts told there) in
+    let made = keeps (c.in-Ok.ensures.knows told there).trusts in
     record {
       undone = λ quiet.
           subst (λ (f : Files). HaltKeeps f (g.F.Pages.files c.run_made.new.folder) c.run_made.result) (c.in-Ok.ensures.files told)
           (made.0 (subst (λ (n : ℕ). NoneCommits c.args.work.now.language n lines) c.requires.dims quiet));
       lasts = opened_keeps c.args.work.now.language g.row.D (dims_of c.args.origin) lines (g.F.Pages.files c.args.folder.now)
           (g.F.Pages.files c.open.new.folder) (g.F.Pages.files c.run_made.new.folder) c.in-Ok.session.set c.requires.dims (c.in-Ok.ensures.files told)
-          (c.in-Ok.ensures.finds told there) made.1;
+          (c.in-Ok.ensures.knows told there).finds made.1;
     })
     (c.run_made.ensures.keeps told)
 
@@ -110,7 +111,7 @@ returns-in-Err-clause-keeps g c = λ told. of_any _ c.args.reader.now (g.S.Sourc
 pub returns-in-Ok-clause-lasting : goal.returns-in-Ok-clause-lasting
 returns-in-Ok-clause-lasting g c = λ told there.
     commit_then (g.F.Pages.files c.args.folder.now) (g.F.Pages.files c.open.new.folder) (g.F.Pages.files c.run_made.new.folder)
-    (commit_equal _ _ (c.in-Ok.ensures.files told)) (c.run_made.ensures.lasting told (c.in-Ok.ensures.trusts told there))
+    (commit_equal _ _ (c.in-Ok.ensures.files told)) (c.run_made.ensures.lasting told (c.in-Ok.ensures.knows told there).trusts)
 
 pub returns-in-Err-clause-lasting : goal.returns-in-Err-clause-lasting
 returns-in-Err-clause-lasting g c = λ told there. commit_equal _ _ (c.in-Err.ensures.files told)

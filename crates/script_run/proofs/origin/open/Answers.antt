@@ -6,8 +6,8 @@ use Rattle.index_core.proofs.Sizes.{session_fits}
 use Rattle.script_run.proofs.Opened.{made_stands, attached_stands}
 use Rattle.script_run.proofs.Starting.{opens_new, opens_none, opens_stored}
 use Rattle.index_opening.proofs.Evident.{on_evident_files}
-use Rattle.script_run.proofs.Shown.{attached_trusts, bare_trusts}
-use Rattle.script_run.proofs.Taken.{attached_finds, bare_finds}
+use Rattle.script_run.proofs.Shown.{attached_knows}
+use Rattle.script_run.proofs.Taken.{bare_finds}
 use Rattle.script_run.proofs.origin.open.Goals as goal
 use Rattle.run_status.proofs.Ending.{page_memory, page_none}
 
@@ -70,13 +70,18 @@ returns-in-Stored-clause-opens g c = λ told i stored h.
     (c.attach.ensures.attaches.seen told from.0 i from.1) (c.attach.ensures.attaches.guards told from.0) c.attach.ensures.attaches.unchanged
     c.attach.ensures.attaches.listed)
 
-pub returns-in_ok-create-in-New-clause-trusts : goal.returns-in_ok-create-in-New-clause-trusts
-returns-in_ok-create-in-New-clause-trusts g c = λ told there.
-    bare_trusts g.row.D _ _ (c.in_ok-create-in-New.ensures.guards _) (c.in_ok-create-in-New.ensures.faithful _) c.in_ok-create-in-New.ensures.bare
-    (rw c.in-New.is at there)
+pub returns-in_ok-create-in-New-clause-knows : goal.returns-in_ok-create-in-New-clause-knows
+returns-in_ok-create-in-New-clause-knows g c = λ told there.
+    let made = c.in_ok-create-in-New.ensures in
+    let none = rw c.in-New.is at there in
+    record {
+      trusts = record { guards = made.guards _ none; faithful = made.faithful _; traced = made.traced _ };
+      finds = bare_finds g.row.D _ _ made.bare none;
+      own = made.own _;
+    }
 
-pub returns-in_err-create-in-New-clause-trusts : goal.returns-in_err-create-in-New-clause-trusts
-returns-in_err-create-in-New-clause-trusts g c = λ told there.
+pub returns-in_err-create-in-New-clause-knows : goal.returns-in_err-create-in-New-clause-knows
+returns-in_err-create-in-New-clause-knows g c = λ told there.
     let p = err_from_is_err_and c.from_residual.result c.from_residual.ensures.1 in
     rw p.1 tt
 
@@ -85,35 +90,13 @@ returns-in_err-create-in-New-clause-evident g c =
     let p = err_from_is_err_and c.from_residual.result c.from_residual.ensures.1 in
     rw (p.1, p.2) tt
 
-pub returns-in-Stored-clause-trusts : goal.returns-in-Stored-clause-trusts
-returns-in-Stored-clause-trusts g c = λ told there.
-    attached_trusts g.row.D _ _ c.attach.result (c.attach.ensures.files told) (c.attach.ensures.attaches.guards told (rw c.in-Stored.is at there))
-    (c.attach.ensures.attaches.faithful told) (c.attach.ensures.attaches.traced told (rw c.in-Stored.is at there))
+pub returns-in-Stored-clause-knows : goal.returns-in-Stored-clause-knows
+returns-in-Stored-clause-knows g c = λ told there.
+    let says = rw c.in-Stored.is at there in
+    let attaches = c.attach.ensures.attaches in
+    attached_knows g.row.D _ _ c.attach.result (c.attach.ensures.files told) (attaches.guards told says) (attaches.faithful told)
+    (attaches.traced told says) (attaches.finds told says) (attaches.own told says)
 
 pub returns-in-Stored-clause-evident : goal.returns-in-Stored-clause-evident
 returns-in-Stored-clause-evident g c =
     on_evident_files _ _ _ _ c.attach.result (λ p. (p.0, rw c.in-Stored.is at p.1)) (λ p. c.attach.ensures.files p.0) c.attach.ensures.damaged.evident
-
-pub returns-in_ok-create-in-New-clause-finds : goal.returns-in_ok-create-in-New-clause-finds
-returns-in_ok-create-in-New-clause-finds g c = λ told there.
-    bare_finds g.row.D _ _ c.in_ok-create-in-New.ensures.bare (rw c.in-New.is at there)
-
-pub returns-in_err-create-in-New-clause-finds : goal.returns-in_err-create-in-New-clause-finds
-returns-in_err-create-in-New-clause-finds g c = λ told there.
-    let p = err_from_is_err_and c.from_residual.result c.from_residual.ensures.1 in
-    rw p.1 tt
-
-pub returns-in-Stored-clause-finds : goal.returns-in-Stored-clause-finds
-returns-in-Stored-clause-finds g c = λ told there.
-    attached_finds g.row.D _ _ c.attach.result (c.attach.ensures.files told) (c.attach.ensures.attaches.finds told (rw c.in-Stored.is at there))
-
-pub returns-in_ok-create-in-New-clause-own : goal.returns-in_ok-create-in-New-clause-own
-returns-in_ok-create-in-New-clause-own g c = λ told there. c.in_ok-create-in-New.ensures.own _
-
-pub returns-in_err-create-in-New-clause-own : goal.returns-in_err-create-in-New-clause-own
-returns-in_err-create-in-New-clause-own g c = λ told there.
-    let p = err_from_is_err_and c.from_residual.result c.from_residual.ensures.1 in
-    rw p.1 tt
-
-pub returns-in-Stored-clause-own : goal.returns-in-Stored-clause-own
-returns-in-Stored-clause-own g c = λ told there. c.attach.ensures.attaches.own told (rw c.in-Stored.is at there)

@@ -3,7 +3,6 @@ use Rattle.std.proofs.lemmas.List.{nil_from_length}
 use Rattle.std.proofs.lemmas.Bool.Decides.{nat_tests}
 use Rattle.std.proofs.lemmas.List.Elements.{All-filter}
 use Rattle.std.proofs.lemmas.Result.{err_from_is_err_and}
-use Rattle.outer_io.specs.Files.{Files}
 use Rattle.point_codec.specs.Points.{Item}
 use Rattle.point_codec.specs.Seen.{items_of}
 use Rattle.point_codec.specs.declared.entries.Entry.{Entry}
@@ -17,8 +16,8 @@ use Rattle.segment_view.specs.LiveSegments.{LiveSegment, live_in_parts, parts_am
 use Rattle.segment_view.specs.Damages.{IsPartDamage}
 use Rattle.segment_view.specs.Held.{AreHeld}
 use Rattle.segment_set.specs.Merges.{HoldsLive, IsGathered}
-use Rattle.segment_set.specs.Damages.{IsDoubt, IsMergeDamage, IsMergeDamageOf, Doubt}
-use Rattle.index_opening.specs.Evidence.{IsCrowdedIn, IsEvidentIn, IsOfPart}
+use Rattle.segment_set.specs.Damages.{IsDoubt, IsEvidentIn, IsMergeDamage, IsMergeDamageOf, IsOfParts, Doubt}
+use Rattle.index_opening.specs.Evidence.{IsOfPart}
 use Rattle.segment_set.specs.Faithful.{HasFileHead}
 use Rattle.segment_set.specs.Sets.{AreAlone}
 use Rattle.segment_set.proofs.Doubted.{doubt_among, part_shown, whole_shows}
@@ -147,6 +146,7 @@ returns-then-is_empty-clause-loses g c =
     loses_none g.row.D (IsTrue g.F.Pages.told) files c.args.ids.now c.args.segments.now (items_of c.in_ok-entries.entries.items) None
     (λ told. c.in_ok-entries.ensures.held told (c.in_ok-once.ensures.agrees files))
     (λ number. sym (ap (λ (es : List (Entry g.row.D)). has_entry number (items_of es)) (nil_from_length c.in_ok-entries.entries.items none)))
+    (λ n is. absurd cc)
 
 pub returns-clause-loses : goal.returns-clause-loses
 returns-clause-loses g c =
@@ -156,6 +156,10 @@ returns-clause-loses g c =
     (λ told. c.in_ok-entries.ensures.held told (c.in_ok-once.ensures.agrees files))
     (λ number. ap (λ (f : ℕ → Bool). f number) c.in_ok-build_of.ensures.live.1
     ∙ ap (λ (es : List (Entry g.row.D)). has_entry number (items_of es)) c.as_mut_slice.ensures.value)
+    (λ n is. let has = c.in_ok-build_of.ensures.has in
+    subst (HoldsLive g.row.D (items_of c.in_ok-entries.entries.items)) (some_is c.in_ok-build_of.field-0 n is)
+    (subst (λ (es : List (Entry g.row.D)). HoldsLive g.row.D (items_of es) c.in_ok-build_of.field-0) c.as_mut_slice.ensures.value
+    (holds_live g.row.D (items_of c.as_mut_slice.result.now) has.0 c.in_ok-build_of.field-0 has.1 has.2 c.in_ok-build_of.ensures.live.1)))
 
 pub returns-in_err-entries-clause-cause : goal.returns-in_err-entries-clause-cause
 returns-in_err-entries-clause-cause g c =
@@ -254,9 +258,11 @@ returns-in_err-entries-clause-evident g c =
     let parts = c.args.segments.now in
     let told = IsTrue g.F.Pages.told × All (HasFileHead g.row.D files) parts × AreAlone parts in
     rw (p.1, p.2)
-    (on_evident_at {X = Unit {0}} (λ f. IsOfPart parts) (λ f. IsCrowdedIn g.row.D f parts) told told files (g.F.Pages.files c.gather.new.folder)
+    (on_evident_at {X = Unit {0}} (λ f. IsOfPart parts) (λ f. IsOfParts g.row.D files f parts 0 c.args.plan.now.points_given) told told files
+    (g.F.Pages.files c.gather.new.folder)
     (Err c.in_err-entries.field-0.0) (λ t. t) (λ t. c.in_err-entries.ensures.calm.files t.0)
-    (on_part_evident {X = Unit {0}} (IsOfPart parts) (IsCrowdedIn g.row.D files parts) told g.row.D files (parts_among c.args.ids.now parts)
+    (on_part_evident {X = Unit {0}} (IsOfPart parts) (IsOfParts g.row.D files files parts 0 c.args.plan.now.points_given) told g.row.D files
+    (parts_among c.args.ids.now parts)
     (Err c.in_err-entries.field-0.0)
     (λ t. All-filter (λ (q : LiveSegment). is_among c.args.ids.now q.head.id) (HasFileHead g.row.D files) parts t.1)
     (λ t p there. inr (inr (p, (of_filter (λ (q : LiveSegment). is_among c.args.ids.now q.head.id) parts p there).0, refl)))
@@ -272,11 +278,11 @@ returns-in_err-build_of-clause-evident g c =
     let some = parts_among c.args.ids.now parts in
     let told = IsTrue g.F.Pages.told × All (HasFileHead g.row.D files) parts × AreAlone parts in
     rw (p.1, p.2)
-    (on_damage {T = Unit {0}} (IsDoubt c.args.plan.now.points_given (items_of c.as_mut_slice.result.now)) (IsEvidentIn g.row.D parts told after)
-    (Err c.in_err-build_of.field-0.0)
-    (λ d h. doubt_evident told g.row.D after c.args.plan.now.points_given c.args.ids.now parts (items_of c.as_mut_slice.result.now) d (λ t. t.2)
-    (λ t. subst (λ (f : Files). ∥ AreHeld g.row.D f some (items_of c.as_mut_slice.result.now) ∥₁) (sym (c.gather.ensures.calm.files t.0))
-    (subst (λ (es : List (Entry g.row.D)). ∥ AreHeld g.row.D files some (items_of es) ∥₁) (sym c.as_mut_slice.ensures.value)
+    (on_damage {T = Unit {0}} (IsDoubt c.args.plan.now.points_given (items_of c.as_mut_slice.result.now))
+    (IsEvidentIn g.row.D files parts 0 c.args.plan.now.points_given told after) (Err c.in_err-build_of.field-0.0)
+    (λ d h. doubt_evident told g.row.D files after c.args.plan.now.points_given c.args.ids.now parts (items_of c.as_mut_slice.result.now) d (λ t. t.2)
+    (λ t. c.gather.ensures.calm.files t.0)
+    (λ t. subst (λ (es : List (Entry g.row.D)). ∥ AreHeld g.row.D files some (items_of es) ∥₁) (sym c.as_mut_slice.ensures.value)
     (gathered_of_files g.row.D files c.args.ids.now parts (items_of c.in_ok-entries.entries.items) t.1
-    (c.in_ok-entries.ensures.held t.0 (c.in_ok-once.ensures.agrees files)))))
+    (c.in_ok-entries.ensures.held t.0 (c.in_ok-once.ensures.agrees files))))
     h) c.in_err-build_of.ensures.shown)

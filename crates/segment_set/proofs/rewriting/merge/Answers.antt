@@ -4,9 +4,9 @@ use Rattle.segment_set.proofs.Rearranged.{both_ok}
 use Rattle.std.proofs.lemmas.Result.{err_from_is_err_and, on_ok_weaker}
 use Rattle.segment_build.specs.NewSegments.{NewSegmentData}
 use Rattle.segment_set.specs.Merges.{Replaces, living}
-use Rattle.segment_set.specs.Damages.{IsDoubt, IsMergeDamage, IsMergeDamageOf}
+use Rattle.segment_set.specs.Damages.{IsDoubt, IsMergeDamage, IsMergeDamageOf, IsOfParts}
 use Rattle.segment_view.specs.LiveSegments.{live_in_parts}
-use Rattle.index_opening.specs.Evidence.{IsCrowdedIn, IsOfPart}
+use Rattle.index_opening.specs.Evidence.{IsOfPart}
 use Rattle.segment_set.specs.Faithful.{HasFileHead}
 use Rattle.segment_set.specs.Sets.{AreAlone}
 use Rattle.segment_set.proofs.Doubted.{whole_shows}
@@ -75,6 +75,6 @@ returns-in_err-built-clause-evident g c =
 pub returns-clause-evident : goal.returns-clause-evident
 returns-clause-evident g c =
     let files = g.F.Pages.files c.args.folder.now in
-    none_with (IsOfPart c.args.segments.now) (IsCrowdedIn g.row.D (g.F.Pages.files c.replace.new.folder) c.args.segments.now)
+    none_with (IsOfPart c.args.segments.now) (IsOfParts g.row.D files (g.F.Pages.files c.replace.new.folder) c.args.segments.now 0 c.args.plan.now.points_given)
     (IsTrue g.F.Pages.told × All (HasFileHead g.row.D files) c.args.segments.now × AreAlone c.args.segments.now)
     (g.F.Pages.files c.replace.new.folder) c.replace.result c.replace.ensures.whole

@@ -1,8 +1,10 @@
 -- What the folder holds its copy holds, and a damage of the copy is one of the folder.
-use Rattle.std.proofs.Common.{subst, sym}
+use Rattle.std.proofs.Common.{Err, IsTrue, subst, sym}
+use Rattle.std.proofs.lemmas.Result.{err_from_is_err_and}
 use Rattle.outer_io.specs.Files.{Files}
 use Rattle.outer_io.specs.MemFolder.{folder_files}
 use Rattle.stored_index.specs.Stored.{HoldsIndex}
+use Rattle.index_opening.proofs.Evident.{on_evident_files}
 use Rattle.batch_run.specs.Copies.{IsCommitIn}
 use Rattle.batch_run.proofs.CopiedFiles.{copied_back, copy_holds}
 use Rattle.batch_run.proofs.resident.Resident.load.Goals as goal
@@ -42,3 +44,14 @@ returns-in_ok-check_index-in-Err-Damaged-clause-evident g c = record {
       (c.in_ok-copy.ensures.copied t.0)
       (subst (λ (f : Files). HoldsIndex f c.args.c.now held.0) same held.1))));
 }
+
+pub returns-in_err-check_index-in-Err-Damaged-clause-evident : goal.returns-in_err-check_index-in-Err-Damaged-clause-evident
+returns-in_err-check_index-in-Err-Damaged-clause-evident g c =
+    let files = g.F.Pages.files c.args.folder.now in
+    let read = g.F.Pages.files c.copy_index.new.folder in
+    let e = err_from_is_err_and c.from_residual-in_err-check_index-in-Err-Damaged.result c.from_residual-in_err-check_index-in-Err-Damaged.ensures.1 in
+    rw (e.1, e.2)
+    (on_evident_files {X = Unit {0}} (IsTrue g.F.Pages.told × IsCommitIn read c.args.c.now) (IsTrue g.F.Pages.told × IsCommitIn files c.args.c.now) read files
+    (Err c.in_err-check_index-in-Err-Damaged.field-0.0)
+    (λ t. (t.0, subst (λ (f : Files). IsCommitIn f c.args.c.now) (sym (c.in_ok-copy.ensures.files t.0)) t.1))
+    (λ t. sym (c.in_ok-copy.ensures.files t.0)) c.in_err-check_index-in-Err-Damaged.ensures.evident)

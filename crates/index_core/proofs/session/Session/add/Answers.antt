@@ -58,6 +58,8 @@ returns-clause-applies g c =
       brings = λ told. brings_written _ _ _ _ _ _ _ _ told c.add.ensures.rewrites.kept c.add.ensures.rewrites.follows (c.add.ensures.rewrites.canon told);
       views = λ told. views_named _ _ _ _ c.self.inside.set c.add.new.self told c.add.ensures.rewrites.kept
           (subst (λ (u : SessionData). IsWell g.row.D u.set) (sym c.self.view_is) c.is_full.ensures.well) c.add.ensures.rest.snapshots;
+      counts = λ told faithful. c.add.ensures.rewrites.counts told
+          (subst (λ (u : SessionData). IsWell g.row.D u.set) (sym c.self.view_is) c.is_full.ensures.well) faithful;
       faithful = c.add.ensures.rewrites.faithful;
     })
     (subst (λ (u : SessionData). All (IsNamed u.set.names) u.set.parts) (sym c.self.view_is) c.is_full.ensures.well.named)

@@ -33,6 +33,7 @@ returns g c =
       points_given = put_given _ _ _ _ _ _ c.set_one.ensures c.add.ensures.gives.points_given;
       cause = c.add.ensures.cause;
       whole = c.add.ensures.damaged.whole;
+      counts = λ told faithful. c.add.ensures.rewrites.counts told c.leaf_size-leaf_size.ensures.well faithful;
       faithful = c.add.ensures.rewrites.faithful;
       evident = c.add.ensures.damaged.evident;
     })))

@@ -50,6 +50,7 @@ returns g c =
       points_given = put_given _ _ _ _ _ _ (made g c) c.add-2.ensures.gives.points_given;
       cause = c.add-2.ensures.cause;
       whole = c.add-2.ensures.damaged.whole;
+      counts = λ told faithful. c.add-2.ensures.rewrites.counts told c.leaf_size-leaf_size.ensures.well faithful;
       faithful = c.add-2.ensures.rewrites.faithful;
       evident = c.add-2.ensures.damaged.evident;
     })))

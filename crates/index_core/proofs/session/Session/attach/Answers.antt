@@ -5,7 +5,7 @@ use Rattle.page_cache.specs.declared.faults.PageFault.{PageFault}
 use Rattle.index_core.proofs.Attached.{finds_kept}
 use Rattle.index_core.proofs.Carrying.{attached_listed}
 use Rattle.index_core.proofs.SetGuards.{guards_attached}
-use Rattle.index_core.proofs.Tracing.{traced_attached}
+use Rattle.index_core.proofs.TracedCommits.{traced_attached}
 use Rattle.segment_set.proofs.Sizes.{set_fits}
 use Rattle.index_core.proofs.FaultCauses.{done_cause, fault_cause}
 use Rattle.index_core.proofs.session.Session.attach.Goals as goal

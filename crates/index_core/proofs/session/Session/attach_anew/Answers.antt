@@ -6,7 +6,7 @@ use Rattle.segment_view.specs.LiveSegments.{lives_of}
 use Rattle.segment_set.specs.Kept.{IsAtRest}
 use Rattle.index_core.specs.Sessions.{HasDims, SessionData}
 use Rattle.index_core.proofs.SetGuards.{guards_anew, says_last}
-use Rattle.index_core.proofs.Tracing.{traced_anew}
+use Rattle.index_core.proofs.TracedCommits.{traced_anew}
 use Rattle.index_core.proofs.Committing.{on_ok_each, some_same}
 use Rattle.segment_set.proofs.Sizes.{set_fits}
 use Rattle.page_cache.specs.Evidence.{OnDamage}

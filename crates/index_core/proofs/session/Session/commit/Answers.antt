@@ -27,7 +27,7 @@ use Rattle.index_core.proofs.Showing.{damage_to, merge_none, merge_to}
 use Rattle.index_core.proofs.Answering.{no_cause}
 use Rattle.index_core.proofs.FaultCauses.{fault_cause}
 use Rattle.index_core.proofs.Lightly.{commits_few}
-use Rattle.index_core.proofs.Tracing.{opened_shows, traced_by}
+use Rattle.index_core.proofs.Tracing.{opened_shows, traced_written_by}
 use Rattle.index_core.proofs.Undone.{few_listed, undone_flight, undone_kept, undone_written}
 use Rattle.segment_set.specs.Faithful.{IsFaithful}
 use Rattle.index_opening.proofs.Evident.{none_evident}
@@ -86,8 +86,8 @@ returns-in_err-commit g c =
         faithful = λ told faithful.
             c.save.ensures.rewrites.faithful told (subst (λ (u : SessionData). IsFaithful g.row.D old u.set) (sym c.self.view_is) faithful);
         traced = λ told trusts.
-            traced_by _ _ _ _ _ c.save.new.self told c.save.ensures.rewrites.kept c.save.ensures.rewrites.follows (c.save.ensures.rewrites.canon told)
-            (subst (Trusts g.row.D old) (sym c.self.view_is) trusts);
+            traced_written_by _ _ _ _ c.args.self.now _ c.save.new.self c.self.view_is told c.save.ensures.rewrites c.save.ensures.stays
+            c.is_changed.ensures.well trusts;
         carries = λ told. carries_written _ _ _ _ c.args.self.now _ c.save.new.self c.self.view_is told c.save.ensures.rewrites.kept
             c.save.ensures.rewrites.follows (c.save.ensures.rewrites.canon told) c.is_changed.ensures.well c.save.ensures.stays.snapshots;
       };
@@ -140,8 +140,8 @@ returns-in_err-write g c =
         faithful = λ told faithful. c.write.ensures.faithful told
             (c.save.ensures.rewrites.faithful told (subst (λ (u : SessionData). IsFaithful g.row.D old u.set) (sym c.self.view_is) faithful));
         traced = λ told trusts. c.write.ensures.traced told (c.in_ok-commit.ensures.saves.live told (covers trusts.guards))
-            (traced_by _ _ _ _ _ c.save.new.self told c.save.ensures.rewrites.kept c.save.ensures.rewrites.follows (c.save.ensures.rewrites.canon told)
-            (subst (Trusts g.row.D old) (sym c.self.view_is) trusts));
+            (traced_written_by _ _ _ _ c.args.self.now _ c.save.new.self c.self.view_is told c.save.ensures.rewrites c.save.ensures.stays
+            c.is_changed.ensures.well trusts);
         carries = λ told. carries_flown _ saved _ c.args.self.now.set c.save.new.self _
             (carries_written _ _ _ _ c.args.self.now _ c.save.new.self c.self.view_is told c.save.ensures.rewrites.kept
             c.save.ensures.rewrites.follows (c.save.ensures.rewrites.canon told) c.is_changed.ensures.well c.save.ensures.stays.snapshots)
@@ -166,7 +166,8 @@ returns-in_err-write g c =
             (ap (λ (u : SetData). u.saved) c.write.ensures.set ∙ c.in_ok-commit.ensures.saves.saved) c.in_ok-commit.ensures.saves.commit
             (c.in_ok-commit.ensures.saves.live told (covers trusts.guards)) (c.write.ensures.others told)
             (set_alone _ _ _ _ _ _ told c.save.ensures.rewrites.kept c.save.ensures.stays before.guards.set)
-            (traced_by _ _ _ _ _ c.save.new.self told c.save.ensures.rewrites.kept c.save.ensures.rewrites.follows (c.save.ensures.rewrites.canon told) before)
+            (traced_written_by _ _ _ _ c.args.self.now _ c.save.new.self c.self.view_is told c.save.ensures.rewrites c.save.ensures.stays
+            c.is_changed.ensures.well trusts).parts
             (c.in_err-write.ensures.kept told));
         lasts = written_last _ _ _ saved _ _ _ _ _ c.self.view_is c.is_changed.ensures.well c.save.ensures.rewrites c.write.ensures.set c.write.ensures.others;
       };
@@ -222,8 +223,8 @@ returns g c =
             (c.save.ensures.rewrites.faithful told (subst (λ (u : SessionData). IsFaithful g.row.D old u.set) (sym c.self.view_is) faithful)));
         traced = λ told trusts. c.sweep.ensures.traced told (guarded told trusts.guards)
             (c.write.ensures.traced told (c.in_ok-commit.ensures.saves.live told (covers trusts.guards))
-            (traced_by _ _ _ _ _ c.save.new.self told c.save.ensures.rewrites.kept c.save.ensures.rewrites.follows (c.save.ensures.rewrites.canon told)
-            (subst (Trusts g.row.D old) (sym c.self.view_is) trusts)));
+            (traced_written_by _ _ _ _ c.args.self.now _ c.save.new.self c.self.view_is told c.save.ensures.rewrites c.save.ensures.stays
+            c.is_changed.ensures.well trusts));
         carries = λ told. carries_swept _ written _ c.args.self.now.set c.write.new.self.set c.sweep.new.self.set
             (carries_flown _ saved _ c.args.self.now.set c.save.new.self _
             (carries_written _ _ _ _ c.args.self.now _ c.save.new.self c.self.view_is told c.save.ensures.rewrites.kept
@@ -249,7 +250,8 @@ returns g c =
             (keeps_flight g.row.D saved written c.save.new.self c.in_ok-commit.commit c.write.new.self.commit c.in_ok-write.ensures.written.0
             c.in_ok-commit.ensures.saves.commit (c.in_ok-commit.ensures.saves.live told (covers trusts.guards)) (c.write.ensures.others told)
             (set_alone _ _ _ _ _ _ told c.save.ensures.rewrites.kept c.save.ensures.stays before.guards.set)
-            (traced_by _ _ _ _ _ c.save.new.self told c.save.ensures.rewrites.kept c.save.ensures.rewrites.follows (c.save.ensures.rewrites.canon told) before)
+            (traced_written_by _ _ _ _ c.args.self.now _ c.save.new.self c.self.view_is told c.save.ensures.rewrites c.save.ensures.stays
+            c.is_changed.ensures.well trusts).parts
             (inr (c.in_ok-write.ensures.kept told)))) (c.sweep.ensures.kept told (guarded told trusts.guards));
         lasts = swept_last _ _ _ written _ _ _ _ _ c.sweep.ensures.rest (λ told p there. c.sweep.ensures.removes.segments told p (inl there))
             (written_last _ _ _ saved _ _ _ _ _ c.self.view_is c.is_changed.ensures.well c.save.ensures.rewrites c.write.ensures.set c.write.ensures.others);

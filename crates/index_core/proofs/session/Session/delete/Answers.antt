@@ -9,6 +9,7 @@ use Rattle.segment_set.specs.Sets.{SetData}
 use Rattle.index_core.proofs.Answering.{applies, applies_memory, applies_seen, applies_unsaid, begins_with, no_cause}
 use Rattle.index_core.proofs.CalmCalls.{calm_like, cut_back}
 use Rattle.index_core.proofs.Changing.{does_delete, seen_deleted}
+use Rattle.segment_set.proofs.Counts.{counts_deleted}
 use Rattle.segment_set.proofs.Sizes.{set_fits}
 use Rattle.index_core.proofs.Bringing.{brings_cleared}
 use Rattle.page_cache.specs.declared.faults.PageFault.TheVariants as page
@@ -36,7 +37,7 @@ returns-then-delete-clause-applies g c files faults = applies_seen _ _ _ _ _ _ _
     (ap (λ (u : SetData). u.points_given) c.delete.ensures.rest))
     c.delete.ensures.follows (λ told. refl) (λ told. brings_cleared _ files _ _ _ (ap (λ (u : SetData). u.parts) c.delete.ensures.rest))
     (λ told. views_same files files c.self.inside.set c.delete.new.self refl (ap (λ (u : SetData). u.snapshots) c.delete.ensures.rest))
-    (λ told. c.delete.ensures.faithful files))
+    (λ told. counts_deleted _ files c.args.doc c.self.inside.set c.delete.new.self c.delete.ensures.rest) (λ told. c.delete.ensures.faithful files))
     (λ told i seen. does_delete _ _ _ i _ c.delete.result _ _ (c.delete.ensures.live files i seen) (c.delete.ensures.seen files i seen)
     (c.in_ok-put_deleted.ensures.ok ∙ ap (λ b. c.args.out.now.items ++ deleted_text (cond b 1 0)) (sym c.if-delete.true)))
     (begins_with _ _ _ c.in_ok-put_deleted.ensures.ok) (no_cause faults applied.Done) (λ told i seen. tt) tt)
@@ -51,7 +52,7 @@ returns-in_err-put_deleted-2-clause-applies g c files faults =
     (ap (λ (u : SetData). u.points_given) c.delete.ensures.rest))
     c.delete.ensures.follows (λ told. refl) (λ told. brings_cleared _ files _ _ _ (ap (λ (u : SetData). u.parts) c.delete.ensures.rest))
     (λ told. views_same files files c.self.inside.set c.delete.new.self refl (ap (λ (u : SetData). u.snapshots) c.delete.ensures.rest))
-    (λ told. c.delete.ensures.faithful files))
+    (λ told. counts_deleted _ files c.args.doc c.self.inside.set c.delete.new.self c.delete.ensures.rest) (λ told. c.delete.ensures.faithful files))
     (p.1 ∙ ap (λ (e : PageFault). Err e) p.2)
     (λ told i seen. seen_deleted _ _ _ i _ (sym (c.delete.ensures.live files i seen) ∙ c.if-delete.false) (c.delete.ensures.seen files i seen))
     (c.in_err-put_deleted-2.ensures.memory ∙ c.truncate.ensures.items ∙ ap (take c.len-before.result) c.in_ok-put_deleted.ensures.ok
@@ -72,7 +73,7 @@ returns-clause-applies g c files faults =
     (ap (λ (u : SetData). u.points_given) c.delete.ensures.rest))
     c.delete.ensures.follows (λ told. refl) (λ told. brings_cleared _ files _ _ _ (ap (λ (u : SetData). u.parts) c.delete.ensures.rest))
     (λ told. views_same files files c.self.inside.set c.delete.new.self refl (ap (λ (u : SetData). u.snapshots) c.delete.ensures.rest))
-    (λ told. c.delete.ensures.faithful files))
+    (λ told. counts_deleted _ files c.args.doc c.self.inside.set c.delete.new.self c.delete.ensures.rest) (λ told. c.delete.ensures.faithful files))
     (λ told i seen. does_delete _ _ _ i _ c.delete.result _ _ (c.delete.ensures.live files i seen) (c.delete.ensures.seen files i seen)
     (grew ∙ ap (λ b. c.args.out.now.items ++ deleted_text (cond b 1 0)) (sym c.if-delete.false)))
     (begins_with _ _ _ grew) (no_cause faults applied.Done) (λ told i seen. tt) tt)

@@ -11,6 +11,7 @@ use Rattle.segment_set.specs.Kept.{Follows, StaysButCache}
 use Rattle.index_core.proofs.Answering.{applies_done, applies_fault, applies_seen, applies_unsaid, begins_itself}
 use Rattle.index_core.proofs.CalmCalls.{calm_cache, calm_like}
 use Rattle.index_core.proofs.Changing.{does_delete_box}
+use Rattle.segment_set.proofs.Counts.{counts_read, counts_then}
 use Rattle.segment_set.proofs.Sizes.{set_fits}
 use Rattle.index_core.proofs.Sizes.{box_fits}
 use Rattle.index_core.proofs.Bringing.{brings_named, brings_same, brings_then}
@@ -61,6 +62,8 @@ returns-clause-applies g c =
     (brings_named _ _ _ _ _ _ _ _ told (λ t. refl) c.delete_all.ensures.names c.delete_all.ensures.follows c.leaf_size-leaf_size.ensures.well.named))
     (λ told. views_same _ _ c.self.inside.set c.delete_all.new.self (c.visit.ensures.files told)
     (c.delete_all.ensures.stays.snapshots ∙ ap (λ (u : SetData). u.snapshots) c.visit.ensures.rest.is))
+    (λ told. counts_then _ _ (g.F.Pages.files c.visit.new.folder) _ c.self.inside.set c.visit.new.self c.delete_all.new.self
+    (counts_read _ _ _ _ _ c.visit.ensures.rest (c.visit.ensures.files told)) (c.delete_all.ensures.counts _ _))
     (λ told faithful. c.delete_all.ensures.faithful _ (c.visit.ensures.faithful told faithful)))
     (λ told i seen. does_delete_box _ _ _ _ _ i _ _ c.as_slice.result.now _ _ seen
     (c.as_slice.ensures.value ∙ c.in_ok-hits.ensures.found told i seen i.docs refl ∙ ap (λ (s : CountedBox). hits (in_box s.bounds) i.docs) c.new-shape.ensures)

@@ -1,6 +1,6 @@
 -- What the set says of a deletion holds of the session, of which nothing but the set changes.
 use Rattle.std.proofs.Common.{sym, ap, subst, ◌∙◌}
-use Rattle.segment_set.specs.Sets.{SetData}
+use Rattle.segment_set.specs.Sets.{SetData, set_but}
 use Rattle.segment_set.specs.Seen.{Sees}
 use Rattle.segment_set.proofs.Sizes.{set_fits}
 use Rattle.segment_view.specs.LiveSegments.{cleared_parts}
@@ -37,5 +37,4 @@ returns-clause-faithful g c files = faithful_seen g.row.D files files _ _ _ c.se
 
 pub returns-clause-traced : goal.returns-clause-traced
 returns-clause-traced g c files =
-    traced_cleared g.row.D files c.args.doc
-    _ _ (ap (λ (u : SetData). u.parts) c.delete.ensures.rest ∙ ap (λ (u : SessionData). cleared_parts c.args.doc u.set.parts) c.self.view_is)
+    traced_cleared g.row.D files c.args.doc _ _ (c.delete.ensures.rest ∙ ap (λ (u : SessionData). set_but c.args.doc u.set) c.self.view_is)

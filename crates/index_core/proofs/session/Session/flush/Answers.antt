@@ -33,6 +33,7 @@ returns-clause-applies g c = applies_seen _ _ _ _ _ _ _ _ _ _ _ c.self.view_is
       brings = λ told. brings_written _ _ _ _ _ _ _ _ told c.flush.ensures.moves.kept c.flush.ensures.moves.follows (c.flush.ensures.moves.canon told);
       views = λ told. views_named _ _ _ _ c.self.inside.set c.flush.new.self told c.flush.ensures.moves.kept
           c.leaf_size-leaf_size.ensures.well c.flush.ensures.moves.stays.snapshots;
+      counts = λ told faithful. c.flush.ensures.moves.counts told c.leaf_size-leaf_size.ensures.well faithful.heads;
       faithful = c.flush.ensures.faithful;
     })
     (λ told i seen. does_done _ _ i i _ ok_text _ _ (c.flush.ensures.moves.seen told i seen) c.in_ok-put_ok.ensures.ok)
@@ -52,6 +53,7 @@ returns-in_err-flush-clause-applies g c =
       brings = λ told. brings_written _ _ _ _ _ _ _ _ told c.flush.ensures.moves.kept c.flush.ensures.moves.follows (c.flush.ensures.moves.canon told);
       views = λ told. views_named _ _ _ _ c.self.inside.set c.flush.new.self told c.flush.ensures.moves.kept
           c.leaf_size-leaf_size.ensures.well c.flush.ensures.moves.stays.snapshots;
+      counts = λ told faithful. c.flush.ensures.moves.counts told c.leaf_size-leaf_size.ensures.well faithful.heads;
       faithful = c.flush.ensures.faithful;
     })
     c.leaf_size-leaf_size.ensures.well.named (p.1 ∙ ap (λ (e : PageFault). Err e) p.2) c.flush.ensures.moves.seen (begins_itself _) c.in_err-flush.ensures.cause
@@ -71,6 +73,7 @@ returns-in_err-put_ok-clause-applies g c =
       brings = λ told. brings_written _ _ _ _ _ _ _ _ told c.flush.ensures.moves.kept c.flush.ensures.moves.follows (c.flush.ensures.moves.canon told);
       views = λ told. views_named _ _ _ _ c.self.inside.set c.flush.new.self told c.flush.ensures.moves.kept
           c.leaf_size-leaf_size.ensures.well c.flush.ensures.moves.stays.snapshots;
+      counts = λ told faithful. c.flush.ensures.moves.counts told c.leaf_size-leaf_size.ensures.well faithful.heads;
       faithful = c.flush.ensures.faithful;
     })
     (p.1 ∙ ap (λ (e : PageFault). Err e) p.2) c.flush.ensures.moves.seen c.in_err-put_ok.ensures.memory c.in_ok-flush.ensures.cause)

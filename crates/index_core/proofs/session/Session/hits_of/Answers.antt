@@ -1,9 +1,9 @@
 -- What is live is found.
-use Rattle.std.proofs.Common.{IfOk, refl, sym, ap, subst, ◌∙◌}
+use Rattle.std.proofs.Common.{IfOk, refl, sym, subst}
 use Rattle.segment_view.specs.LiveSegments.{heads_of}
 use Rattle.segment_view.specs.Costs.{IsCostOf}
-use Rattle.segment_set.specs.Sets.{SetData}
 use Rattle.segment_set.specs.Seen.{Sees}
+use Rattle.segment_set.specs.Kept.{StaysButCache}
 use Rattle.segment_set.proofs.Sizes.{set_fits}
 use Rattle.index_core.specs.Sessions.{SessionData}
 use Rattle.index_core.proofs.Adding.{evident_seen, faithful_seen, guards_cache}
@@ -29,8 +29,8 @@ returns-clause-seen g c told i seen =
 pub returns-clause-guards : goal.returns-clause-guards
 returns-clause-guards g c told guards = guards_cache g.row.D _ _ _ _ _ _ c.self.view_is told c.visit.ensures.rest c.visit.ensures.files guards
 
-pub returns-clause-parts : goal.returns-clause-parts
-returns-clause-parts g c = ap (λ (u : SetData). u.parts) c.visit.ensures.rest.is ∙ ap (λ (u : SessionData). u.set.parts) c.self.view_is
+pub returns-clause-rest : goal.returns-clause-rest
+returns-clause-rest g c = subst (λ (u : SessionData). StaysButCache u.set c.visit.new.self) c.self.view_is c.visit.ensures.rest
 
 pub returns-clause-whole : goal.returns-clause-whole
 returns-clause-whole g c told i seen =

@@ -33,6 +33,7 @@ returns-clause-applies g c = applies_seen _ _ _ _ _ _ _ _ _ _ _ c.self.view_is
           brings_written _ _ _ _ _ _ _ _ told c.merge_all.ensures.moves.kept c.merge_all.ensures.moves.follows (c.merge_all.ensures.moves.canon told);
       views = λ told. views_named _ _ _ _ c.self.inside.set c.merge_all.new.self told c.merge_all.ensures.moves.kept
           c.leaf_size-leaf_size.ensures.well c.merge_all.ensures.moves.stays.snapshots;
+      counts = λ told faithful. c.merge_all.ensures.moves.counts told c.leaf_size-leaf_size.ensures.well faithful.heads;
       faithful = c.merge_all.ensures.faithful;
     })
     (λ told i seen. does_done _ _ i i _ ok_text _ _ (c.merge_all.ensures.moves.seen told i seen) c.in_ok-put_ok.ensures.ok)
@@ -53,6 +54,7 @@ returns-in_err-merge_all-clause-applies g c =
           brings_written _ _ _ _ _ _ _ _ told c.merge_all.ensures.moves.kept c.merge_all.ensures.moves.follows (c.merge_all.ensures.moves.canon told);
       views = λ told. views_named _ _ _ _ c.self.inside.set c.merge_all.new.self told c.merge_all.ensures.moves.kept
           c.leaf_size-leaf_size.ensures.well c.merge_all.ensures.moves.stays.snapshots;
+      counts = λ told faithful. c.merge_all.ensures.moves.counts told c.leaf_size-leaf_size.ensures.well faithful.heads;
       faithful = c.merge_all.ensures.faithful;
     })
     c.leaf_size-leaf_size.ensures.well.named (p.1 ∙ ap (λ (e : PageFault). Err e) p.2) c.merge_all.ensures.moves.seen

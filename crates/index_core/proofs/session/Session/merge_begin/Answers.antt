@@ -6,7 +6,10 @@ use Rattle.std.proofs.Common.{is_some}
 use Rattle.std.proofs.lemmas.Bool.{both_ways}
 use Rattle.script_lang.specs.declared.faults.Refusal.TheVariants as why
 use Rattle.segment_set.specs.Sets.{SetData}
+use Rattle.outer_io.specs.Files.{Files}
+use Rattle.outer_io.specs.declared.file_name.FileName.TheVariants.{Segment}
 use Rattle.segment_set.proofs.Carried.{follows_same}
+use Rattle.segment_set.proofs.Counts.{counts_same}
 use Rattle.index_core.proofs.Answering.{applies_is, applies_memory, applies_merging_calm, applies_refused}
 use Rattle.index_core.proofs.Answering.{applies_seen, begins_with}
 use Rattle.index_core.proofs.FaultCauses.{cause_begin, whole_begin}
@@ -53,6 +56,9 @@ returns-clause-applies g c =
     (λ told. brings_same _ _ _ _ _ (c.merge_begin.ensures.files told) (ap (λ (u : SetData). u.parts) c.merge_begin.ensures.rest.is))
     (λ told. views_same _ _ c.self.inside.set c.merge_begin.new.self (c.merge_begin.ensures.files told)
     (ap (λ (u : SetData). u.snapshots) c.merge_begin.ensures.rest.is))
+    (λ told. counts_same _ _ _ c.self.inside.set c.merge_begin.new.self (ap (λ (u : SetData). u.parts) c.merge_begin.ensures.rest.is)
+    (ap (λ (u : SetData). u.buffer) c.merge_begin.ensures.rest.is) (ap (λ (u : SetData). u.points_given) c.merge_begin.ensures.rest.is)
+    (λ p there. ap (λ (f : Files). f (Segment p.head.id)) (c.merge_begin.ensures.files told)))
     c.merge_begin.ensures.faithful)
     c.merge_begin.ensures.files
     (λ told i seen.

@@ -54,6 +54,7 @@ returns-clause-applies g c =
           brings_written _ _ _ _ _ _ _ _ told c.merge_end.ensures.rewrites.kept c.merge_end.ensures.rewrites.follows (c.merge_end.ensures.rewrites.canon told);
       views = λ told. views_named _ _ _ _ c.self.inside.set c.merge_end.new.self told c.merge_end.ensures.rewrites.kept
           c.leaf_size-leaf_size.ensures.well c.merge_end.ensures.stays.snapshots;
+      counts = λ told faithful. c.merge_end.ensures.rewrites.counts told c.leaf_size-leaf_size.ensures.well faithful;
       faithful = c.merge_end.ensures.rewrites.faithful;
     })
     (λ told i seen.

@@ -7,6 +7,7 @@ use Rattle.index_model.specs.declared.session.Applied.TheVariants as applied
 use Rattle.std.specs.Str.{bytes_eq}
 use Rattle.segment_set.specs.Sets.{NamedView, SetData}
 use Rattle.segment_set.proofs.Carried.{follows_same}
+use Rattle.segment_set.proofs.Counts.{counts_same}
 use Rattle.index_core.proofs.Answering.{applies, applies_memory, applies_refused, applies_seen, begins_with, no_cause}
 use Rattle.index_core.proofs.CalmCalls.{calm_like}
 use Rattle.index_core.proofs.SnapshotChanges.{does_release, does_unnamed}
@@ -45,6 +46,8 @@ returns-clause-applies g c files faults = applies_seen _ _ _ _ _ _ _ _ _ _ _ c.s
     (λ told. brings_same _ _ _ _ _ refl (ap (λ (u : SetData). u.parts) c.release.ensures.kept))
     (λ told. views_fewer files (λ (v : NamedView). not (bytes_eq v.name c.args.name.now)) c.self.inside.set c.release.new.self
     (ap (λ (u : SetData). u.snapshots) c.release.ensures.kept))
+    (λ told. counts_same _ files files c.self.inside.set c.release.new.self (ap (λ (u : SetData). u.parts) c.release.ensures.kept)
+    (ap (λ (u : SetData). u.buffer) c.release.ensures.kept) (ap (λ (u : SetData). u.points_given) c.release.ensures.kept) (λ p there. refl))
     (λ told. c.release.ensures.faithful files))
     (λ told i seen. does_release _ _ _ _ i _ _ _ seen (sym c.has_snapshot.ensures ∙ c.if-not-has_snapshot.false) (c.release.ensures.seen files i seen)
     c.in_ok-put_ok.ensures.ok)

@@ -13,7 +13,7 @@ use Rattle.segment_set.specs.Seen.{Sees}
 use Rattle.segment_set.specs.Faithful.{IsFaithful}
 use Rattle.index_opening.proofs.Evident.{on_evident_files, on_evident_wider}
 use Rattle.index_core.specs.Carried.{Carries, IsFileOf}
-use Rattle.index_core.specs.Sessions.{AreTraced, Guards, IsCommitAnew, IsUnchanged, SessionData}
+use Rattle.index_core.specs.Sessions.{Guards, IsCommitAnew, IsSetTraced, IsUnchanged, SessionData}
 use Rattle.index_core.specs.Effects.{BringsCanonical}
 use Rattle.index_core.proofs.Bringing.{brings_anew, brings_then}
 use Rattle.index_core.specs.Steps.{SaysCommit}
@@ -173,9 +173,9 @@ returns-clause-applies g c = record {
         (c.in_ok-set.ensures.guards told c.in_ok-commit.ensures.done.unchanged.done (c.commit.ensures.stays.guards told guards)))));
     faithful = λ told faithful. subst (λ (f : Files). IsFaithful g.row.D f c.renew.new.self) (sym (c.attach_anew.ensures.files told))
         (c.renew.ensures.faithful _ (c.in_ok-set.ensures.faithful told));
-    traced = λ told trusts. subst (λ (f : Files). AreTraced g.row.D f c.renew.new.self.parts) (sym (c.attach_anew.ensures.files told))
-        (subst (λ (u : SetData). AreTraced g.row.D (g.F.Pages.files c.commit.new.folder) u.parts) (sym (kept g c))
-        (c.in_ok-set.ensures.traced told c.in_ok-commit.ensures.done.unchanged.done (c.commit.ensures.stays.guards told trusts.guards)));
+    traced = λ told h. let anew = c.in_ok-set.ensures.traced told c.in_ok-commit.ensures.done.unchanged.done (c.commit.ensures.stays.guards told h.guards) in
+        subst (λ (f : Files). IsSetTraced g.row.D f c.renew.new.self) (sym (c.attach_anew.ensures.files told))
+        (subst (IsSetTraced g.row.D (g.F.Pages.files c.commit.new.folder)) (sym (kept g c)) (record { parts = anew.parts; entries = anew.entries }));
     carries = λ told. let last = c.in_ok-commit.ensures.done.unchanged in let rest = c.in_ok-set.ensures.unchanged last.commit last.is in
         subst (λ (f : Files). Carries (g.F.Pages.files c.args.folder.now) f c.args.self.now.set c.renew.new.self) (sym (c.attach_anew.ensures.files told))
         (carries_then _ _ _ c.args.self.now.set c.commit.new.self.set c.renew.new.self (c.commit.ensures.stays.carries told)

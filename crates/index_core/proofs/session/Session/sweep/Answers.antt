@@ -9,10 +9,10 @@ use Rattle.segment_set.specs.Sets.{SetData}
 use Rattle.segment_set.specs.Seen.{Sees}
 use Rattle.segment_set.specs.Kept.{IsNeeded, StaysButFiles}
 use Rattle.index_core.specs.Closed.{IsTracked, NamesOnlyListed}
-use Rattle.index_core.specs.Sessions.{AreTraced, Guards, SessionData}
+use Rattle.index_core.specs.Sessions.{Guards, IsSetTraced, SessionData}
 use Rattle.index_core.proofs.Closing.{idle_sweep, tracked_swept}
 use Rattle.index_core.proofs.Swept.{IsSwept, session_swept}
-use Rattle.index_core.proofs.Tracing.{session_traced}
+use Rattle.index_core.proofs.TracedCommits.{session_traced}
 use Rattle.segment_set.proofs.Sizes.{set_fits}
 use Rattle.segment_set.specs.Faithful.{IsFaithful}
 use Rattle.index_core.proofs.session.Session.sweep.Given as given
@@ -69,8 +69,8 @@ returns-clause-faithful g c told faithful =
 
 pub returns-clause-traced : goal.returns-clause-traced
 returns-clause-traced g c told guards traced = session_traced _ _ _ (old g c) c.sweep.new.self c.in-Some.commit c.in-Some.is (done g c) (swept g c told)
-    (subst (Guards g.row.D (g.F.Pages.files c.args.folder.now)) (sym c.self.view_is) guards)
-    (subst (λ (u : SessionData). AreTraced g.row.D (g.F.Pages.files c.args.folder.now) u.set.parts) (sym c.self.view_is) traced)
+    c.sweep.ensures.swept.rest (subst (Guards g.row.D (g.F.Pages.files c.args.folder.now)) (sym c.self.view_is) guards)
+    (subst (λ (u : SessionData). IsSetTraced g.row.D (g.F.Pages.files c.args.folder.now) u.set) (sym c.self.view_is) traced)
 
 -- each name that is left is needed by the session as it was
 abbrev Needed : (g : given.Over) (c : goal.Joined-sweep g) → Type 0

@@ -2,7 +2,7 @@
 use Rattle.std.proofs.Common.{refl, ap, ◌∙◌, inr, rules}
 use Rattle.index_core.specs.Sessions.{SessionData}
 use Rattle.index_core.proofs.Guarding.{guards_done, guards_undone}
-use Rattle.index_core.proofs.Tracing.{traced_done}
+use Rattle.index_core.proofs.TracedCommits.{traced_done}
 use Rattle.index_core.proofs.Committing.{kept_undone, which_says}
 use Rattle.index_core.proofs.WrittenCommit.{faithful_done, seen_done, stores_done, stores_undone}
 use Rattle.segment_set.proofs.Sizes.{set_fits}
@@ -64,12 +64,13 @@ returns-in-Err-clause-faithful g c told faithful = faithful_done _ _ _ _ _ c.sel
 
 pub returns-in-Ok-clause-traced : goal.returns-in-Ok-clause-traced
 returns-in-Ok-clause-traced g c told lives traced =
-    traced_done _ _ _ _ _ c.args.commit c.self.view_is c.requires.listed lives (c.write_commit.ensures.others told) (inr (c.in-Ok.ensures.commit told)) traced
+    traced_done _ _ _ _ _ c.args.commit c.self.view_is c.requires.listed c.requires.emptied lives
+    (c.write_commit.ensures.others told) (inr (c.in-Ok.ensures.commit told)) traced
 
 pub returns-in-Err-clause-traced : goal.returns-in-Err-clause-traced
 returns-in-Err-clause-traced g c told lives traced =
-    traced_done _ (g.F.Pages.files c.args.folder.now) (g.F.Pages.files c.write_commit.new.folder) _ _ c.args.commit c.self.view_is c.requires.listed lives
-    (c.write_commit.ensures.others told)
+    traced_done _ (g.F.Pages.files c.args.folder.now) (g.F.Pages.files c.write_commit.new.folder) _ _ c.args.commit c.self.view_is c.requires.listed
+    c.requires.emptied lives (c.write_commit.ensures.others told)
     (which_says (g.F.Pages.files c.args.folder.now) (g.F.Pages.files c.write_commit.new.folder) c.args.commit (c.in-Err.ensures.kept told)) traced
 
 pub returns-in-Err-clause-faults : goal.returns-in-Err-clause-faults

@@ -12,6 +12,7 @@ use Rattle.segment_set.proofs.Refused.{added_caused, at_error, full_cause, never
 use Rattle.segment_set.proofs.Trusted.{faithful_with}
 use Rattle.segment_set.proofs.Settled.{before_itself, before_same, flushes_none, left_settled}
 use Rattle.segment_set.specs.Settles.{moment}
+use Rattle.segment_set.proofs.Counts.{counts_added}
 use Rattle.segment_set.proofs.Lossless.{live_with}
 use Rattle.segment_set.proofs.Shows.{alone_of, never_refuses, rewrites_none, rewrites_of, shows_none, shows_on}
 use Rattle.segment_set.specs.Effects.{AddsAlone, Rewrites}
@@ -211,6 +212,7 @@ returns-clause-rewrites g c =
           (c.in_ok-make_room.ensures.faithful told faithful);
       loses = λ told well faithful number live. ⊎_elim (λ here. inl (live_with c.args.points.now c.make_room.new.self number here)) inr
           (c.in_ok-make_room.ensures.moves.loses told well faithful.heads number live);
+      counts = λ told well faithful. counts_added c.args.points.now (c.in_ok-make_room.ensures.moves.counts told well faithful.heads);
     })
 
 pub returns-clause-damaged : goal.returns-clause-damaged

@@ -7,6 +7,8 @@ use Rattle.segment_set.specs.Sets.{SetData}
 use Rattle.segment_set.specs.Seen.{Sees}
 use Rattle.segment_set.specs.Kept.{StaysAlone}
 use Rattle.segment_set.proofs.Carried.{follows_none, follows_then, stays_none, stays_then}
+use Rattle.segment_set.specs.Losing.{KeepsCounts}
+use Rattle.segment_set.proofs.Counts.{counts_but, counts_none, counts_then}
 use Rattle.segment_set.proofs.Changed.{docs_but, docs_more, docs_none, stays_but}
 use Rattle.segment_set.proofs.set.SegmentSet.delete_all.Goals as goal
 
@@ -16,6 +18,7 @@ loop-doc-init g c = record {
   faithful = λ files keeps. keeps;
   stays = stays_none c.args.self.now;
   follows = follows_none c.args.self.now.names c.args.self.now.parts;
+  counts = λ E files. counts_none E files c.args.self.now;
   names = refl;
   saved = refl;
 }
@@ -33,6 +36,9 @@ loop-doc-preserved g c = record {
       (subst (StaysAlone c.loop-doc.self) (sym c.delete.ensures.rest) (stays_but (get_or c.args.docs.now c.loop-doc.doc-index 0) c.loop-doc.self));
   follows = follows_then c.args.self.now.names c.loop-doc.self.names c.args.self.now.parts c.loop-doc.self.parts c.delete.new.self.parts
       (λ name named. ap (λ (n : NameList). is_named n.names name) c.loop-doc.invariant.names ∙ named) c.loop-doc.invariant.follows c.delete.ensures.follows;
+  counts = λ E files. counts_then E files files files c.args.self.now c.loop-doc.self c.delete.new.self (c.loop-doc.invariant.counts E files)
+      (subst (KeepsCounts E files files c.loop-doc.self) (sym c.delete.ensures.rest)
+      (counts_but E files (get_or c.args.docs.now c.loop-doc.doc-index 0) c.loop-doc.self));
   names = ap (λ (s : SetData). s.names) c.delete.ensures.rest ∙ c.loop-doc.invariant.names;
   saved = ap (λ (s : SetData). s.saved) c.delete.ensures.rest ∙ c.loop-doc.invariant.saved;
 }

@@ -1,4 +1,4 @@
-use Rattle.std.proofs.Common.{◌≡◌, not, take}
+use Rattle.std.proofs.Common.{◌≡◌, ℕ, not, take}
 use Rattle.std.specs.List.{filter}
 use Rattle.outer_io.specs.Files.{Files}
 use Rattle.documents.specs.Documents.{Document}
@@ -6,6 +6,7 @@ use Rattle.documents.specs.Entries.{is_among}
 use Rattle.index_model.specs.State.{Index}
 use Rattle.segment_set.specs.Seen.{Sees}
 use Rattle.segment_set.specs.Kept.{Follows, StaysAlone}
+use Rattle.segment_set.specs.Losing.{KeepsCounts}
 use Rattle.segment_set.specs.Faithful.{IsFaithful}
 use Rattle.segment_set.proofs.set.SegmentSet.delete_all.Given as goal
 
@@ -16,6 +17,7 @@ invariant-loop-doc g l = record {
   faithful : (files : Files) → IsFaithful g.row.D files l.initial.self → IsFaithful g.row.D files l.self;
   stays : StaysAlone l.initial.self l.self;
   follows : Follows l.initial.self.names l.initial.self.parts l.self.parts;
+  counts : (E : ℕ) (files : Files) → KeepsCounts E files files l.initial.self l.self;
   names : l.self.names ≡ l.initial.self.names;
   saved : l.self.saved ≡ l.initial.self.saved;
 }

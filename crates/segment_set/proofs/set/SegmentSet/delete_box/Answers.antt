@@ -12,6 +12,7 @@ use Rattle.segment_set.proofs.Changed.{docs_but, docs_hit}
 use Rattle.segment_set.proofs.Refused.{at_error, never_ok, never_value, same_cause, same_damage}
 use Rattle.segment_set.proofs.Carried.{follows_cached, follows_then, stays_cached, stays_then}
 use Rattle.segment_set.proofs.Causes.{memory_cause}
+use Rattle.segment_set.proofs.Counts.{counts_cached, counts_then}
 use Rattle.segment_set.proofs.Saving.{done_cause}
 use Rattle.segment_set.specs.Sets.{SetData}
 use Rattle.file_names.specs.Names.{is_named}
@@ -69,6 +70,7 @@ pub returns-in_err-hits-clause-deletes : goal.returns-in_err-hits-clause-deletes
 returns-in_err-hits-clause-deletes g c = record {
   stays = stays_cached c.args.self.now c.visit.new.self c.visit.ensures.rest;
   follows = follows_cached c.args.self.now c.visit.new.self c.visit.ensures.rest;
+  counts = λ E files. counts_cached E files c.args.self.now c.visit.new.self c.visit.ensures.rest;
   names = ap (λ (s : SetData). s.names) c.visit.ensures.rest.is;
   saved = ap (λ (s : SetData). s.saved) c.visit.ensures.rest.is;
 }
@@ -80,6 +82,7 @@ pub returns-in_default-clause-deletes : goal.returns-in_default-clause-deletes
 returns-in_default-clause-deletes g c = record {
   stays = stays_cached c.args.self.now c.visit.new.self c.visit.ensures.rest;
   follows = follows_cached c.args.self.now c.visit.new.self c.visit.ensures.rest;
+  counts = λ E files. counts_cached E files c.args.self.now c.visit.new.self c.visit.ensures.rest;
   names = ap (λ (s : SetData). s.names) c.visit.ensures.rest.is;
   saved = ap (λ (s : SetData). s.saved) c.visit.ensures.rest.is;
 }
@@ -144,6 +147,8 @@ returns-clause-deletes g c = record {
   follows = follows_then c.args.self.now.names c.visit.new.self.names c.args.self.now.parts c.visit.new.self.parts c.delete_all.new.self.parts
       (λ m named. ap (λ (s : SetData). is_named s.names.names m) c.visit.ensures.rest.is ∙ named)
       (follows_cached c.args.self.now c.visit.new.self c.visit.ensures.rest) c.delete_all.ensures.follows;
+  counts = λ E files. counts_then E files files files c.args.self.now c.visit.new.self c.delete_all.new.self
+      (counts_cached E files c.args.self.now c.visit.new.self c.visit.ensures.rest) (c.delete_all.ensures.counts E files);
   names = c.delete_all.ensures.names ∙ ap (λ (s : SetData). s.names) c.visit.ensures.rest.is;
   saved = c.delete_all.ensures.saved ∙ ap (λ (s : SetData). s.saved) c.visit.ensures.rest.is;
 }

@@ -5,6 +5,7 @@ use Rattle.std.proofs.lemmas.Bool.{both_ways}
 use Rattle.std.proofs.lemmas.Result.{on_ok_weaker}
 use Rattle.segment_set.proofs.Saving.{done_cause}
 use Rattle.segment_set.proofs.Settled.{flushes_none}
+use Rattle.segment_set.proofs.Counts.{counts_none}
 use Rattle.segment_set.specs.Settles.{moment}
 use Rattle.segment_set.proofs.Shows.{shows_none}
 use Rattle.segment_set.proofs.set.SegmentSet.make_room.Goals as goal
@@ -32,6 +33,7 @@ returns-then-has_room-clause-moves g c = record {
   pinned = refl;
   saved = refl;
   loses = λ told well heads number live. inl live;
+  counts = λ told well heads. counts_none _ _ c.args.self.now;
 }
 
 pub returns-then-has_room-clause-cause : goal.returns-then-has_room-clause-cause

@@ -1,15 +1,15 @@
-use Rattle.std.proofs.Common.{◌≡◌, ◌≤◌, length, lit<, IsTrue, refl, sym, ap, subst, ◌∙◌, inl}
+use Rattle.std.proofs.Common.{◌≡◌, ◌≤◌, length, lit<, All, IsTrue, refl, sym, ap, subst, ◌∙◌, inl}
 use Rattle.std.specs.Result.{OnOk}
 use Rattle.std.proofs.lemmas.Result.{on_err_weaker, on_ok_weaker}
 use Rattle.documents.proofs.Kept.{among_to}
 use Rattle.page_cache.specs.Evidence.{OnDamage}
 use Rattle.segment_view.specs.LiveSegments.{AreRead, ids_of, live_in_parts, parts_among}
-use Rattle.segment_set.specs.Sets.{SetData, inputs_of}
+use Rattle.segment_set.specs.Sets.{AreAlone, SetData, inputs_of}
 use Rattle.segment_set.specs.Seen.{Sees}
-use Rattle.segment_set.specs.Damages.{IsDoubt, IsMergeDamage, IsMergeDamageOf}
+use Rattle.segment_set.specs.Damages.{IsDoubt, IsEvidentIn, IsMergeDamage, IsMergeDamageOf}
 use Rattle.segment_set.specs.Merged.{IsApart, KeepsEntries, Rearranges}
 use Rattle.segment_set.specs.Merges.{IsMerged}
-use Rattle.segment_set.specs.Faithful.{IsFaithful}
+use Rattle.segment_set.specs.Faithful.{HasFileHead, IsFaithful}
 use Rattle.segment_set.proofs.Faithful.{faithful_rearranged}
 use Rattle.segment_set.proofs.Moved.{moved}
 use Rattle.segment_set.proofs.Rearranged.{entries_merged, rearranges_after}
@@ -161,7 +161,10 @@ returns-clause-damaged g c = record {
       (c.merge.ensures.doubled told contents
       (subst (λ (s : SetData). AreRead g.row.D (g.F.Pages.files c.args.folder.now) contents s.parts) (sym c.self.view_is) reads)));
   evident = on_evident_set g.row.D g.F.Pages.told (g.F.Pages.files c.args.folder.now) (g.F.Pages.files c.merge.new.folder) (was g c) c.args.self.now
-      c.merge.result c.self.view_is c.self.invariant.spread c.merge.ensures.evident;
+      c.merge.result c.self.view_is c.self.invariant.spread (subst (λ n. OnDamage c.merge.result
+      (IsEvidentIn g.row.D (g.F.Pages.files c.args.folder.now) c.self.inside.segments 0 n
+      (IsTrue g.F.Pages.told × All (HasFileHead g.row.D (g.F.Pages.files c.args.folder.now)) c.self.inside.segments × AreAlone c.self.inside.segments)
+      (g.F.Pages.files c.merge.new.folder))) (given_is g c) c.merge.ensures.evident);
 }
 
 pub returns-clause-rest : goal.returns-clause-rest

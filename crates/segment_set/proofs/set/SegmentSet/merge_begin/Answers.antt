@@ -1,5 +1,4 @@
-use Rattle.std.proofs.Common.{◌≡◌, ◌≤◌, ◌<◌, ℕ, true, List, length, take, ltb, Some, Err, refl, sym, ap, subst, ◌∙◌, inl, lit<}
-use Rattle.std.specs.Prelude.{IsTrue}
+use Rattle.std.proofs.Common.{◌≡◌, ◌≤◌, ◌<◌, ℕ, true, List, length, take, ltb, All, IsTrue, Some, Err, refl, sym, ap, subst, ◌∙◌, inl, lit<}
 use Rattle.std.specs.List.{All, filter}
 use Rattle.std.proofs.lemmas.Result.{err_from_is_err_and}
 use Rattle.outer_io.specs.Files.{Files}
@@ -7,14 +6,13 @@ use Rattle.documents.specs.Entries.{is_among}
 use Rattle.page_cache.specs.Evidence.{OnDamage}
 use Rattle.segment_view.specs.LiveSegments.{AreRead, ids_of, live_in_parts, parts_among}
 use Rattle.segment_set.specs.declared.set.SegmentSet.TheInside.{Inside}
-use Rattle.segment_set.specs.Sets.{BegunMerge, SetData}
+use Rattle.segment_set.specs.Sets.{AreAlone, BegunMerge, SetData}
 use Rattle.segment_set.specs.Seen.{Sees}
-use Rattle.segment_set.specs.Faithful.{IsFaithful}
-use Rattle.segment_set.specs.Damages.{IsDoubt, IsMergeDamage, IsMergeDamageOf}
+use Rattle.segment_set.specs.Faithful.{HasFileHead, IsFaithful}
+use Rattle.segment_set.specs.Damages.{IsDoubt, IsEvidentIn, IsMergeDamage, IsMergeDamageOf}
 use Rattle.segment_set.specs.Merged.{chosen_ids, each_once}
-use Rattle.segment_set.specs.Losing.{KeepsNumbers}
+use Rattle.segment_set.specs.Losing.{TakesOver}
 use Rattle.segment_set.specs.Merges.{Collects, IsGathered, LosesNone, MakesLive}
-use Rattle.index_opening.specs.Evidence.{IsEvidentIn}
 use Rattle.segment_set.proofs.Faulted.{begun_cause, begun_damage, begun_memory}
 use Rattle.segment_set.proofs.Moved.{moved}
 use Rattle.segment_set.proofs.Sizes.{set_fits}
@@ -174,10 +172,15 @@ returns-in_err-built-clause-damaged g c = record {
       let p = err_from_is_err_and c.from_residual-in_err-built.result c.from_residual-in_err-built.ensures.1 in
       rw (p.1, p.2)
       (begun_damage (Unit {0}) (Unit {0})
-      (IsEvidentIn g.row.D c.args.self.now.parts (IsTrusted g.F.Pages.told g.row.D (g.F.Pages.files c.args.folder.now) c.args.self.now)
-      (g.F.Pages.files c.gathered.new.folder)) c.in_err-built.field-0.0
+      (IsEvidentIn g.row.D (g.F.Pages.files c.args.folder.now) c.args.self.now.parts (length c.args.self.now.buffer) c.args.self.now.points_given
+      (IsTrusted g.F.Pages.told g.row.D (g.F.Pages.files c.args.folder.now) c.args.self.now) (g.F.Pages.files c.gathered.new.folder)) c.in_err-built.field-0.0
       (on_evident_set {X = Unit {0}} g.row.D g.F.Pages.told (g.F.Pages.files c.args.folder.now) (g.F.Pages.files c.gathered.new.folder) (set_of c.self.inside)
-      c.args.self.now (Err c.in_err-built.field-0.0) c.self.view_is c.self.invariant.spread c.in_err-built.ensures.evident));
+      c.args.self.now (Err c.in_err-built.field-0.0) c.self.view_is c.self.invariant.spread
+      (subst (λ n. OnDamage {T = Unit {0}} (Err c.in_err-built.field-0.0)
+      (IsEvidentIn g.row.D (g.F.Pages.files c.args.folder.now) c.self.inside.segments 0 n
+      (IsTrue g.F.Pages.told × All (HasFileHead g.row.D (g.F.Pages.files c.args.folder.now)) c.self.inside.segments × AreAlone c.self.inside.segments)
+      (g.F.Pages.files c.gathered.new.folder)))
+      (c.plan-plan.ensures.points_given ∙ sym (ap (λ (s : SetData). s.points_given) c.self.view_is)) c.in_err-built.ensures.evident)));
 }
 
 pub returns-clause-faithful : goal.returns-clause-faithful
@@ -186,7 +189,7 @@ returns-clause-faithful g c =
     (ids_of (parts_among c.as_slice-2.result.now c.self.inside.segments)) (Some (merge_of g c)) c.self.inside.cache c.self.view_is
     (record { files = c.gathered.ensures.files; agrees = λ told agrees. agrees; others = λ id keeps. inl keeps })
     (λ told heads b is.
-    subst (λ (m : BegunMerge). KeepsNumbers g.row.D (g.F.Pages.files c.args.folder.now) (parts_among m.inputs c.self.inside.segments) m.built)
+    subst (λ (m : BegunMerge). TakesOver g.row.D (g.F.Pages.files c.args.folder.now) (parts_among m.inputs c.self.inside.segments) m.built)
     (some_is (merge_of g c) b is)
     (subst (λ (ns : List ℕ). LosesNone g.row.D (IsTrue g.F.Pages.told) (g.F.Pages.files c.args.folder.now) ns c.self.inside.segments c.in_ok-built.built)
     c.as_slice-2.ensures.value c.in_ok-built.ensures.loses told heads))

@@ -14,16 +14,17 @@ use Rattle.segment_set.specs.Merged.{IsEnded}
 use Rattle.segment_set.specs.Merges.{Replaces, living}
 use Rattle.segment_set.specs.Faithful.{IsFaithful}
 use Rattle.segment_set.proofs.Shows.{rewrites_none}
-use Rattle.segment_set.specs.Losing.{IsLossless}
+use Rattle.segment_set.specs.Losing.{IsLossless, KeepsCounts}
+use Rattle.segment_set.proofs.Counts.{counts_same}
 use Rattle.segment_set.proofs.Lossless.{lossless_same}
-use Rattle.segment_set.proofs.Ended.{end_canon, end_follows, end_loses, end_parts, end_seen, end_stays, end_well}
+use Rattle.segment_set.proofs.Ended.{end_canon, end_counts, end_follows, end_loses, end_parts, end_seen, end_stays, end_well}
 use Rattle.segment_set.proofs.Faulted.{ended_cause}
 use Rattle.segment_set.proofs.Moved.{moved}
 use Rattle.segment_set.proofs.Sizes.{built_fits}
 use Rattle.segment_set.proofs.WrittenBuffer.{refused_after, some_is}
 use Rattle.segment_set.proofs.Standing.{ids_named}
 use Rattle.segment_set.proofs.Steps.{IsAfter}
-use Rattle.segment_set.proofs.Faithful.{faithful_named}
+use Rattle.segment_set.proofs.Faithful.{faithful_named, part_files}
 use Rattle.segment_set.proofs.Refused.{at_error, never_ok}
 use Rattle.segment_set.proofs.Settled.{before_moved}
 use Rattle.segment_set.proofs.Trusted.{faithful_replaced}
@@ -162,6 +163,12 @@ returns-in_err-replace-clause-rewrites g c = record {
       (moved (set_of c.self.inside) c.replace.new.names c.replace.new.segments c.self.inside.buffer.items c.self.inside.begun c.self.inside.cache)
       (c.in_err-replace.ensures.refused ∙ ap (λ (s : SetData). s.parts) c.self.view_is) (ap (λ (s : SetData). s.buffer) c.self.view_is)
       (λ number live. inl live);
+  counts = λ told well faithful. subst (λ (s : SetData).
+      KeepsCounts g.row.D (g.F.Pages.files c.args.folder.now) (g.F.Pages.files c.replace.new.folder) s
+      (moved (set_of c.self.inside) c.replace.new.names c.replace.new.segments c.self.inside.buffer.items c.self.inside.begun c.self.inside.cache))
+      c.self.view_is (counts_same g.row.D (g.F.Pages.files c.args.folder.now) (g.F.Pages.files c.replace.new.folder) (set_of c.self.inside) _
+      c.in_err-replace.ensures.refused refl refl
+      (part_files g.row.D (set_of c.self.inside) c.self.invariant (c.in_err-replace.ensures.kept.files told)));
 }
 
 pub returns-clause-rewrites : goal.returns-clause-rewrites
@@ -188,6 +195,12 @@ returns-clause-rewrites g c = record {
       (moved (set_of c.self.inside) c.replace.new.names c.replace.new.segments c.self.inside.buffer.items None c.self.inside.cache)) c.self.view_is
       (end_loses g.row.D (IsTrue g.F.Pages.told) (g.F.Pages.files c.args.folder.now) (g.F.Pages.files c.replace.new.folder) {s = set_of c.self.inside}
       c.replace.new.names c.replace.new.segments c.in_ok-replace.ensures.kept c.in-Some.begun c.in-Some.is (replaced g c) c.self.invariant
+      ((subst (IsFaithful g.row.D (g.F.Pages.files c.args.folder.now)) (sym c.self.view_is) faithful).begun c.in-Some.begun c.in-Some.is).numbers);
+  counts = λ told well faithful. subst (λ (s : SetData).
+      KeepsCounts g.row.D (g.F.Pages.files c.args.folder.now) (g.F.Pages.files c.replace.new.folder) s
+      (moved (set_of c.self.inside) c.replace.new.names c.replace.new.segments c.self.inside.buffer.items None c.self.inside.cache)) c.self.view_is
+      (end_counts g.row.D (IsTrue g.F.Pages.told) (g.F.Pages.files c.args.folder.now) (g.F.Pages.files c.replace.new.folder) {s = set_of c.self.inside}
+      c.replace.new.names c.replace.new.segments c.in_ok-replace.ensures.kept c.in-Some.begun c.in-Some.is (replaced g c) c.self.invariant told
       ((subst (IsFaithful g.row.D (g.F.Pages.files c.args.folder.now)) (sym c.self.view_is) faithful).begun c.in-Some.begun c.in-Some.is));
 }
 

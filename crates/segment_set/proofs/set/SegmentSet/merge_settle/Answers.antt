@@ -2,8 +2,7 @@ use Rattle.std.proofs.Common.{◌≤◌, ◌∙◌, ℕ, IsTrue, List, Err, leng
 use Rattle.std.proofs.lemmas.Result.{err_from_is_err_and}
 use Rattle.page_cache.proofs.Damages.{on_damage_weaker}
 use Rattle.segment_view.specs.LiveSegments.{live_in_parts, parts_among}
-use Rattle.segment_set.specs.Damages.{IsDoubt, IsMergeDamage, IsMergeDamageOf}
-use Rattle.index_opening.specs.Evidence.{IsEvidentIn}
+use Rattle.segment_set.specs.Damages.{IsDoubt, IsEvidentIn, IsMergeDamage, IsMergeDamageOf}
 use Rattle.segment_set.proofs.Chosen.{unsettled}
 use Rattle.segment_set.proofs.Rearranged.{damage_before, doubt_same, entries_none, entries_then, rearranges_none, rearranges_then}
 use Rattle.segment_set.proofs.Refused.{at_error, memory_caused, memory_damage, never_ok, same_cause, same_damage}
@@ -11,6 +10,7 @@ use Rattle.segment_set.proofs.Saving.{cause_after, done_cause}
 use Rattle.segment_set.proofs.Settled.{before_itself, merges_chosen, settles_none, settles_one}
 use Rattle.segment_set.specs.Settles.{moment}
 use Rattle.page_cache.specs.Evidence.{OnDamage}
+use Rattle.segment_set.proofs.Counts.{counts_none, counts_then}
 use Rattle.segment_set.proofs.Trusted.{IsTrusted, on_evident_before}
 use Rattle.segment_set.proofs.Shows.{shows_none}
 use Rattle.segment_set.proofs.set.SegmentSet.merge_settle.Goals as goal
@@ -25,6 +25,7 @@ loop-ids-init g c = record {
   faults = refl;
   rested = λ settled. (refl, refl);
   faithful = λ told faithful. faithful;
+  counts = λ told faithful. counts_none g.row.D (g.F.Pages.files c.args.folder.now) c.args.self.now;
 }
 
 pub loop-ids-preserved : goal.loop-ids-preserved
@@ -45,6 +46,9 @@ loop-ids-preserved g c = record {
   rested = λ settled.
       absurd (unsettled c.args.self.now c.loop-ids.self (c.loop-ids.invariant.rested settled).0 settled (rw c.in-Some.is at c.in_ok-ids.ensures.ten));
   faithful = λ told faithful. c.merge.ensures.faithful told (c.loop-ids.invariant.faithful told faithful);
+  counts = λ told faithful. counts_then g.row.D (g.F.Pages.files c.args.folder.now) (g.F.Pages.files c.loop-ids.folder) (g.F.Pages.files c.merge.new.folder)
+      c.args.self.now c.loop-ids.self c.merge.new.self (c.loop-ids.invariant.counts told faithful)
+      (c.merge.ensures.moves.counts told c.next_merge.ensures.well (c.loop-ids.invariant.faithful told faithful).heads);
 }
 
 pub loop-ids-smaller : goal.loop-ids-smaller
@@ -175,11 +179,13 @@ returns-in_err-merge-clause-damaged g c = record {
       (subst (λ n. IsDoubt n (live_in_parts now.0 c.loop-ids.self.parts) d) (c.loop-ids.invariant.moves c.next_merge.ensures.well).stays.points_given h))
       (c.in_err-merge.ensures.damaged.doubled told (kept.agrees told agrees) now.0 now.1));
   evident = same_damage
-      (IsEvidentIn g.row.D c.args.self.now.parts (IsTrusted g.F.Pages.told g.row.D (g.F.Pages.files c.args.folder.now) c.args.self.now)
-      (g.F.Pages.files c.merge.new.folder)) c.in_err-merge.field-0.0 c.from_residual-in_err-merge.result c.from_residual-in_err-merge.ensures.1
+      (IsEvidentIn g.row.D (g.F.Pages.files c.args.folder.now) c.args.self.now.parts (length c.args.self.now.buffer) c.args.self.now.points_given
+      (IsTrusted g.F.Pages.told g.row.D (g.F.Pages.files c.args.folder.now) c.args.self.now) (g.F.Pages.files c.merge.new.folder))
+      c.in_err-merge.field-0.0 c.from_residual-in_err-merge.result c.from_residual-in_err-merge.ensures.1
       (on_evident_before {X = Unit {0}} g.row.D g.F.Pages.told (g.F.Pages.files c.args.folder.now) (g.F.Pages.files c.loop-ids.folder)
       (g.F.Pages.files c.merge.new.folder) c.args.self.now c.loop-ids.self c.merge.new.self (Err c.in_err-merge.field-0.0) c.next_merge.ensures.well.named
-      (c.loop-ids.invariant.moves c.next_merge.ensures.well) c.merge.ensures.moves.kept c.loop-ids.invariant.faithful c.in_err-merge.ensures.damaged.evident);
+      (c.loop-ids.invariant.moves c.next_merge.ensures.well) c.loop-ids.invariant.counts c.merge.ensures.moves.kept c.loop-ids.invariant.faithful
+      c.in_err-merge.ensures.damaged.evident);
 }
 
 pub returns-clause-faithful : goal.returns-clause-faithful

@@ -3,6 +3,7 @@ use Rattle.segment_set.specs.Sets.{IsSettled, IsWell}
 use Rattle.segment_set.specs.Merged.{KeepsEntries, Rearranges}
 use Rattle.segment_set.specs.Settles.{Settles, moment}
 use Rattle.segment_set.specs.Faithful.{IsFaithful}
+use Rattle.segment_set.specs.Losing.{KeepsCounts}
 use Rattle.segment_set.proofs.set.SegmentSet.merge_settle.Given as goal
 
 abbrev pub invariant-loop-ids : goal.invariant-loop-ids
@@ -17,6 +18,8 @@ invariant-loop-ids g l = record {
   rested : IsSettled l.initial.self → (l.self ≡ l.initial.self) × (g.F.Pages.reads l.folder ≡ g.F.Pages.reads l.initial.folder);
   faithful : IsTrue g.F.Pages.told → IsFaithful g.row.D (g.F.Pages.files l.initial.folder) l.initial.self
       → IsFaithful g.row.D (g.F.Pages.files l.folder) l.self;
+  counts : IsTrue g.F.Pages.told → IsFaithful g.row.D (g.F.Pages.files l.initial.folder) l.initial.self
+      → KeepsCounts g.row.D (g.F.Pages.files l.initial.folder) (g.F.Pages.files l.folder) l.initial.self l.self;
 }
 
 -- each merge takes the place of two segments at least

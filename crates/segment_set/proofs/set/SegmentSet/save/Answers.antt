@@ -18,6 +18,8 @@ use Rattle.segment_set.specs.Sets.{BegunMerge, pins_of, sizes_of}
 use Rattle.segment_set.specs.Kept.{Follows, IsCommitOf}
 use Rattle.segment_set.specs.Saved.{AreCovering, IsLastOrFresh, IsLastOrNext, IsSaved, KeepsLine, StaysButSaved}
 use Rattle.segment_set.proofs.Carried.{keeps_then, stays_then}
+use Rattle.segment_set.proofs.Counts.{counts_same, counts_then}
+use Rattle.segment_set.proofs.Faithful.{part_files}
 use Rattle.segment_set.proofs.Lossless.{lossless_same}
 use Rattle.segment_set.proofs.Covered.{IsListedAs, all_listed, covering_after}
 use Rattle.segment_set.proofs.Saving.{all_fresh, all_kept, all_next, all_written, canon_saved, cause_after, if_ok_both}
@@ -94,6 +96,7 @@ returns-in_err-flush-clause-rewrites g c = record {
   canon = c.in_err-flush.ensures.moves.canon;
   faithful = λ told keeps. c.in_err-flush.ensures.faithful told keeps;
   loses = λ told well keeps. c.in_err-flush.ensures.moves.loses told well keeps.heads;
+  counts = λ told well keeps. c.in_err-flush.ensures.moves.counts told well keeps.heads;
 }
 
 pub returns-in_err-flush-clause-damaged : goal.returns-in_err-flush-clause-damaged
@@ -164,6 +167,11 @@ returns-clause-rewrites g c = record {
   faithful = λ told keeps. c.list_segments.ensures.faithful told (c.in_ok-flush.ensures.faithful told keeps);
   loses = λ told well keeps. lossless_same g.row.D (g.F.Pages.files c.args.folder.now) c.args.self.now c.flush.new.self c.list_segments.new.self
       c.list_segments.ensures.rest.parts c.list_segments.ensures.rest.buffer (c.in_ok-flush.ensures.moves.loses told well keeps.heads);
+  counts = λ told well keeps. let rest = c.list_segments.ensures.rest in
+      counts_then _ _ (g.F.Pages.files c.flush.new.folder) _ c.args.self.now c.flush.new.self c.list_segments.new.self
+      (c.in_ok-flush.ensures.moves.counts told well keeps.heads)
+      (counts_same _ (g.F.Pages.files c.flush.new.folder) _ c.flush.new.self c.list_segments.new.self rest.parts rest.buffer rest.points_given
+      (part_files g.row.D c.flush.new.self c.list_segments.ensures.well (c.list_segments.ensures.kept.files told)));
 }
 
 pub returns-clause-damaged : goal.returns-clause-damaged
