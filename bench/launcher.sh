@@ -33,7 +33,16 @@ case \$1 in
     run) mkdir -p out; cp "$room/program" out/bkd; echo "usage: bkd FOLDER"; exit 1 ;;
 esac
 RT
-chmod +x "$room/program" "$room/tools/rt"
+# the crates below, side by side; PROVE is the status
+mkdir "$room/at/bench"
+cat > "$room/at/bench/prove.py" << 'PROVE'
+#!/usr/bin/env bash
+[ "$*" = "--below bkd" ] || exit 2
+[ "${PROVE-0}" -eq 2 ] || echo "== low
+== index_core"
+exit "${PROVE-0}"
+PROVE
+chmod +x "$room/program" "$room/tools/rt" "$room/at/bench/prove.py"
 PATH=$room/tools:$PATH
 cd "$room" || exit 1
 
@@ -63,7 +72,7 @@ call() {
 
 call at/bkd index run --cache 3
 holds "with no release it builds" 0 'program index run --cache 3'
-holds "it tells of a large crate" 0 '1 of 3 crates, index_core'
+holds "it tells of a crate below" 0 '1 of 3 crates, low'
 holds "it tells of each crate" 0 '3 of 3 crates, bkd'
 call at/bkd index run
 lacks "a second call builds nothing" building
@@ -76,8 +85,13 @@ call at/bkd index run
 holds "the release runs in a fresh checkout" 0 'program index run'
 lacks "and nothing is built" building
 echo 'fn low() { }' > at/crates/low/src/lib.rt
-BROKEN=1 call at/bkd index run
-holds "other sources are built, and a build that fails ends it" 1 'was not built'
+PROVE=1 call at/bkd index run
+holds "other sources are built, and a crate that isn't proved ends it" 1 'was not built'
+PROVE=2 BROKEN=1 call at/bkd index run
+holds "so does one in the order that stands for it" 1 'was not built'
+PROVE=2 call at/bkd index run
+holds "which is taken where the kit can't be asked" 0 '1 of 3 crates, index_core'
+rm at/crates/bkd/out/bkd.sha256
 call at/bkd index run
 holds "other sources are built" 0 building
 call at/release/compare
