@@ -21,6 +21,7 @@ else
     cat > "$room/program" << 'PROGRAM'
 #!/usr/bin/env bash
 echo "program $*"
+[ $# -eq 0 ] && echo "usage: bkd FOLDER"
 [ -n "${HELD-}" ] && touch "$HELD" && sleep 1
 exit "${STATUS-0}"
 PROGRAM
@@ -30,17 +31,18 @@ cat > "$room/tools/rt" <<RT
 case \$1 in
     check) echo "\${PWD##*/} proved"; [ -z "\${BROKEN-}" ] ;;
     all) for it in low index_core bkd; do echo "== \$it"; echo "logic=proved"; done; echo "== summary"; [ -z "\${BROKEN-}" ] ;;
-    run) mkdir -p out; cp "$room/program" out/bkd; echo "usage: bkd FOLDER"; exit 1 ;;
+    run) mkdir -p out; cp "$room/program" out/bkd; out/bkd; exit 1 ;;
 esac
 RT
-# the crates below, side by side; PROVE is the status
+# the program and the crates below, side by side; PROVE is the status
 mkdir "$room/at/bench"
-cat > "$room/at/bench/prove.py" << 'PROVE'
+cat > "$room/at/bench/prove.py" <<PROVE
 #!/usr/bin/env bash
-[ "$*" = "--below bkd" ] || exit 2
-[ "${PROVE-0}" -eq 2 ] || echo "== low
-== index_core"
-exit "${PROVE-0}"
+[ "\$*" = bkd ] || exit 2
+[ "\${PROVE-0}" -eq 0 ] || exit "\$PROVE"
+printf '== %s\n' low index_core bkd
+mkdir -p "$room/at/crates/bkd/out"
+cp "$room/program" "$room/at/crates/bkd/out/bkd"
 PROVE
 chmod +x "$room/program" "$room/tools/rt" "$room/at/bench/prove.py"
 PATH=$room/tools:$PATH

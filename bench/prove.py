@@ -1,23 +1,141 @@
 #!/usr/bin/env python3
-"""Proves a crate and all that it stands on, side by side on all processors.
+"""Proves a crate and all that it stands on, side by side on all processors, and links it if it is a program.
 
 usage: bench/prove.py CRATE             it tells each crate as it begins, in a line `== NAME`
        bench/prove.py --below CRATE     all that it stands on, and not the crate itself
 
-Of the crates that can begin the one with the longest way to CRATE comes first, with two processors, or with those that
-no other takes, up to four. What is proved already is kept, as `rt check` keeps it; rt itself takes one crate after the
-other, or each with one processor. It asks the kit's own rtlib.py for all that it does. Its status is 1 where a crate
-was not proved, and 2 where this kit can't be asked so.
+Each is proved as `rt ci` proves it: from nothing, over the statements of the crates below. What was proved so stays,
+by its text and the libraries that it stood on. Where `rt check` has kept work of one of them, each is proved as it
+proves them, over what it kept. Of those that can begin the one with the longest way to CRATE comes first, with four
+jobs; crates whose way is shorter have fewer, and give way to it. It asks the kit's own `rt` for all that it does. Its
+status is 1 where a crate was not proved, and 2 where this kit can't be asked so.
 """
 import concurrent.futures
+import importlib.machinery
+import importlib.util
 import os
 import shutil
 import sys
 import tempfile
+import threading
 
-from only import ROOT, kit
+ROOT = os.path.realpath(os.path.join(os.path.dirname(os.path.abspath(__file__)), ".."))
 
-MOST_JOBS = 4
+# How long the way of a crate that others wait for is at least, as a part of the longest; its jobs, and those of others
+KEEN, KEEN_JOBS, CALM_JOBS = 0.92, 4, 2
+
+# What a check takes of the memory, in kilobytes.
+ROOM = 3_500_000
+
+
+def kit():
+    """Returns the program `rt` of this machine as a module."""
+    sys.dont_write_bytecode = True
+    loader = importlib.machinery.SourceFileLoader("rt", os.path.realpath(shutil.which("rt")))
+    module = importlib.util.module_from_spec(importlib.util.spec_from_loader("rt", loader))
+    sys.modules["rt"] = module
+    loader.exec_module(module)
+    return module
+
+
+def crate_of(rt, name):
+    """Returns the crate, held to what `rt ci` holds it to."""
+    rt.rtlib.Crate = rt.Crate
+    rt.Crate.allowed = rt.handles_of(ROOT)
+    return rt.Crate(f"{ROOT}/crates/{name}", ROOT, {})
+
+
+class Work:
+    """Crates that are proved, the lowest first."""
+
+    def __init__(self, rt, crates):
+        self.rtlib, self.left, self.running, self.done = rt.rtlib, list(crates), {}, set()
+        self.ways = ways(crates)
+        self.is_anew = not any(it.has_kept() for it in crates)
+        rt.Crate.cuts_libraries = self.is_anew
+
+    def mark(self, crate):
+        """Returns a sum of the crate's text and of the libraries below it as they stand, and of its own."""
+        formats = [self.rtlib.sum_of(f"{it.rlib}/format") for it in [*crate.below(), crate]]
+        return "\n".join([crate.stamp(), *formats])
+
+    def make(self, crate, flags):
+        """Makes the crate's library, or its program, and returns the status."""
+        if crate.makes_rlib():
+            return crate.build_rlib(flags, self.is_anew)
+        to = f"out/{crate.name}"
+        if self.is_anew:
+            words = ["--toolchain", f"{self.rtlib.KIT}/toolchain", "--backend", "llvm", "-o", f"{to}.o"]
+            status = crate.prove(["build", *crate.words(flags, keeps=False), *words])
+        else:
+            status = crate.compile(flags, f"{to}.o")
+        return status or crate.link(f"{to}.o", to)
+
+    def prove(self, crate, jobs):
+        """Proves a crate over the libraries below it, unless that was done. Returns its status, and what it said."""
+        os.makedirs(f"{crate.folder}/out", exist_ok=True)
+        has_mark = self.is_anew and crate.makes_rlib()
+        file, stamp = f"{crate.folder}/out/rlib/proved", crate.stamp()
+        if has_mark and self.rtlib.text_of(file) == self.mark(crate):
+            return 0, ""
+        with tempfile.TemporaryFile("a+", errors="replace") as crate.out:
+            try:
+                self.rtlib.stop_on_links(crate.folder)
+                self.rtlib.stop_on_text(crate, "verdict" if self.is_anew else "check")
+                status = self.make(crate, ["--jobs", str(jobs)])
+            except SystemExit:
+                status = 1
+            # (what changed meanwhile was not proved)
+            if status == 0 and has_mark and stamp == crate.stamp():
+                with open(file, "w", encoding="utf-8") as it:
+                    it.write(self.mark(crate))
+            crate.out.seek(0)
+            return status, crate.out.read()
+
+    def begin(self, keen, calm, most):
+        """Begins what can begin, up to so many at a time, and one more that the others wait for."""
+        longest = max(map(self.ways.get, [*self.left, *self.running.values()]), default=0)
+        ready = sorted((it for it in self.left if self.done >= {*it.below()}), key=self.ways.get, reverse=True)
+        for it in ready:
+            is_keen = self.ways[it] >= KEEN * longest
+            if len(self.running) >= most + is_keen:
+                break
+            print(f"== {it.name}", flush=True)
+            pool, jobs = (keen, KEEN_JOBS) if is_keen else (calm, CALM_JOBS)
+            self.running[pool.submit(self.prove, it, min(jobs, most))] = it
+            self.left.remove(it)
+
+    def end(self):
+        """Waits until some have ended, and stops at one that was not proved."""
+        ended, _ = concurrent.futures.wait(self.running, return_when=concurrent.futures.FIRST_COMPLETED)
+        for future in ended:
+            (status, said), it = future.result(), self.running.pop(future)
+            if status:
+                print(f"{said}== {it.name} was not proved", flush=True)
+                # (what still runs ends with this process, as the kit guards it)
+                os._exit(1)
+            self.done.add(it)
+
+    def all(self):
+        """Proves all, side by side."""
+        most = lanes()
+        pool = concurrent.futures.ThreadPoolExecutor
+        with pool(most + 1) as keen, pool(most, initializer=give_way) as calm:
+            while self.left or self.running:
+                self.begin(keen, calm, most)
+                self.end()
+
+
+def give_way():
+    """Lets what this thread starts give way to the other checks."""
+    os.setpriority(os.PRIO_PROCESS, threading.get_native_id(), 5)
+
+
+def lanes():
+    """Returns how many crates are proved at a time: as many as processors, as far as memory goes."""
+    with open("/proc/meminfo", encoding="ascii") as file:
+        [free] = [int(line.split()[1]) for line in file if line.startswith("MemAvailable:")]
+    return max(min(len(os.sched_getaffinity(0)), free // ROOM), 1)
 
 
 def size(crate):
@@ -41,48 +159,6 @@ def ways(crates):
     return longest
 
 
-def prove(crate, jobs):
-    """Proves a crate over the libraries below it. Returns its status, and what was printed."""
-    os.makedirs(f"{crate.folder}/out", exist_ok=True)
-    with tempfile.TemporaryFile("a+", errors="replace") as crate.out:
-        flags = ["--jobs", str(jobs)]
-        status = crate.build_rlib(flags, anew=False) if crate.makes_rlib() else crate.check(flags)
-        crate.out.seek(0)
-        return status, crate.out.read()
-
-
-def begin(longest, left, done, running, pool, free):
-    """Begins what can begin, as far as processors are free, and returns how many are free then."""
-    ready = sorted((it for it in left if done >= {*it.below()}), key=longest.get, reverse=True)
-    for at, it in enumerate(ready[:free]):
-        others = min(len(ready), free + at) - at - 1
-        jobs = min(MOST_JOBS, max(free - others, 1 if at or free == 1 else 2))
-        print(f"== {it.name}", flush=True)
-        running[pool.submit(prove, it, jobs)] = it, jobs
-        left.remove(it)
-        free -= jobs
-        if free == 0:
-            break
-    return free
-
-
-def prove_all(crates):
-    """Proves these crates, lowest first, and stops at the first that is not proved."""
-    longest, left, running, done = ways(crates), list(crates), {}, set()
-    free = len(os.sched_getaffinity(0))
-    with concurrent.futures.ThreadPoolExecutor(free) as pool:
-        while left or running:
-            free = begin(longest, left, done, running, pool, free)
-            ended, _ = concurrent.futures.wait(running, return_when=concurrent.futures.FIRST_COMPLETED)
-            for future in ended:
-                (status, said), (it, jobs) = future.result(), running.pop(future)
-                if status:
-                    print(said, end="", flush=True)
-                    sys.exit(f"== {it.name} was not proved")
-                done.add(it)
-                free += jobs
-
-
 def main():
     words = sys.argv[1:]
     is_below = words[:1] == ["--below"]
@@ -92,16 +168,12 @@ def main():
     try:
         rt = kit()
         # (it sets what the signals do, which only this thread may)
-        rt.guarded()
-        folder = f"{ROOT}/crates/{words[-1]}"
-        os.chdir(folder)
-        last = rt.Crate(folder, ROOT, {})
+        rt.rtlib.guarded()
+        os.chdir(f"{ROOT}/crates/{words[-1]}")
+        last = crate_of(rt, words[-1])
         crates = [*last.below()] + ([] if is_below else [last])
-        held = rt.lock(crates)
-        for it in crates:
-            rt.stop_on_links(it.folder)
-            rt.stop_on_text(it, "check")
-        prove_all(crates)
+        held = rt.rtlib.lock(crates)
+        Work(rt, crates).all()
     except (AttributeError, ImportError, OSError, TypeError) as fault:
         print(f"prove.py: {fault}", file=sys.stderr)
         sys.exit(2)
