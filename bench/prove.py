@@ -6,9 +6,10 @@ usage: bench/prove.py CRATE             it tells each crate as it begins, in a l
 
 Each is proved as `rt ci` proves it: from nothing, over the statements of the crates below. What was proved so stays,
 by its text and the libraries that it stood on. Where `rt check` has kept work of one of them, each is proved as it
-proves them, over what it kept. Of those that can begin the one with the longest way to CRATE comes first, with four
-jobs; crates whose way is shorter have fewer, and give way to it. It asks the kit's own `rt` for all that it does. Its
-status is 1 where a crate was not proved, and 2 where this kit can't be asked so.
+proves them, over what it kept. Of those that can begin the one with the longest way to CRATE comes first, with three
+jobs; others on a way that is nearly as long have two, and the rest one, and give way. Whether a call can meet each
+contract is left to `rt ci`. It asks the kit's own `rt` for all that it does. Its status is 1 where a crate was not
+proved, and 2 where this kit can't be asked so.
 """
 import concurrent.futures
 import importlib.machinery
@@ -21,8 +22,9 @@ import threading
 
 ROOT = os.path.realpath(os.path.join(os.path.dirname(os.path.abspath(__file__)), ".."))
 
-# How long the way of a crate that others wait for is at least, as a part of the longest; its jobs, and those of others
-KEEN, KEEN_JOBS, CALM_JOBS = 0.92, 4, 2
+# How long the way of a crate that others wait for is at least: this part of the longest, or so many lines less; the
+# jobs of the first of them that runs, and of the others. The rest have one job: forks cost a seventh of a check.
+KEEN, KEEN_LINES, FIRST_JOBS, KEEN_JOBS = 0.9, 600, 3, 2
 
 # What a check takes of the memory, in kilobytes.
 ROOM = 3_500_000
@@ -50,9 +52,12 @@ class Work:
 
     def __init__(self, rt, crates):
         self.rtlib, self.left, self.running, self.done = rt.rtlib, list(crates), {}, set()
-        self.ways = ways(crates)
+        self.ways, self.jobs = ways(crates), {}
         self.is_anew = not any(it.has_kept() for it in crates)
         rt.Crate.cuts_libraries = self.is_anew
+        # (a look for contracts that no call can meet is the gate's: no verdict comes of it)
+        said = self.rtlib.help_of
+        self.rtlib.help_of = lambda word: said(word).replace("--empty-contracts", "")
 
     def mark(self, crate):
         """Returns a sum of the crate's text and of the libraries below it as they stand, and of its own."""
@@ -93,16 +98,18 @@ class Work:
             return status, crate.out.read()
 
     def begin(self, keen, calm, most):
-        """Begins what can begin, up to so many at a time, and one more that the others wait for."""
+        """Begins what can begin: as many crates as processors, and more while there are not as many jobs and one."""
         longest = max(map(self.ways.get, [*self.left, *self.running.values()]), default=0)
         ready = sorted((it for it in self.left if self.done >= {*it.below()}), key=self.ways.get, reverse=True)
         for it in ready:
-            is_keen = self.ways[it] >= KEEN * longest
-            if len(self.running) >= most + is_keen:
+            taken = [self.jobs[other] for other in self.running.values()]
+            if len(taken) >= most and sum(taken) > most:
                 break
+            is_keen = self.ways[it] >= min(KEEN * longest, longest - KEEN_LINES)
+            keen_jobs = KEEN_JOBS if FIRST_JOBS in taken else FIRST_JOBS
+            self.jobs[it] = min(keen_jobs, most) if is_keen else 1
             print(f"== {it.name}", flush=True)
-            pool, jobs = (keen, KEEN_JOBS) if is_keen else (calm, CALM_JOBS)
-            self.running[pool.submit(self.prove, it, min(jobs, most))] = it
+            self.running[(keen if is_keen else calm).submit(self.prove, it, self.jobs[it])] = it
             self.left.remove(it)
 
     def end(self):
@@ -120,7 +127,7 @@ class Work:
         """Proves all, side by side."""
         most = lanes()
         pool = concurrent.futures.ThreadPoolExecutor
-        with pool(most + 1) as keen, pool(most, initializer=give_way) as calm:
+        with pool(most + 1) as keen, pool(most + 1, initializer=give_way) as calm:
             while self.left or self.running:
                 self.begin(keen, calm, most)
                 self.end()
@@ -139,14 +146,12 @@ def lanes():
 
 
 def size(crate):
-    """Returns about how long the crate takes: the lines of its sources and proofs."""
+    """Returns about how long the crate takes: the lines of its sources, which tell more than those of its proofs."""
     count = 0
-    for folder, _, files in os.walk(crate.folder):
-        if "/out" not in folder[len(crate.folder):]:
-            for file in files:
-                if file.endswith((".rt", ".antt")):
-                    with open(os.path.join(folder, file), "rb") as text:
-                        count += text.read().count(b"\n")
+    for folder, _, files in os.walk(f"{crate.folder}/src"):
+        for file in files:
+            with open(os.path.join(folder, file), "rb") as text:
+                count += text.read().count(b"\n")
     return count
 
 
