@@ -55,7 +55,7 @@ class Work:
         self.ways, self.jobs = ways(crates), {}
         self.is_anew = not any(it.has_kept() for it in crates)
         rt.Crate.cuts_libraries = self.is_anew
-        # (a look for contracts that no call can meet is the gate's: no verdict comes of it)
+        # (contracts that no call can meet are not looked for: the gate does, and a proved program calls none of them)
         said = self.rtlib.help_of
         self.rtlib.help_of = lambda word: said(word).replace("--empty-contracts", "")
 
@@ -98,7 +98,7 @@ class Work:
             return status, crate.out.read()
 
     def begin(self, keen, calm, most):
-        """Begins what can begin: as many crates as processors, and more while there are not as many jobs and one."""
+        """Begins what can begin: as many crates as processors, and one more where each of them has one job."""
         longest = max(map(self.ways.get, [*self.left, *self.running.values()]), default=0)
         ready = sorted((it for it in self.left if self.done >= {*it.below()}), key=self.ways.get, reverse=True)
         for it in ready:
