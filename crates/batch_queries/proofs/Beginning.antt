@@ -1,6 +1,6 @@
 -- A batch that is answered while a merge begins, by what the calls answered.
-use Rattle.std.proofs.Common.{◌≡◌, ◌≤◌, ◌⊎◌, ⊎_elim, ℕ, zero, suc, Bool, true, false, if◌then◌else◌, List, [], ◌∷◌, map, take, length, Some, None, Result, Ok}
-use Rattle.std.proofs.Common.{Err, OnOk, inl, inr, refl, sym, ap, subst, ◌∙◌, arith}
+use Rattle.std.proofs.Common.{◌≡◌, ◌⊎◌, ⊎_elim, ℕ, zero, suc, Bool, true, false, if◌then◌else◌, List, [], ◌∷◌, map, take, Some, Result, Ok}
+use Rattle.std.proofs.Common.{Err, inl, inr, refl, sym, ap, subst, ◌∙◌, arith}
 use Rattle.std.specs.List.{Contains}
 use Rattle.std.proofs.lemmas.Bool.{false≢true}
 use Rattle.outer_io.specs.declared.file_name.FileName.TheVariants.{Segment}
@@ -37,7 +37,7 @@ use Rattle.index_core.proofs.Bringing.{brings_same}
 use Rattle.index_core.proofs.Guarding.{names_listed}
 use Rattle.batch_run.specs.declared.resident.Resident.{Resident}
 use Rattle.batch_queries.specs.Merging.{below, merged_count}
-use Rattle.batch_queries.specs.MergeRuns.{BeginsMerge, IsBegun, AreOpen, first_ids}
+use Rattle.batch_queries.specs.MergeRuns.{BeginsMerge, AreOpen, first_ids}
 use Rattle.batch_queries.proofs.Ended.{merging, moment_of}
 use Rattle.batch_queries.proofs.Places.{first_chosen}
 

@@ -1,7 +1,7 @@
 -- The same with a session: the batch is answered while the merge begins, the text goes out, and the merge is ended.
-use Rattle.std.proofs.Common.{◌≡◌, ◌≤◌, ◌+◌, ◌==◌, ◌++◌, ℕ, zero, suc, Bool, true, false, List, [], ◌∷◌, length, map, take, Option, Some, None, Result, Ok, Err}
-use Rattle.std.proofs.Common.{IfOk, OnErr, OnOk, IsErrOf}
-use Rattle.std.proofs.Common.{refl, sym, ap, subst, ◌∙◌, ◌⊎◌, inl, inr, ⊎_elim, arith}
+use Rattle.std.proofs.Common.{◌≡◌, ◌+◌, ◌++◌, ℕ, true, List, map, take, Some, None, Result, Ok, Err}
+use Rattle.std.proofs.Common.{OnOk}
+use Rattle.std.proofs.Common.{refl, sym, ap, subst, ◌∙◌, ◌⊎◌, inl, inr, ⊎_elim}
 use Rattle.std.specs.List.{Contains}
 use Rattle.std.proofs.lemmas.Bool.{both_ways}
 use Rattle.std.proofs.lemmas.List.{take-map}
@@ -14,43 +14,37 @@ use Rattle.documents.proofs.Kept.{among_from}
 use Rattle.documents.proofs.Lists.{in_map, of_map}
 use Rattle.page_cache.specs.declared.faults.PageFault.{PageFault}
 use Rattle.page_cache.specs.declared.faults.PageFault.TheVariants as page
-use Rattle.page_cache.specs.Causes.{HasPageCause}
-use Rattle.page_cache.specs.Evidence.{FaultShows, NotDamaged, OnDamage}
+use Rattle.page_cache.specs.Evidence.{NotDamaged, OnDamage}
 use Rattle.commit_list.specs.declared.listed.Listed.{Listed}
 use Rattle.commit_list.specs.Commits.{CommitData}
 use Rattle.commit_list.proofs.CommitPages.{one_file}
 use Rattle.index_model.specs.State.{Index, State, at_rest, new_index}
-use Rattle.stored_index.specs.Kept.{ListsFile, SameKept}
-use Rattle.stored_index.specs.Stored.{IsStored, index_of}
-use Rattle.stored_index.proofs.KeptFiles.{kept_after, kept_itself, stored_still}
-use Rattle.stored_index.proofs.Whole.{held_for}
+use Rattle.stored_index.specs.Kept.{ListsFile}
+use Rattle.stored_index.specs.Stored.{IsStored}
+use Rattle.stored_index.proofs.KeptFiles.{kept_after, stored_still}
 use Rattle.index_opening.specs.Evidence.{IsEvident}
 use Rattle.index_opening.proofs.Evident.{on_evident_less}
 use Rattle.segment_view.specs.LiveSegments.{LiveSegment, ids_of}
 use Rattle.index_core.specs.Brought.{KeepsCommit}
-use Rattle.index_core.specs.Light.{KeepsLevels}
-use Rattle.index_core.specs.Sessions.{IsLast, SessionData, Trusts}
-use Rattle.index_core.specs.Steps.{FaultKeeps, HasCommit, KeepsUndone}
+use Rattle.index_core.specs.Sessions.{IsLast, Trusts}
+use Rattle.index_core.specs.Steps.{FaultKeeps, KeepsUndone}
 use Rattle.index_core.specs.Whole.{HasNewCanonical, SessionMoment}
 use Rattle.index_core.proofs.Bringing.{brings_then}
 use Rattle.index_core.proofs.Brought.{commit_after}
 use Rattle.index_core.proofs.Guarding.{says_some}
 use Rattle.index_core.proofs.Listed.{attached_listed, new_canonical}
-use Rattle.index_core.proofs.Undone.{kept_equal, levels_after, undone_after}
-use Rattle.run_status.specs.Ends.{DoesNothing, IsAnswer, IsDamaged, OnStatusDamage}
-use Rattle.run_status.specs.Sent.{IsSent}
+use Rattle.index_core.proofs.Undone.{levels_after, undone_after}
 use Rattle.run_status.specs.Stops.{status_of, stop_of}
 use Rattle.run_status.specs.Told.{TellsAll}
-use Rattle.run_status.specs.declared.status.Status.{Status}
 use Rattle.run_status.specs.declared.status.Status.TheVariants as status
 use Rattle.run_status.specs.declared.stop.Stop.{Stop}
 use Rattle.run_status.specs.declared.stop.Stop.TheVariants as stop
-use Rattle.run_status.proofs.Ending.{does_lines, folder_stopped, rose_from, sink_stopped}
+use Rattle.run_status.proofs.Ending.{does_lines}
 use Rattle.batch_run.specs.declared.resident.Resident.{Resident}
 use Rattle.batch_run.specs.Copies.{IsCommitIn}
 use Rattle.batch_queries.specs.Batched.{IsBatchText, TellsBatch}
-use Rattle.batch_queries.specs.Ends.{CutsAll, EndsBatch}
-use Rattle.batch_queries.specs.Merging.{EndsMerging, MergeKeeps, MergeLeaves, MergesFirst, WholeOrNone, merged_count}
+use Rattle.batch_queries.specs.Ends.{CutsAll}
+use Rattle.batch_queries.specs.Merging.{EndsMerging, MergesFirst, WholeOrNone, merged_count}
 use Rattle.batch_queries.specs.MergeRuns.{BeginsMerge, EndsMerge, IsBegun, IsMergeDone, AreOpen, MergesBatch, MergeMoment, first_ids}
 use Rattle.batch_queries.proofs.MergeCalls.{counted_folder, counted_kept, counted_shows, counted_sink, counted_whole, ends_cut, ends_whole, stopped, text_whole}
 

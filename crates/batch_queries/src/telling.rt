@@ -4,7 +4,7 @@ ghost use Rattle.std.specs.Prelude.{◌≡◌, ◌≤◌, ◌^◌, ◌++◌, Lis
 ghost use Rattle.std.specs.Prelude.{IfOk, OnOk};
 ghost use Rattle.std.specs.List.{flat_map};
 ghost use Rattle.script_lang.specs.Lines.{lines_of};
-ghost use Rattle.script_lang.specs.Replies.{line_fault_text, refused_text};
+ghost use Rattle.script_lang.specs.Replies.{refused_text};
 ghost use Rattle.script_lang.specs.Requests.{Request};
 ghost use Rattle.script_lang.specs.Seen.{request_of as command_request};
 ghost use Rattle.index_model.specs.State.{Index};

@@ -1,9 +1,7 @@
 //! The files of a resident copy, as they are read.
 
-ghost use Rattle.std.specs.Prelude.{◌≡◌, ◌++◌, ◌≤◌, Some, true, length, min, take, drop, option_map, IfOk, IsTrue};
-ghost use Rattle.outer_io.specs.Counts.{RisesByOne};
-ghost use Rattle.outer_io.specs.Faults.{HasCause};
-ghost use Rattle.outer_io.specs.Files.{bytes_of, size_of, IsReadAt};
+ghost use Rattle.std.specs.Prelude.{◌≡◌, ◌++◌, Some, true, length, min, take, drop, option_map};
+ghost use Rattle.outer_io.specs.Files.{bytes_of};
 ghost use Rattle.outer_io.specs.MemFolder.{folder_files};
 
 use outer_io::{Failed, FileName, MemFolder, Pages};

@@ -1,7 +1,7 @@
 -- Least and greatest coordinates, extents, and the widest dimension: there is one of each, and they depend on the items and
 -- not on their order.
 use Rattle.std.proofs.Common.{◌≡◌, ℕ, ◌+◌, ◌<◌, true, false, List, [], ◌∷◌, map, length, get_or, take, drop}
-use Rattle.std.proofs.Common.{refl, sym, ap, ◌∙◌, subst, arith, inl, inr, ℤ, pos, ◌+ℤ◌, ◌≤ℤ◌, ◌<ℤ◌, int_le}
+use Rattle.std.proofs.Common.{refl, sym, ap, ◌∙◌, subst, arith, inl, inr, ℤ, pos, ◌≤ℤ◌, ◌<ℤ◌, int_le}
 use Rattle.std.specs.List.{All, Contains}
 use Rattle.std.specs.List.Sorted.{IsPermutation}
 use Rattle.std.specs.declared.cmp.Ordering.{Ordering}
@@ -32,18 +32,6 @@ greatest_above d m n items h at = All-contains (λ (z : ℤ). z ≤ℤ m) (map (
 
 pub one_least : (d : ℕ) (m n : ℤ) (items : List Item) → IsLeast d m items → IsLeast d n items → m ≡ n
 one_least d m n items h k = antisymmetric m n (least_below d m n items h k.reached) (least_below d n m items k h.reached)
-
-pub one_greatest : (d : ℕ) (m n : ℤ) (items : List Item) → IsGreatest d m items → IsGreatest d n items → m ≡ n
-one_greatest d m n items h k = antisymmetric m n (greatest_above d n m items k h.reached) (greatest_above d m n items h k.reached)
-
-apart : (l m : ℤ) (v w : ℕ) → m ≡ l +ℤ pos v → m ≡ l +ℤ pos w → v ≡ w
-apart l m v w h k = grind (arith, ints)
-
-pub one_extent : (d v w : ℕ) (items : List Item) → HasExtent d v items → HasExtent d w items → v ≡ w
-one_extent d v w items h k =
-    let low = one_least d h.least k.least items h.is_least k.is_least in
-    let high = one_greatest d h.greatest k.greatest items h.is_greatest k.is_greatest in
-    apart k.least k.greatest v w (sym high ∙ h.is ∙ ap (λ (z : ℤ). z +ℤ pos v) low) k.is
 
 pub one_widest : (D d e : ℕ) (items : List Item) → IsWidest D d items → IsWidest D e items → d ≡ e
 one_widest D d e items h k = elim (cases_order d e) [

@@ -1,5 +1,5 @@
 -- The sides of a cell that items lie in, and the cell cut down to them.
-use Rattle.std.proofs.Common.{◌≡◌, ◌≢◌, ◌⊎◌, ℕ, ◌+◌, ◌<◌, ◌≤◌, true, false, Bool, List, [], ◌∷◌, ◌++◌, map, length, get_or, set, take, drop, not, cond}
+use Rattle.std.proofs.Common.{◌≡◌, ◌≢◌, ◌⊎◌, ℕ, ◌+◌, ◌<◌, ◌≤◌, true, false, Bool, List, [], ◌∷◌, ◌++◌, map, length, get_or, take, drop, not}
 use Rattle.std.proofs.Common.{refl, sym, ap, ◌∙◌, subst, arith, inl, inr, ℤ, pos, ◌+ℤ◌, ◌-ℤ◌, ◌≤ℤ◌, int_le, is_gt, unsigned_abs}
 use Rattle.std.proofs.Common.{get_or-set_same, get_or-set_other}
 use Rattle.std.specs.List.{All, Contains, count_by}
@@ -10,7 +10,6 @@ use Rattle.std.proofs.lemmas.Int.{ints}
 use Rattle.std.proofs.lemmas.List.{length-map, get_or-map, length-set}
 use Rattle.std.proofs.lemmas.List.Elements.{All-push, All-map, All-contains, All-weaker, All-take, All-drop}
 use Rattle.std.proofs.lemmas.List.Sorted.{All-permutation}
-use Rattle.std.proofs.lemmas.List.Sums.{sum_by-set}
 use Rattle.point_codec.specs.Points.{Item, Region, all_le, in_box}
 use Rattle.point_codec.specs.Cells.{IsLeastCell, left_of, right_of}
 use Rattle.point_codec.specs.Seen.{items_of}
@@ -171,10 +170,6 @@ other_side d e m g r apart = rw (get_or-set_other r.lo d e m (pos 0) apart, get_
 
 abbrev pub open_sides : List Bool → ℕ
 open_sides exact = count_by not exact
-
-pub one_fewer : (exact : List Bool) (d : ℕ) → d < length exact → get_or exact d false ≡ false → open_sides (set exact d true) < open_sides exact
-one_fewer exact d lt is =
-    omega (arith, sum_by-set (λ (b : Bool). cond {A = ℕ} (not b) 1 0) exact d true false lt, ap (λ (b : Bool). cond {A = ℕ} (not b) 1 0) is)
 
 -- ---- both halves of a node
 

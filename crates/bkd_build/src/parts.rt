@@ -1,6 +1,6 @@
 //! What the build of a subtree gives, and how a leaf and two halves come to it.
 
-ghost use Rattle.std.specs.Prelude.{◌≡◌, ◌≤◌, ◌<◌, ◌^◌, ℕ, length, All, OnOk, IfOk, map};
+ghost use Rattle.std.specs.Prelude.{◌≡◌, ◌≤◌, ◌<◌, length, OnOk, IfOk, map};
 ghost use Rattle.point_codec.specs.Cells.{IsLeastCell};
 ghost use Rattle.point_codec.specs.Seen.{items_of, region_of};
 

@@ -1,11 +1,10 @@
 //! The recursion over the tree, by one thread or several.
 
-ghost use Rattle.std.specs.Prelude.{◌≡◌, ◌≤◌, ◌<◌, length, OnOk, IfOk};
+ghost use Rattle.std.specs.Prelude.{◌≡◌, ◌≤◌, ◌<◌, OnOk, IfOk};
 ghost use Rattle.std.specs.List.Sorted.{IsPermutation};
 ghost use Rattle.std.specs.Thread.{IsSync};
 ghost use Rattle.point_codec.specs.Seen.{items_of, region_of};
 ghost use Rattle.leaf_codec.specs.Leaves.{leaf_limit};
-ghost use Rattle.bkd_build.specs.Canon.{IsCanonSplit};
 ghost use Rattle.bkd_build.specs.Pieces.{AreEntriesIn, AddsPieces, AddsBoth, held_pieces, joined_pieces, no_pieces};
 ghost use Rattle.bkd_build.specs.Pieces.{one_node};
 

@@ -52,11 +52,6 @@ outside_more has live xs i h out = miss_more has live xs i h (and_false (is_live
     and_false true b e = e
     and_false false b e = refl
 
--- none of the entries yet
-pub none_yet : (has : List ℤ → Bool) (live : LiveSet) (old : List ℕ) (xs : List Item) → old ≡ old ++ hits_in has live (take 0 xs)
-unfolding hits_in
-none_yet has live old xs = sym (append-nil old)
-
 -- the live ones are the hits of a shape that has all points of a cell in which the entries lie
 pub all_hit : (has : List ℤ → Bool) (live : LiveSet) (cell : Region) (xs : List Item) → AllAnswer has true cell → All (λ x. in_box cell x.at ≡ true) xs
     → hits_in (λ _. true) live xs ≡ hits_in has live xs

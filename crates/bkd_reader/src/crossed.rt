@@ -1,6 +1,6 @@
 //! A leaf whose cell the shape crosses.
 
-ghost use Rattle.std.specs.Prelude.{◌≡◌, ◌≤◌, ◌+◌, ◌*◌, ◌++◌, ℕ, List, length, take, drop, All, ℤ, Bool, true, false};
+ghost use Rattle.std.specs.Prelude.{◌≡◌, ◌≤◌, ◌+◌, ◌++◌, ℕ, List, length, take, drop, All, true, false};
 ghost use Rattle.std.specs.Prelude.{IsTrue, IfOk, OnOk};
 ghost use Rattle.outer_io.specs.Files.{bytes_of};
 ghost use Rattle.outer_io.specs.declared.file_name.FileName.TheVariants.{Segment};

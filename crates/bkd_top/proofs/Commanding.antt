@@ -18,7 +18,6 @@ use Rattle.bkd_top.specs.Calls.{Call, LeavesTask, OnTask, TakesInput, WholeLeave
 use Rattle.bkd_top.specs.Checking.{EndsCheck}
 use Rattle.bkd_top.specs.Commands.{Before, EndsTask, EndsWhole, reads_input, reads_whole}
 use Rattle.run_status.specs.Causes.{ReadsInput}
-use Rattle.index_core.proofs.Brought.{commit_itself}
 use Rattle.index_core.proofs.LosingNone.{keeps_same}
 use Rattle.script_run.proofs.Calling.{nothing_costs}
 use Rattle.stored_index.proofs.KeptFiles.{kept_itself}

@@ -1,11 +1,10 @@
 -- How checking ends, whatever the folder holds.
-use Rattle.std.specs.Prelude.{ℕ, ◌+◌, ◌≡◌, ◌≤◌, ◌⊎◌, List, ◌++◌}
+use Rattle.std.specs.Prelude.{ℕ, ◌+◌, ◌≡◌, ◌≤◌, List, ◌++◌}
 use Rattle.outer_io.specs.Files.{Files}
 use Rattle.outer_io.specs.Parts.{WritesPart}
 use Rattle.stored_index.specs.Stored.{IsUndefined}
 use Rattle.index_opening.specs.Evidence.{IsFound}
 use Rattle.folder_check.specs.Checked.{IsChecked, IsChecking}
-use Rattle.run_status.specs.Causes.{Counts, NoneRose}
 use Rattle.run_status.specs.Ends.{OnStatusDamage}
 use Rattle.run_status.specs.declared.status.Status.{Status}
 use Rattle.run_status.specs.declared.status.Status.TheVariants as status
@@ -23,13 +22,6 @@ EndsCheck told files old new status.Usage = ⊥
 EndsCheck told files old new (status.SomeRefused count) = ⊥
 EndsCheck told files old new status.SourceFault = ⊥
 EndsCheck told files old new status.TooLarge = ⊥
-
--- it was told whether the files store a state, unless a fault was counted or memory was wanting
-abbrev pub IsVerdict : Status → Type 0
-IsVerdict status.Done = Unit {0}
-IsVerdict (status.Damaged damage) = Unit {0}
-IsVerdict status.Memory = Unit {0}
-IsVerdict _ = ⊥
 
 -- checking tells what the files hold, changes none of them, and reads each page of the Commit file and of those that it
 -- lists at most once; where it ends as damaged one of these files is named, and two numbers are a pair of them

@@ -1,13 +1,10 @@
 //! The lines of a script of queries, explained one after the other.
 
 ghost use Rattle.std.specs.Prelude.{◌≡◌, ◌≤◌, ◌<◌, ◌+◌, ◌^◌, length, IsTrue, ℕ};
-ghost use Rattle.outer_io.specs.Faults.{Rose};
 ghost use Rattle.outer_io.specs.Files.{bytes_of};
 ghost use Rattle.outer_io.specs.declared.file_name.FileName.TheVariants.{Commit as CommitName};
 ghost use Rattle.commit_list.specs.CommitFiles.{IsCommitFile};
 ghost use Rattle.script_lang.specs.Lines.{lines_of};
-ghost use Rattle.index_model.specs.State.{State};
-ghost use Rattle.stored_index.specs.Stored.{IsStored};
 ghost use Rattle.index_opening.specs.Evidence.{IsEvident};
 ghost use Rattle.explain_queries.specs.Explained.{IsScope, Scope, TellsLine, bare};
 ghost use Rattle.explain_queries.specs.Explains.{IsExplaining, KnowsFiles};

@@ -1,13 +1,13 @@
 //! The top call, `run`: which command the words ask for, and the contract of the whole program.
 
-ghost use Rattle.std.specs.Prelude.{◌≡◌, ◌≤◌, ◌^◌, ◌⊎◌, [], length, map, Some, true, false, IsTrue, string_bytes};
+ghost use Rattle.std.specs.Prelude.{◌≡◌, ◌≤◌, ◌^◌, ◌⊎◌, length, map, Some, true, false, IsTrue, string_bytes};
 ghost use Rattle.index_model.specs.State.{State};
 ghost use Rattle.stored_index.specs.Stored.{IsStored};
 ghost use Rattle.run_status.specs.Ends.{DoesNothing};
 ghost use Rattle.command_words.specs.Commands.{Task, IsWithin, task_in, task_of};
 ghost use Rattle.index_core.specs.Brought.{KeepsCommit};
 ghost use Rattle.index_core.specs.Whole.{HasNewCanonical};
-ghost use Rattle.run_status.specs.Causes.{HasCauses, NoneRose, ReadsInput};
+ghost use Rattle.run_status.specs.Causes.{HasCauses, NoneRose};
 ghost use Rattle.bkd_top.specs.Calls.{LeavesTask, OnTask, TakesInput, TellsDamage, TellsUsage};
 ghost use Rattle.run_status.specs.Ends.{IsAnswer};
 ghost use Rattle.bkd_top.specs.Commands.{EndsTask, does, is_session, reads_input, reads_whole};

@@ -25,17 +25,6 @@ pub record IsPartway (bytes rest : List ℕ) (at value weight : ℕ) : Type 0 wh
   pub grows : (left : ℕ) (more : List ℕ) → BeginsWithVint rest left more → (0 < at → 0 < left) → BeginsWithVint bytes (value + weight * left) more
   pub falls : (n : ℕ) (more : List ℕ) → BeginsWithVint bytes n more → GroupsLeft rest n at value weight more
 
-pub partway_start : (bytes : List ℕ) → IsPartway bytes bytes 0 0 1
-partway_start bytes = record {
-  power = refl;
-  below = omega arith;
-  len = omega arith;
-  marked = λ h. h;
-  rest_marked = λ h. h;
-  grows = λ left more h pos. let e : left ≡ 0 + 1 * left = omega arith in subst (λ (n : ℕ). BeginsWithVint bytes n more) e h;
-  falls = λ n more h. record { left = n; begins = h; number = omega arith; positive = λ p. absurd (omega arith) };
-}
-
 -- one group more stands in front, which says that others follow
 group_grows : (after : List ℕ) (b left : ℕ) (more : List ℕ) → 128 ≤ b → b < 256 → 0 < left → BeginsWithVint after left more
     → BeginsWithVint (b ∷ after) (b - 128 + 128 * left) more

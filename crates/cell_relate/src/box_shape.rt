@@ -1,6 +1,6 @@
 //! A box as a shape.
 
-ghost use Rattle.std.specs.Prelude.{◌≡◌, ℕ, ◌+◌, ◌-◌, ◌^◌, min, List, ℤ, Bool};
+ghost use Rattle.std.specs.Prelude.{◌≡◌, ◌-◌};
 ghost use Rattle.point_codec.specs.Points.{Region, all_le, in_box};
 ghost use Rattle.point_codec.specs.Seen.{region_of};
 ghost use Rattle.point_codec.specs.Cells.{within};

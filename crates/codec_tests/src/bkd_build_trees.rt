@@ -3,7 +3,6 @@
 ghost use Rattle.std.specs.Prelude.{◌≡◌, ◌≤◌, ◌<◌, ◌^◌, length, vec_len, All, IfOk};
 ghost use Rattle.point_codec.specs.Seen.{items_of};
 ghost use Rattle.leaf_codec.specs.LeafOrder.{NoneTwice};
-ghost use Rattle.leaf_codec.specs.Leaves.{leaf_limit};
 ghost use Rattle.bkd_build.specs.Pieces.{AreEntries};
 
 use crate::asserts::{holds, holds_at, same, same_at};

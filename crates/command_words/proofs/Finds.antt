@@ -1,5 +1,5 @@
 -- What a parse finds for the options of a plain command: each value has passed the parser of its option, and is read by it.
-use Rattle.std.proofs.Common.{◌≡◌, ◌⊎◌, ◌∙◌, ◌<◌, ◌||◌, ◌&&◌, not, ap, zero, suc, ℕ, Bool, true, false, List, [], ◌∷◌}
+use Rattle.std.proofs.Common.{◌≡◌, ◌∙◌, ◌<◌, ◌&&◌, not, ap, zero, suc, ℕ, Bool, true, false, List, [], ◌∷◌}
 use Rattle.std.proofs.Common.{map, length, is_some, Option, Some, None, refl, sym, subst, inl, inr, arith, codes}
 use Rattle.std.specs.List.{All, slice_index_or, list_any}
 use Rattle.std.specs.Str.{bytes_eq}
@@ -12,7 +12,7 @@ use Rattle.clap.specs.Words.{found_of, has_subcommand, matched_of, one_text, par
 use Rattle.clap.specs.Built.{IsAuto}
 use Rattle.clap.specs.Simple.{has_simple_rules, is_buildable, is_simple}
 use Rattle.clap.specs.Faults.{is_simple_and_free}
-use Rattle.clap.specs.Facts.{Entry, EntryPasses, HasReading, IsParsed, PassesArg, parser_of_value}
+use Rattle.clap.specs.Facts.{EntryPasses, HasReading, IsParsed, PassesArg, parser_of_value}
 use Rattle.clap.proofs.CallerLemmas.{entry_by_id, same_rules_by_id}
 use Rattle.clap.proofs.SimpleLemmas.{plain_fields, simple_groups}
 use Rattle.clap.proofs.WalkLemmas.{both}

@@ -1,16 +1,16 @@
 -- The number that an option gives.
-use Rattle.std.proofs.Common.{◌≡◌, ◌∙◌, ◌+◌, ◌*◌, ◌^◌, ◌<◌, ◌≤◌, ap, ℕ, ℤ, Bool, true, false, List, [], ◌∷◌, length, drop}
+use Rattle.std.proofs.Common.{◌≡◌, ◌∙◌, ◌^◌, ◌<◌, ◌≤◌, ap, ℕ, ℤ, Bool, true, false, List, [], ◌∷◌, drop}
 use Rattle.std.proofs.Common.{Option, Some, None, option_map, refl, sym, subst, inl, inr, arith, cond, ◌==◌, unwrap_or}
 use Rattle.std.specs.Prelude.{IfSome, pos, neg_ℤ, ◌≤ℤ◌, Ok, Err, Result}
 use Rattle.std.specs.Str.Parse.{IsNumeral, ParsesUnsigned, digits_value, starts_with_minus, without_leading_plus, without_leading_sign}
 use Rattle.std.proofs.lemmas.Int.{ints}
 use Rattle.std.proofs.lemmas.Str.Parse.{digit_from_value}
 use Rattle.std.proofs.lemmas.Bool.{ne_eqb}
-use Rattle.clap.specs.Words.{IsSignedIn, ReadsOne, first_of, first_value, one_text, rows_of, without_minus}
+use Rattle.clap.specs.Words.{IsSignedIn, ReadsOne, first_of, one_text, rows_of, without_minus}
 use Rattle.clap.proofs.WalkLemmas.{first_value-rows}
 use Rattle.clap.specs.declared.parser.matches.Found.{Found}
 use Rattle.command_words.specs.Commands.{number_of, number_option}
-use Rattle.command_words.specs.Found.{HasText, IsOptionText}
+use Rattle.command_words.specs.Found.{IsOptionText}
 
 no_plus : (ds : List ℕ) → IsNumeral 10 ds → without_leading_plus ds ≡ ds
 no_plus [] numeral = refl

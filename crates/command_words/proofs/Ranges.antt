@@ -1,8 +1,8 @@
 -- A parser of numbers of 32 bits whose range is narrowed.
-use Rattle.std.proofs.Common.{◌≡◌, ◌∙◌, ◌^◌, ◌<◌, ◌≤◌, ◌||◌, ap, ap₂, ℕ, ℤ, Bool, true, false, Option, Some, refl, sym, subst, arith, cond}
-use Rattle.std.specs.Prelude.{pos, negsuc, int_lt}
+use Rattle.std.proofs.Common.{◌≡◌, ◌∙◌, ◌^◌, ◌<◌, ◌||◌, ap, ap₂, ℕ, ℤ, Bool, true, false, Some, refl, subst, arith, cond}
+use Rattle.std.specs.Prelude.{pos}
 use Rattle.std.specs.Int.{int_max, int_min}
-use Rattle.std.proofs.lemmas.Bool.{ltb-true, le-ltb, ltb-false}
+use Rattle.std.proofs.lemmas.Bool.{le-ltb, ltb-false}
 use Rattle.clap.specs.Words.{NarrowsTo, signed_between}
 use Rattle.clap.specs.declared.builder.value_parser.ValueParser.{ValueParser}
 use Rattle.clap.specs.declared.builder.value_parser.ValueParser.TheVariants.{Signed}

@@ -91,12 +91,6 @@ filled_none payloads n b long none c body rest h e =
 
 -- ---- payloads and the body that their head speaks of
 
--- the payloads are as long as their head says
-pub filled_long : (payloads : List ℕ) (n : ℕ) (c : CommitData) → BeginsBody payloads n → SpellsFilled payloads c → length payloads ≡ 4064 * pages_for n
-filled_long payloads n c b h =
-    let same = one_length payloads (length h.body) n (payloads_begin payloads c h) b in
-    ap length h.same ∙ filled-length h.body ∙ ap (λ (m : ℕ). 4064 * pages_for m) same
-
 -- behind the body stand zeros
 pub filled_rest : (payloads : List ℕ) (n : ℕ) (c : CommitData) → BeginsBody payloads n → SpellsFilled payloads c
     → drop n payloads ≡ replicate (length (drop n payloads)) 0

@@ -1,6 +1,6 @@
 //! The lines of an input, counted one after the other.
 
-ghost use Rattle.std.specs.Prelude.{◌≡◌, ◌≤◌, ◌<◌, ◌+◌, ◌^◌, ℕ, List, length, All, IsTrue};
+ghost use Rattle.std.specs.Prelude.{◌≡◌, ◌≤◌, ◌<◌, ◌+◌, ◌^◌, ℕ, length, IsTrue};
 ghost use Rattle.outer_io.specs.Files.{bytes_of};
 ghost use Rattle.outer_io.specs.declared.file_name.FileName.TheVariants.{Commit as CommitName};
 ghost use Rattle.page_cache.specs.Cache.{Agrees};

@@ -6,7 +6,6 @@ mod records;
 
 ghost use Rattle.std.specs.Prelude.{◌≡◌, ◌≢◌, ◌≤◌, ◌<◌, ◌^◌, Ok, Err, IfOk, OnOk, IfErr, List, ℤ, length};
 ghost use Rattle.point_codec.specs.Seen.{coordinates_of};
-ghost use Rattle.csv.specs.Records.{fields_of};
 ghost use Rattle.csv_load.specs.Loading.{each_ok, point_of, points_of, records_of};
 ghost use Rattle.csv_load.specs.Reading.{IsReading, bytes_left, records_left};
 

@@ -1,6 +1,6 @@
 -- Which numbers were seen among the first elements of a list, and which again.
 use Rattle.std.proofs.Common.{◌≡◌, ℕ, ◌+◌, ◌-◌, ◌<◌, ◌≤◌, Bool, true, false, ◌&&◌, ◌||◌, eqb, cond, List}
-use Rattle.std.proofs.Common.{[], length, get_or, take, refl, sym, ap, subst, ◌∙◌, inl, inr, arith}
+use Rattle.std.proofs.Common.{[], length, get_or, take, sym, ap, ◌∙◌, inl, inr, arith}
 use Rattle.std.specs.List.{count_by}
 use Rattle.std.proofs.lemmas.Bool.{and_from, cases_eq, cases_lt, eq-eqb, false≢true, ne_eqb, or_left, or_parts, or_right}
 use Rattle.std.proofs.lemmas.List.Sums.{sum_by_more}

@@ -1,7 +1,7 @@
 -- Sets that are marked one after another.
-use Rattle.std.proofs.Common.{◌≡◌, ◌<◌, ◌≤◌, ◌+◌, ◌^◌, ℕ, Bool, true, false, ◌&&◌, ◌||◌, cond, List}
-use Rattle.std.proofs.Common.{[], length, get_or, take, refl, sym, ap, subst, ◌∙◌, arith, inl, inr}
-use Rattle.std.proofs.lemmas.Bool.{cases_lt, and_parts}
+use Rattle.std.proofs.Common.{◌≡◌, ◌<◌, ◌≤◌, ◌+◌, ◌^◌, ℕ, Bool, true, false, cond, List}
+use Rattle.std.proofs.Common.{length, get_or, take, sym, ap, subst, ◌∙◌, arith, inl, inr}
+use Rattle.std.proofs.lemmas.Bool.{cases_lt}
 use Rattle.std.proofs.lemmas.List.Sums.{sum_by_more}
 use Rattle.live_bits.specs.LiveSet.{LiveSet, is_live}
 use Rattle.stored_index.specs.Segments.{places}
@@ -25,40 +25,6 @@ pub record IsCounted (sets : List LiveSet) (next limit : ℕ) (marks : List ℕ)
   pub counts : (n : ℕ) → n < limit → cond (is_marked marks n) 1 0 ≡ places n sets
   pub found : limit < next → 2 ≤ places limit sets
 
-pub counted_none : (next : ℕ) (marks : List ℕ) → ((n : ℕ) → is_marked marks n ≡ false) → IsCounted [] next next marks
-counted_none next marks none = record {
-  within = omega arith;
-  counts = λ n lt. ap (λ (b : Bool). cond b 1 0) (none n);
-  found = λ lt. absurd (omega (arith, lt));
-}
-
-both_once : (a b : Bool) → (a && b) ≡ false → cond (a || b) 1 0 ≡ cond a 1 0 + cond b 1 0
-both_once true true e = absurd cc
-both_once true false e = refl
-both_once false b e = omega arith
-
-pub counted_more : (sets : List LiveSet) (i next limit r : ℕ) (s : LiveSet) (old new : List ℕ) → i < length sets → s ≡ get_or sets i s
-    → IsCounted (take i sets) next limit old
-    → r ≤ limit → ((n : ℕ) → n < r → (is_marked old n && is_live s n) ≡ false) → (r < limit → (is_marked old r && is_live s r) ≡ true)
-    → ((n : ℕ) → n < r → is_marked new n ≡ (is_marked old n || is_live s n)) → IsCounted (take (i + 1) sets) next r new
-counted_more sets i next limit r s old new lt is h le once found after = record {
-  within = let within = h.within in omega arith;
-  counts = λ n below.
-      ap (λ (b : Bool). cond b 1 0) (after n below)
-      ∙ both_once (is_marked old n) (is_live s n) (once n below)
-      ∙ ap (λ (m : ℕ). m + cond (is_live s n) 1 0) (h.counts n (omega arith))
-      ∙ sym (places_more n sets i s lt is);
-  found = λ under. elim (cases_lt r limit) [
-    | inl low ↦
-        let both = and_parts (is_marked old r) (is_live s r) (found low) in
-        omega (arith, places_more r sets i s lt is, h.counts r low, ap one_if both.0, ap one_if both.1)
-    | inr high ↦
-        let same : limit ≡ r = omega arith in
-        let before : 2 ≤ places r (take i sets) = subst (λ (m : ℕ). 2 ≤ places m (take i sets)) same (h.found (omega arith)) in
-        omega (arith, places_more r sets i s lt is, before)
-  ];
-}
-
 pub counted_one : (sets : List LiveSet) (next limit n : ℕ) (marks : List ℕ) → IsCounted sets next limit marks → n < limit → places n sets ≤ 1
 counted_one sets next limit n marks h lt = subst (λ (m : ℕ). m ≤ 1) (h.counts n lt) (one (is_marked marks n))
   where
@@ -72,14 +38,6 @@ pub record IsLeastNotGiven (sets : List LiveSet) (next limit : ℕ) : Type 0 whe
   pub before : (n : ℕ) → next ≤ n → n < limit → places n sets ≡ 0
   pub found : limit < 2 ^ 24 → (next ≤ limit) × (1 ≤ places limit sets)
   pub above : (n : ℕ) → 2 ^ 24 ≤ n → places n sets ≡ 0
-
-pub not_given_none : (next : ℕ) → IsLeastNotGiven [] next (2 ^ 24)
-not_given_none next = record {
-  within = omega arith;
-  before = λ n le lt. refl;
-  found = λ lt. absurd (omega (arith, lt));
-  above = λ n le. refl;
-}
 
 pub not_given_more : (sets : List LiveSet) (i next limit r : ℕ) (s : LiveSet) → i < length sets → s ≡ get_or sets i s → IsLeastNotGiven (take i sets) next limit
     → r ≤ limit → AreDead s next r → (r < limit → (next ≤ r) × (is_live s r ≡ true)) → ((n : ℕ) → 2 ^ 24 ≤ n → is_live s n ≡ false)

@@ -1,6 +1,6 @@
 -- Which numbers are marked after one is, or those of a word.
-use Rattle.std.proofs.Common.{◌≡◌, ◌<◌, ◌+◌, ◌*◌, ◌/◌, ◌%◌, ◌^◌, ℕ, Bool, true, false, ◌&&◌, ◌||◌, nat_eq, List, length, get_or}
-use Rattle.std.proofs.Common.{bit_and, bit_or, slice_set, refl, sym, ap, ◌∙◌, arith, inl, inr, get_or-set_same, get_or-set_other}
+use Rattle.std.proofs.Common.{◌≡◌, ◌<◌, ◌+◌, ◌*◌, ◌/◌, ◌%◌, ◌^◌, ℕ, Bool, ◌&&◌, ◌||◌, nat_eq, List, length, get_or}
+use Rattle.std.proofs.Common.{bit_and, bit_or, slice_set, sym, ap, ◌∙◌, arith, inl, inr, get_or-set_same, get_or-set_other}
 use Rattle.std.specs.Int.{w64}
 use Rattle.std.proofs.Math.Bool.{or-false}
 use Rattle.std.proofs.lemmas.Bool.{cases_eq, eq-eqb, ne_eqb, or_right}

@@ -1,6 +1,6 @@
 //! Laws of entries that stand once. Each function has an empty body: its contract is the law.
 
-ghost use Rattle.std.specs.Prelude.{◌≡◌, ◌≢◌, ◌<◌, ◌↔◌, ℕ, List, All, AllPairs};
+ghost use Rattle.std.specs.Prelude.{◌≢◌, ◌<◌, ◌↔◌, ℕ, List, All, AllPairs};
 ghost use Rattle.point_codec.specs.Points.{Item};
 ghost use Rattle.leaf_codec.specs.LeafOrder.{NoneTwice};
 ghost use Rattle.documents.specs.Entries.{MakeDocs};

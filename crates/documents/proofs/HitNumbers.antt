@@ -6,15 +6,9 @@ use Rattle.std.specs.List.Sorted.{IsStrictlyIncreasing}
 use Rattle.std.proofs.lemmas.Bool.{cases_Bool}
 use Rattle.std.proofs.lemmas.List.Kept.{AllPairs-filter, AllPairs-from_increasing}
 use Rattle.point_codec.specs.Points.{Item}
-use Rattle.std.specs.List.{dedup}
-use Rattle.std.specs.List.Sorted.{IsPermutation, IsSorted}
-use Rattle.std.specs.Ordering.{nat_cmp}
-use Rattle.std.proofs.Common.{◌++◌, eqb, map}
+use Rattle.std.proofs.Common.{◌++◌, map}
 use Rattle.std.proofs.lemmas.List.{map-append}
 use Rattle.std.proofs.lemmas.List.Elements.{filter-append}
-use Rattle.std.proofs.lemmas.List.Kept.{Contains-dedup_nat, Contains-from_dedup}
-use Rattle.std.proofs.lemmas.List.Sorted.{Contains-permutation, IsPermutation-sym}
-use Rattle.std.proofs.lemmas.Map.Keys.{IsStrictlyIncreasing-dedup}
 use Rattle.documents.specs.Documents.{Document, hits, passes}
 use Rattle.documents.specs.Entries.{AreDocs, entry_of, numbers_found}
 use Rattle.documents.proofs.Lists.{cons_cases, cons_head, cons_tail, in_filter, in_map, nil_none, of_filter, of_map, pairs_map, same_members}
@@ -75,12 +69,3 @@ pub found_append : (test : List ℤ → Bool) (xs ys : List Item) → numbers_fo
 found_append test xs ys =
     ap (map (λ (x : Item). x.doc)) (filter-append (λ (x : Item). test x.at) xs ys)
     ∙ map-append (λ (x : Item). x.doc) (filter (λ (x : Item). test x.at) xs) (filter (λ (x : Item). test x.at) ys)
-
--- sorted and rid of repetitions, the numbers found are the hits
-pub sorted_hits : (n : ℕ) (xs : List Item) (docs : List Document) (test : List ℤ → Bool) (found sorted : List ℕ) → AreDocs n xs docs
-    → found ≡ numbers_found test xs → IsPermutation found sorted → IsSorted nat_cmp sorted → dedup eqb sorted ≡ hits test docs
-sorted_hits n xs docs test found sorted are is moved up =
-    hits_are n xs docs test (dedup eqb sorted) are (IsStrictlyIncreasing-dedup sorted up) (λ m. (
-      λ h. subst (λ ms. Contains ms m) is (Contains-permutation sorted found m (IsPermutation-sym found sorted moved) (Contains-from_dedup eqb sorted m h)),
-      λ h. Contains-dedup_nat sorted m (Contains-permutation found sorted m moved (subst (λ ms. Contains ms m) (sym is) h)),
-    ))

@@ -1,5 +1,5 @@
 -- Entries of numbers that are kept are those of documents that are kept.
-use Rattle.std.proofs.Common.{◌≡◌, ℕ, ◌+◌, ◌<◌, ◌≤◌, Bool, true, false, not, ◌||◌, ◌&&◌, eqb, cond, List, []}
+use Rattle.std.proofs.Common.{◌≡◌, ℕ, ◌+◌, ◌<◌, ◌≤◌, Bool, true, false, not, ◌||◌, eqb, cond, List, []}
 use Rattle.std.proofs.Common.{◌∷◌, ◌++◌, length, map, refl, sym, ap, subst, ◌∙◌, inl, inr, ⊎_elim, arith, ℤ}
 use Rattle.std.proofs.lemmas.List.{append-nil, length-map}
 use Rattle.std.specs.List.{All, Contains, filter, list_any, sum_by}
@@ -15,7 +15,7 @@ use Rattle.std.proofs.lemmas.List.Sorted.{IsPermutation-append_left, length_perm
 use Rattle.point_codec.specs.Points.{Item, ArePoints}
 use Rattle.documents.specs.Documents.{Document, Ascend, docs_without, hits, is_live, passes, docs_failing}
 use Rattle.documents.specs.Entries.{AreDocs, entries_but, entries_in, entries_of, entry_of, has_entry, is_among}
-use Rattle.documents.proofs.Lists.{cons_cases, cons_head, cons_tail, filter_alike, filter_twice}
+use Rattle.documents.proofs.Lists.{cons_cases, cons_head, cons_tail, filter_alike}
 use Rattle.documents.proofs.Lists.{in_filter, in_map, nil_none, of_filter, of_map, pairs_head, pairs_tail}
 use Rattle.documents.proofs.Totals.{permuted_filter}
 use Rattle.documents.proofs.Members.{one_number}
@@ -144,32 +144,6 @@ but_hits n xs docs test are =
     (filter_alike (λ (d : Document). not (is_among (hits test docs) d.number)) (λ d. not (passes test d)) docs
     (λ d h. ap not (among_hits test docs are.ascend d h)))
     (kept n xs docs (λ m. not (is_among (hits test docs) m)) are)
-
--- a loop that takes out one number after another
-pub but_none : (xs : List Item) → filter (λ (x : Item). not (is_among [] x.doc)) xs ≡ xs
-but_none [] = refl
-but_none (x ∷ xs) = ap (λ ys. x ∷ ys) (but_none xs)
-
-pub but_more : (numbers : List ℕ) (m : ℕ) (xs : List Item)
-    → entries_but m (filter (λ (x : Item). not (is_among numbers x.doc)) xs) ≡ filter (λ (x : Item). not (is_among (numbers ++ m ∷ []) x.doc)) xs
-but_more numbers m xs =
-    filter_twice (λ (x : Item). not (eqb x.doc m)) (λ x. not (is_among numbers x.doc)) xs
-    ∙ filter_alike (λ (x : Item). not (is_among numbers x.doc) && not (eqb x.doc m)) (λ x. not (is_among (numbers ++ m ∷ []) x.doc)) xs
-    (λ x h. at x.doc)
-  where
-    flipped : (a b : ℕ) → eqb a b ≡ eqb b a
-    flipped a b = same_tests _ _ (λ e. eq-eqb b a (sym (eqb-true a b e))) (λ e. eq-eqb a b (sym (eqb-true b a e)))
-
-    both : (a b : Bool) → (not a && not b) ≡ not (a || (b || false))
-    both true b = refl
-    both false true = refl
-    both false false = refl
-
-    at : (number : ℕ) → (not (is_among numbers number) && not (eqb number m)) ≡ not (is_among (numbers ++ m ∷ []) number)
-    at number =
-        ap (λ b. not (is_among numbers number) && not b) (flipped number m)
-        ∙ both (is_among numbers number) (eqb m number)
-        ∙ ap not (sym (list_any-append (λ k. eqb k number) numbers (m ∷ [])))
 
 -- ---- numbers that are there, and how many
 

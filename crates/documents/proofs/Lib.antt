@@ -1,4 +1,3 @@
-pub mod Scans
 pub mod Ranking
 pub mod Lists
 pub mod InOrder

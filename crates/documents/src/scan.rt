@@ -1,6 +1,6 @@
 //! The scans of a list of documents.
 
-ghost use Rattle.std.specs.Prelude.{◌≡◌, ◌≤◌, length, IfOk, IfSome};
+ghost use Rattle.std.specs.Prelude.{◌≡◌, ◌≤◌, IfOk};
 ghost use Rattle.std.specs.List.{list_any};
 ghost use Rattle.point_codec.specs.Seen.{coordinates_of};
 ghost use Rattle.documents.specs.Documents.{hits};

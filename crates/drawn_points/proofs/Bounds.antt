@@ -1,14 +1,14 @@
 -- How far apart drawn points are, and how large the sums are.
-use Rattle.std.proofs.Common.{◌≡◌, ◌+◌, ◌*◌, ◌%◌, ◌<◌, ◌≤◌, ℕ, List, [], ◌∷◌, length, map, filter}
-use Rattle.std.proofs.Common.{take, arith, subst, Bool, length-take, ℤ, pos, ◌-ℤ◌, unsigned_abs}
-use Rattle.std.proofs.Math.Nat.{mul-le-mul, mul-le-mul_right}
+use Rattle.std.proofs.Common.{◌+◌, ◌*◌, ◌%◌, ◌<◌, ◌≤◌, ℕ, List, length, filter}
+use Rattle.std.proofs.Common.{arith, subst, Bool, length-take, ℤ, ◌-ℤ◌, unsigned_abs}
+use Rattle.std.proofs.Math.Nat.{mul-le-mul}
 use Rattle.std.specs.List.{All, range_with_len, slice_index_or, sum_by}
 use Rattle.std.proofs.lemmas.Int.{ints}
 use Rattle.std.proofs.lemmas.List.Elements.{All-contains, All-filter, All-map, All-take, Contains-get_or}
 use Rattle.std.proofs.lemmas.List.Sums.{count_by-le-length, length-filter, sum_by-le}
 use Rattle.std.proofs.lemmas.List.{length-map}
 use Rattle.std.proofs.lemmas.List.FromFn.{length-map-range_with_len}
-use Rattle.point_codec.specs.Points.{dist2, in_box, square}
+use Rattle.point_codec.specs.Points.{in_box, square}
 use Rattle.point_codec.specs.Order.{in_order}
 use Rattle.documents.specs.Documents.{Document, hits, passes}
 use Rattle.documents.specs.Nearest.{distance, distances, nearer, nearest}

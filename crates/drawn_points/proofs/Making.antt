@@ -1,6 +1,6 @@
 -- The index that the requests make.
-use Rattle.std.proofs.Common.{◌≡◌, ◌∙◌, ◌+◌, ◌*◌, ◌/◌, ◌%◌, ◌^◌, ◌<◌, ◌≤◌, ◌&&◌, ◌==◌, ap, ap₂, sym, refl, subst, zero, suc, ℕ, Bool, true, false}
-use Rattle.std.proofs.Common.{not, cond, List, [], ◌∷◌, ◌++◌, length, map, filter, arith, add-one, nat_lt, nat_le, nat_eq, Option, None, Some}
+use Rattle.std.proofs.Common.{◌≡◌, ◌∙◌, ◌+◌, ◌%◌, ◌^◌, ◌<◌, ◌≤◌, ◌&&◌, ◌==◌, ap, sym, refl, subst, zero, suc, ℕ, Bool, true, false}
+use Rattle.std.proofs.Common.{not, cond, List, [], ◌∷◌, ◌++◌, map, filter, arith, add-one, nat_lt, nat_le, nat_eq, Some}
 use Rattle.std.specs.List.{All, fold, range_with_len, slice_index_or}
 use Rattle.std.proofs.lemmas.Bool.{cond-true, eqb-false, eqb-true, le-ltb}
 use Rattle.std.proofs.lemmas.Bool.Decides.{nat_tests}
@@ -9,12 +9,11 @@ use Rattle.std.proofs.lemmas.List.FromFn.{get_or-map-range_with_len, length-map-
 use Rattle.std.proofs.lemmas.List.Sums.{fold-append}
 use Rattle.documents.specs.Documents.{Document, docs_without}
 use Rattle.documents.proofs.Lists.{filter_alike, filter_twice}
-use Rattle.script_lang.specs.Requests.{Request, Create, Add, Delete}
+use Rattle.script_lang.specs.Requests.{Add, Delete}
 use Rattle.index_model.specs.State.{Index, State, new_index}
-use Rattle.index_model.specs.Step.{Outcome, Done, Refused, add_outcome, step, step_on, left_by}
-use Rattle.script_lang.specs.Replies.{doc_text}
+use Rattle.index_model.specs.Step.{step_on}
 use Rattle.drawn_points.specs.Draws.{point}
-use Rattle.drawn_points.specs.Generated.{adds, after, deletes, document, documents, kept_docs, made_state, requests, stays}
+use Rattle.drawn_points.specs.Generated.{adds, after, deletes, document, documents, kept_docs, made_state, stays}
 
 -- ---- documents that are added
 

@@ -1,6 +1,6 @@
 -- The two draws that make a point, and where the draws stand behind it.
-use Rattle.std.proofs.Common.{◌≡◌, ◌∙◌, ◌+◌, ◌*◌, suc, ap, ap₂, sym, ℕ, List, [], ◌∷◌, arith, add-one}
-use Rattle.drawn_points.specs.Draws.{coordinate, draw, next, point}
+use Rattle.std.proofs.Common.{◌≡◌, ◌∙◌, ◌+◌, ◌*◌, ap, ℕ, arith, add-one}
+use Rattle.drawn_points.specs.Draws.{draw, next}
 
 one_more : (seed i : ℕ) → draw seed (i + 1) ≡ next (draw seed i)
 unfolding draw

@@ -1,13 +1,13 @@
 -- The generated index, and what is said of it.
 use Rattle.std.specs.Prelude.{ℕ, ◌+◌, ◌%◌, ◌==◌, Bool, not, ◌&&◌, nat_lt, List, [], ◌∷◌, ◌++◌, length, map, filter}
-use Rattle.std.specs.Prelude.{fold, Option, None, Some, codes, decimal, ℤ, pos, ◌+ℤ◌, ◌-ℤ◌}
+use Rattle.std.specs.Prelude.{fold, None, Some, codes, decimal, ℤ, pos, ◌+ℤ◌, ◌-ℤ◌}
 use Rattle.std.specs.List.{range_with_len, sum_by}
 use Rattle.point_codec.specs.Points.{Region, in_box}
 use Rattle.documents.specs.Documents.{Document, hits}
 use Rattle.documents.specs.Nearest.{nearest}
 use Rattle.script_lang.specs.Requests.{Request, Create, Add, Delete}
 use Rattle.script_lang.specs.Replies.{text_line}
-use Rattle.index_model.specs.State.{Index, State, new_index}
+use Rattle.index_model.specs.State.{State}
 use Rattle.index_model.specs.Step.{step, left_by}
 use Rattle.index_model.specs.Script.{Answer}
 use Rattle.drawn_points.specs.Draws.{point, points}

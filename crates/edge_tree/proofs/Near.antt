@@ -1,5 +1,5 @@
 -- Gathering the edges that meet a cell.
-use Rattle.std.proofs.Common.{◌≡◌, ℕ, ◌+◌, ◌-◌, ◌<◌, ◌≤◌, true, false, not, Bool, cond, List, [], ◌∷◌}
+use Rattle.std.proofs.Common.{◌≡◌, ℕ, ◌+◌, ◌-◌, ◌<◌, ◌≤◌, true, false, Bool, cond, List, [], ◌∷◌}
 use Rattle.std.proofs.Common.{◌++◌, length, take, drop, get_or, refl, sym, ap, ◌∙◌, subst, arith}
 use Rattle.std.specs.Prelude.{All, count_by, slice_range}
 use Rattle.std.proofs.lemmas.List.{append-nil, take_more, drop-append-le, length-take-le}
@@ -14,12 +14,12 @@ use Rattle.ring_parity.proofs.Rays.{misses_disjoint}
 use Rattle.edge_tree.specs.declared.nodes.Node.{Node}
 use Rattle.edge_tree.specs.declared.outline.Bounds.{Bounds}
 use Rattle.edge_tree.specs.declared.stretch.Stretch.{Stretch}
-use Rattle.edge_tree.specs.Outlines.{IsBoxed, Outlines, is_apart}
+use Rattle.edge_tree.specs.Outlines.{IsBoxed, is_apart}
 use Rattle.edge_tree.specs.Nodes.{HaveSame, held_edges, all_held_edges, IsEdgeNode, AreNodes}
 use Rattle.edge_tree.specs.Ways.{IsStretch, all_on, AreNear}
 use Rattle.edge_tree.proofs.Boxes.{apart_disjoint}
 use Rattle.edge_tree.proofs.Same.{same_count}
-use Rattle.edge_tree.proofs.Walk.{below, node_at, outlined_at, taken, entered}
+use Rattle.edge_tree.proofs.Walk.{below, node_at, outlined_at}
 
 -- no edge that misses the cell passes a test that is local to it
 none_counted : (test : EdgeEnds → Bool) (cell : Region) (run : List EdgeEnds) → ((e : EdgeEnds) → misses e cell ≡ true → test e ≡ false)

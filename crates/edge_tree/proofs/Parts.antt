@@ -1,8 +1,7 @@
 -- Runs of edges, as the code holds them and as the definitions see them.
-use Rattle.std.proofs.Common.{◌≡◌, ℕ, ◌+◌, ◌-◌, ◌<◌, ◌≤◌, true, false, not, ◌||◌, List, [], ◌∷◌, ◌++◌}
-use Rattle.std.proofs.Common.{length, map, take, drop, get_or, refl, sym, ap, ◌∙◌, subst, arith}
-use Rattle.std.proofs.lemmas.Bool.{or_from}
-use Rattle.std.proofs.lemmas.List.Folds.{list_any-append, list_any_at}
+use Rattle.std.proofs.Common.{◌≡◌, ℕ, ◌+◌, ◌-◌, ◌<◌, ◌≤◌, true, false, not, List, [], ◌∷◌, ◌++◌}
+use Rattle.std.proofs.Common.{length, map, take, drop, get_or, sym, ap, ◌∙◌, subst, arith}
+use Rattle.std.proofs.lemmas.List.Folds.{list_any_at}
 use Rattle.std.specs.Prelude.{slice_range}
 use Rattle.std.proofs.lemmas.List.Concat.{flat_map-append}
 use Rattle.std.proofs.lemmas.List.{map_more, take-map, drop-map, length-map, get_or-map, take-take, drop-take, take-append-drop, append-nil}
@@ -34,14 +33,6 @@ met edges i e cell there is h =
     let long : length (map ends_of edges) ≡ length edges = length-map edges ends_of in
     list_any_at (λ d. not (misses d cell)) (map ends_of edges) i (ends_of e) (omega (arith, long))
     (ap (λ d. not (misses d cell)) (get_or-map ends_of edges i e (ends_of e) there ∙ ap ends_of (sym is)) ∙ ap not h)
-
-pub none_met_more : (edges : List Edge) (i : ℕ) (e : Edge) (cell : Region) → i < length edges → e ≡ get_or edges i e → misses (ends_of e) cell ≡ true
-    → any_meets (map ends_of (take i edges)) cell ≡ false → any_meets (map ends_of (take (i + 1) edges)) cell ≡ false
-none_met_more edges i e cell there is h none =
-    ap (λ run. any_meets run cell) (map_more ends_of edges i e there ∙ ap (λ (d : Edge). map ends_of (take i edges) ++ ends_of d ∷ []) (sym is))
-    ∙ list_any-append (λ d. not (misses d cell)) (map ends_of (take i edges)) (ends_of e ∷ [])
-    ∙ or_from (any_meets (map ends_of (take i edges)) cell) (not (misses (ends_of e) cell) || false) none
-    (or_from (not (misses (ends_of e) cell)) false (ap not h) refl)
 
 -- one more run of those that follow each other
 pub runs_more : (edges : List EdgeEnds) (runs : List Run) (r : Run) → r.first ≤ r.end → all_in edges runs ≡ take r.first edges

@@ -1,11 +1,10 @@
 -- How a run of edges passes the heights, and how it counts for a point beside its box.
-use Rattle.std.proofs.Common.{◌≡◌, Option, Some, None, ℤ, Bool, true, false, not, ◌||◌, ⊎_elim, List, [], ◌∷◌, ◌++◌, refl, sym, ap, ◌∙◌, arith, get_or}
+use Rattle.std.proofs.Common.{◌≡◌, Option, Some, None, ℤ, Bool, true, false, not, ⊎_elim, List, [], ◌∷◌, ◌++◌, refl, sym, ap, ◌∙◌, arith, get_or}
 use Rattle.std.specs.Prelude.{◌<ℤ◌, int_lt, All, IfSome}
 use Rattle.std.specs.Bool.{beq}
 use Rattle.std.proofs.lemmas.Bool.{or_cases, or_left, or_right}
 use Rattle.std.proofs.lemmas.Int.{ints}
 use Rattle.std.proofs.lemmas.List.Elements.{All-head, All-tail, All-nil, All-cons}
-use Rattle.std.proofs.lemmas.List.Folds.{list_any-append}
 use Rattle.ring_parity.specs.Edges as EdgeSpecs
 use Rattle.ring_parity.specs.Edges.{EdgeEnds, x_of, y_of, is_above, counts}
 use Rattle.ring_parity.specs.Rings.{is_odd}
@@ -23,9 +22,6 @@ alone : (a : Bool) → xor a false ≡ a
 alone true = refl
 alone false = refl
 
-passed : ℤ → EdgeEnds → Bool
-passed y e = is_passed (y_of e.0) (y_of e.1) y
-
 -- one edge alone is passed oddly where it is passed
 pub pass_oddly-one : (e : EdgeEnds) (y : ℤ) → pass_oddly (e ∷ []) y ≡ is_passed (y_of e.0) (y_of e.1) y
 pass_oddly-one e y = oddly-cons (λ (d : EdgeEnds). is_passed (y_of d.0) (y_of d.1) y) e [] ∙ alone (is_passed (y_of e.0) (y_of e.1) y)
@@ -34,9 +30,6 @@ pass_oddly-one e y = oddly-cons (λ (d : EdgeEnds). is_passed (y_of d.0) (y_of d
 pub pass_oddly-append : (xs ys : List EdgeEnds) (y : ℤ) → pass_oddly (xs ++ ys) y ≡ not (beq (pass_oddly xs y) (pass_oddly ys y))
 pass_oddly-append xs ys y =
     oddly-append (λ (d : EdgeEnds). is_passed (y_of d.0) (y_of d.1) y) xs ys ∙ sym (differ (pass_oddly xs y) (pass_oddly ys y))
-
-pub is_odd-append : (xs ys : List EdgeEnds) (p : List ℤ) → is_odd (xs ++ ys) p ≡ not (beq (is_odd xs p) (is_odd ys p))
-is_odd-append xs ys p = oddly-append (λ e. counts e p) xs ys ∙ sym (differ (is_odd xs p) (is_odd ys p))
 
 pub none_odd : (test : EdgeEnds → Bool) (run : List EdgeEnds) → All (λ e. test e ≡ false) run → oddly test run ≡ false
 none_odd test [] h = refl
@@ -126,20 +119,3 @@ place_west o run p climb odd outlined west is passes =
     let place : IsLocation run p false (pass_oddly run (y_of p)) = odd_west o.bounds run p outlined.boxed west in
     let told : pass_oddly run (y_of p) ≡ climbs climb (y_of p) = (rw is at outlined.climb) (y_of p) in
     record { on_is = place.on_is; odd_is = place.odd_is ∙ told ∙ sym passes }
-
-pub place_join : (xs ys : List EdgeEnds) (p : List ℤ) (on odd on' odd' : Bool) → IsLocation xs p on odd → IsLocation ys p on' odd'
-    → IsLocation (xs ++ ys) p (on || on') (not (beq odd odd'))
-place_join xs ys p on odd on' odd' f s = record {
-  on_is = list_any-append (λ e. EdgeSpecs.on e p) xs ys ∙ (rw (f.on_is, s.on_is) refl);
-  odd_is = is_odd-append xs ys p ∙ (rw (f.odd_is, s.odd_is) refl);
-}
-
-pub place_one : (e : EdgeEnds) (p : List ℤ) (on odd : Bool) → on ≡ EdgeSpecs.on e p → odd ≡ counts e p → IsLocation (e ∷ []) p on odd
-place_one e p on odd f s = record {
-  on_is = either_false (EdgeSpecs.on e p) ∙ sym f;
-  odd_is = oddly-cons (λ d. counts d p) e [] ∙ alone (counts e p) ∙ sym s;
-}
-  where
-    either_false : (a : Bool) → (a || false) ≡ a
-    either_false true = refl
-    either_false false = refl

@@ -1,5 +1,5 @@
 -- The steps of a walk over the nodes from the last to the first.
-use Rattle.std.proofs.Common.{◌≡◌, ℕ, ◌+◌, ◌-◌, ◌<◌, ◌≤◌, suc, true, false, not, List, ◌∷◌, ◌++◌, length, take, drop, get_or, sym, ap, ◌∙◌, subst, arith}
+use Rattle.std.proofs.Common.{◌≡◌, ℕ, ◌+◌, ◌-◌, ◌<◌, ◌≤◌, suc, true, false, not, List, ◌++◌, length, take, drop, get_or, sym, ap, ◌∙◌, subst, arith}
 use Rattle.std.proofs.lemmas.Bool.{or_from, or_left, or_right}
 use Rattle.std.proofs.lemmas.List.{take-append-drop, drop-append-le, drop_more, length-take-le}
 use Rattle.std.proofs.lemmas.List.Concat.{flat_map-append}
@@ -49,12 +49,6 @@ pub before_within : (edges : List EdgeEnds) (nodes : List Node) (at : ℕ) (n : 
     → n.before < at
 before_within edges nodes at n all some there is =
     let h : IsEdgeNode edges nodes (at - 1) n = node_at edges nodes at n all some there is in omega (arith, h.after)
-
-pub run_there : (edges : List EdgeEnds) (nodes : List Node) (at : ℕ) (n : Node) → AreNodes edges nodes → 0 < at → at ≤ length nodes
-    → n ≡ get_or nodes (at - 1) n
-    → (n.first ≤ n.end) × (n.end ≤ length edges)
-run_there edges nodes at n all some there is =
-    let h : IsEdgeNode edges nodes (at - 1) n = node_at edges nodes at n all some there is in (h.ordered, h.there)
 
 -- no edge of a run meets the cell, nor of those after it
 pub missed_more : (run rest more : List EdgeEnds) (cell : Region) → more ≡ run ++ rest → any_meets run cell ≡ false → any_meets rest cell ≡ false

@@ -1,18 +1,16 @@
 -- Edges beside the way between two points of a cell.
-use Rattle.std.proofs.Common.{◌≡◌, ℕ, ℤ, Bool, true, false, not, ◌&&◌, ◌||◌, eqb, ◌%◌, ⊎_elim, List, [], ◌∷◌, ◌++◌, get_or, refl, sym, ap, ◌∙◌, arith}
-use Rattle.std.specs.Prelude.{◌<ℤ◌, ◌≤ℤ◌, int_lt, All, count_by}
+use Rattle.std.proofs.Common.{◌≡◌, ℤ, Bool, true, false, not, ◌&&◌, ◌||◌, eqb, ◌%◌, ⊎_elim, List, get_or, refl, sym, ap, ◌∙◌, arith}
+use Rattle.std.specs.Prelude.{◌<ℤ◌, ◌≤ℤ◌, int_lt, All}
 use Rattle.std.specs.List.{list_any}
-use Rattle.std.specs.Bool.{beq}
 use Rattle.std.proofs.lemmas.Bool.{or_cases, or_left, or_right, and_parts}
 use Rattle.std.proofs.lemmas.Int.{ints}
-use Rattle.std.proofs.lemmas.List.Folds.{list_any-append}
 use Rattle.point_codec.specs.Points.{Region, all_le, in_box}
 use Rattle.point_codec.proofs.Corners.{all_le-refl}
 use Rattle.ring_parity.specs.Edges as EdgeSpecs
 use Rattle.ring_parity.specs.Edges.{EdgeEnds, x_of, y_of, is_above, counts, misses}
 use Rattle.ring_parity.specs.Rings.{AreClosed, is_on_any, is_odd, is_within}
 use Rattle.ring_parity.proofs.Crossing.{xor}
-use Rattle.ring_parity.proofs.Parity.{oddly, oddly-cons, oddly-append, oddly_xor, oddly_same, AreClosed-marks, xor_self}
+use Rattle.ring_parity.proofs.Parity.{oddly, oddly_xor, oddly_same, AreClosed-marks, xor_self}
 use Rattle.ring_parity.proofs.Rays.{counts_level, counts_east}
 use Rattle.ring_parity.proofs.OneAnswer.{in_region, misses_by, mark, change, not_on, past}
 use Rattle.edge_tree.specs.declared.outline.Bounds.{Bounds}
@@ -180,20 +178,3 @@ off_way b run p q i east north h =
     none_passed run b p q i (λ e boxed. passes_below b e p q boxed (omega (arith, ints)) (omega (arith, ints)))
     (or_right across along (or_left (int_lt b.north (y_of q)) (int_lt (y_of q) b.south) below)))
     (or_cases (int_lt (y_of q) b.south || int_lt (x_of q) b.west) (int_lt b.north (y_of q) && int_lt (x_of p) b.west) h)
-
-pub passed_join : (xs ys : List EdgeEnds) (p q : List ℤ) (on odd on' odd' : Bool) → IsPassed xs p q on odd → IsPassed ys p q on' odd'
-    → IsPassed (xs ++ ys) p q (on || on') (not (beq odd odd'))
-passed_join xs ys p q on odd on' odd' f s = record {
-  on_is = list_any-append (λ e. EdgeSpecs.on e q) xs ys ∙ (rw (f.on_is, s.on_is) refl);
-  odd_is = oddly-append (passes p q) xs ys ∙ (rw (f.odd_is, s.odd_is) (sym (differ_is odd odd')));
-}
-
-pub passed_one : (e : EdgeEnds) (p q : List ℤ) (on odd : Bool) → on ≡ EdgeSpecs.on e q → odd ≡ passes p q e → IsPassed (e ∷ []) p q on odd
-passed_one e p q on odd f s = record {
-  on_is = either_false (EdgeSpecs.on e q) ∙ sym f;
-  odd_is = oddly-cons (passes p q) e [] ∙ alone (passes p q e) ∙ sym s;
-}
-  where
-    either_false : (a : Bool) → (a || false) ≡ a
-    either_false true = refl
-    either_false false = refl

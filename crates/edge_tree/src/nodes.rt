@@ -1,6 +1,6 @@
 //! The nodes of a tree over runs of edges, each after the nodes of its subtree.
 
-ghost use Rattle.std.specs.Prelude.{◌≡◌, ◌<◌, ◌≤◌, ◌++◌, ℤ, List, length, map, take, drop, All, IfOk, OnOk};
+ghost use Rattle.std.specs.Prelude.{◌≡◌, ◌<◌, ◌++◌, ℤ, List, length, map, take, drop, All, IfOk, OnOk};
 ghost use Rattle.point_codec.specs.Seen.{region_of};
 ghost use Rattle.ring_parity.specs.Edges.{EdgeEnds};
 ghost use Rattle.ring_parity.specs.Rings.{any_meets};

@@ -1,6 +1,6 @@
 //! What is known of a run of edges without looking at them.
 
-ghost use Rattle.std.specs.Prelude.{◌≡◌, ℤ, true, false, List, [], ◌∷◌, ◌++◌, IsTrue, IfSome, not, int_lt};
+ghost use Rattle.std.specs.Prelude.{◌≡◌, ℤ, false, List, [], ◌∷◌, ◌++◌, IfSome, not, int_lt};
 ghost use Rattle.std.specs.Bool.{beq};
 ghost use Rattle.ring_parity.specs.Edges.{EdgeEnds, x_of, y_of};
 ghost use Rattle.ring_parity.specs.Seen.{ends_of};

@@ -1,6 +1,6 @@
 //! The edges of a polygon in short runs, and the runs by place.
 
-ghost use Rattle.std.specs.Prelude.{◌≡◌, ◌<◌, ◌≤◌, length, map, take, All, IfOk};
+ghost use Rattle.std.specs.Prelude.{◌≡◌, ◌<◌, ◌≤◌, length, map, All, IfOk};
 ghost use Rattle.ring_parity.specs.Seen.{ends_of};
 ghost use Rattle.edge_tree.specs.Nodes.{IsRun, all_in, HaveSame};
 

@@ -10,7 +10,6 @@ use Rattle.index_model.specs.State.{Index}
 use Rattle.index_model.specs.Step.{in_plane_polygon}
 use Rattle.script_lang.specs.Reading.{Reading, read}
 use Rattle.script_lang.specs.Replies.{refused_text}
-use Rattle.script_lang.specs.Requests.{Request}
 use Rattle.script_lang.specs.Requests as asks
 use Rattle.script_lang.specs.Seen.{request_of}
 use Rattle.script_lang.specs.declared.commands.Command.{Command}

@@ -1,7 +1,7 @@
 -- Lists of one length, place by place.
-use Rattle.std.proofs.Common.{◌≡◌, ℕ, zero, suc, ◌+◌, ◌≤◌, ◌<◌, List, [], ◌∷◌, ◌++◌, length, take, get_or, Some, refl, sym, subst, arith}
+use Rattle.std.proofs.Common.{◌≡◌, ℕ, zero, suc, ◌+◌, ◌<◌, List, [], ◌∷◌, ◌++◌, length, take, get_or, Some, refl, sym, subst, arith}
 use Rattle.std.specs.List.{AllZip, Contains, slice_get}
-use Rattle.std.proofs.lemmas.List.{take_all, take_more}
+use Rattle.std.proofs.lemmas.List.{take_more}
 use Rattle.documents.proofs.Lists.{cons_head, cons_tail}
 use Rattle.index_opening.proofs.Ordered.{zip_pushed}
 
@@ -45,7 +45,3 @@ zip_step {A} {B} R xs ys i x y lt less r all =
     subst (λ (zs : List A). AllZip R zs (take (i + 1) ys)) (sym (take_more xs i x lt))
     (subst (AllZip R (take i xs ++ get_or xs i x ∷ [])) (sym (take_more ys i y less))
     (zip_pushed R (take i xs) (take i ys) (get_or xs i x) (get_or ys i y) all r))
-
-pub zip_all : {A B : Type 0} (R : A → B → Type 0) (xs : List A) (ys : List B) (i : ℕ) → length xs ≤ i → length ys ≤ i → AllZip R (take i xs) (take i ys)
-    → AllZip R xs ys
-zip_all {A} {B} R xs ys i le most all = subst (λ (zs : List A). AllZip R zs ys) (take_all i xs le) (subst (AllZip R (take i xs)) (take_all i ys most) all)

@@ -10,7 +10,7 @@ use Rattle.outer_io.specs.Files.{Files, bytes_of}
 use Rattle.documents.specs.Documents.{Document}
 use Rattle.live_bits.specs.LiveSet.{LiveSet}
 use Rattle.page_cache.specs.declared.faults.PageFault.{PageFault}
-use Rattle.page_cache.specs.Evidence.{FaultShows, NotDamaged, OnDamage}
+use Rattle.page_cache.specs.Evidence.{FaultShows, OnDamage}
 use Rattle.page_cache.proofs.Damages.{on_damage_weaker}
 use Rattle.commit_list.specs.declared.listed.Listed.{Listed}
 use Rattle.commit_list.specs.Commits.{CommitData, IsCommit, IsListed}
@@ -112,10 +112,6 @@ pub commit_undefined : (files : Files) (f : PageFault) → (files Commit ≡ Non
 commit_undefined files f absent whole None stored = absent stored
 commit_undefined files f absent whole (Some i) stored = whole stored.commit stored.holds.commit
 
-pub never_stored : {X : Type 0} (files : Files) (r : Result X PageFault) → OnDamage r (λ _. IsUndefined files) → (state : State) → IsStored files state
-    → NotDamaged r
-never_stored files r undefined state stored = on_damage_weaker r (λ _. IsUndefined files) (λ _. ⊥) (λ d none. none state stored) undefined
-
 live_few : (c : CommitData) → IsCommit c → sum_by (λ (s : Listed). s.live) c.listed < 2 ^ 64
 live_few c commit =
     let sum = sum_by-le (λ (s : Listed). s.live) 16777216 c.listed
@@ -127,9 +123,6 @@ pub live_fits : (c : CommitData) (listed : List Listed) → IsCommit c → liste
 live_fits c listed commit is = subst (λ (ss : List Listed). sum_by (λ (s : Listed). s.live) ss < 2 ^ 64) (sym is) (live_few c commit)
 
 -- ---- the pages
-
-pub pages_none : (files : Files) (pages from now : ℕ) → files Commit ≡ None → now ≡ from → IsChecking files pages → now ≤ from + pages
-pages_none files pages from now none same checking = omega (arith, same)
 
 -- where the commit was read, and then so many pages for each of its segments at most
 pub pages_read : (files : Files) (pages from mid now : ℕ) → (files Commit ≡ None → mid ≡ from)

@@ -1,6 +1,6 @@
 //! What was found in the leaves of the segments, looked through once all leaves are read.
 
-ghost use Rattle.std.specs.Prelude.{◌≡◌, ◌≢◌, ◌≤◌, ◌<◌, ◌^◌, ◌-◌, length, min, All, IsErrOf, OnOk, IfNone, IfSome};
+ghost use Rattle.std.specs.Prelude.{◌≡◌, ◌≤◌, ◌<◌, ◌^◌, ◌-◌, length, min, All, IsErrOf, OnOk, IfNone, IfSome};
 ghost use Rattle.std.specs.List.{AllZip};
 ghost use Rattle.page_cache.specs.declared.faults.Damage.TheVariants as damage;
 ghost use Rattle.page_cache.specs.declared.faults.PageFault.TheVariants as page;

@@ -183,12 +183,6 @@ file_carried f g h s t carries file o = ∥∥₁_map (carries o.part o.there) (
     (λ whole. inr (inl (whole_still g h file o.same (subst (HoldsWhole g) (sym o.is) whole))))
     which)
 
--- and so a damage of a later call is evident of the session at the begin
-pub on_evident_carried : {X : Type 0} (S T : Type 0) (f g h : Files) (s t : SetData) (r : Result X PageFault) → (T → S) → (T → Carries f g s t)
-    → OnDamage r (IsEvidentOver g t S h) → OnDamage r (IsEvidentOver f s T h)
-on_evident_carried S T f g h s t r back carries =
-    on_evident_named (IsFileOf g h t) (IsFileOf f h s) (IsOfEntries h) S T h r back (λ told. file_carried f g h s t (carries told))
-
 -- ---- of a session that was opened
 
 -- the commit lists all its segments

@@ -1,6 +1,6 @@
 //! Commands that look for documents.
 
-ghost use Rattle.std.specs.Prelude.{◌≡◌, ◌≤◌, ◌↔◌, ℕ, true, false, map, IsTrue};
+ghost use Rattle.std.specs.Prelude.{◌≡◌, ◌≤◌, ◌↔◌, true, false, IsTrue};
 ghost use Rattle.documents.specs.Documents.{hits};
 ghost use Rattle.script_lang.specs.Requests as asks;
 ghost use Rattle.script_lang.specs.Replies.{hits_text};

@@ -1,6 +1,6 @@
 //! What becomes of a command, said by what the call on the set answered.
 
-ghost use Rattle.std.specs.Prelude.{◌≡◌, take, length};
+ghost use Rattle.std.specs.Prelude.{◌≡◌};
 ghost use Rattle.index_core.specs.Replies.{add_answer, begin_answer, end_answer, snap_answer, text_after};
 
 use index_model::Applied;

@@ -1,12 +1,12 @@
 //! Documents and snapshots in memory.
 
-ghost use Rattle.std.specs.Prelude.{◌≡◌, ◌≤◌, List, map, filter, not, nat_eq, length, OnOk, IfOk, MatchOption, None};
-ghost use Rattle.std.specs.Prelude.{Some, is_some, ◌++◌};
+ghost use Rattle.std.specs.Prelude.{◌≡◌, ◌≤◌, filter, not, nat_eq, IfOk, MatchOption, None};
+ghost use Rattle.std.specs.Prelude.{Some};
 ghost use Rattle.std.specs.Str.{bytes_eq};
 ghost use Rattle.std.specs.List.{list_any};
 ghost use Rattle.point_codec.specs.Points.{in_box};
 ghost use Rattle.point_codec.specs.Seen.{coordinates_of};
-ghost use Rattle.documents.specs.Documents.{Document, hits, passes, docs_failing, is_live, docs_without};
+ghost use Rattle.documents.specs.Documents.{passes, docs_failing, is_live, docs_without};
 ghost use Rattle.index_model.specs.State.{Snapshot, snapshot_of};
 
 use documents::{HeldDocument, Memory};

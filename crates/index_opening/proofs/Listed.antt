@@ -1,5 +1,5 @@
 -- What shows that files are not as the commit lists them, and what they are where an index is stored.
-use Rattle.std.proofs.Common.{◌≡◌, ◌≢◌, ℕ, ◌≤◌, ◌⊎◌, inl, inr, ⊎_elim, List, [], ◌∷◌, length, map, refl, sym, ap, subst, ◌∙◌, arith, ◌++◌}
+use Rattle.std.proofs.Common.{◌≡◌, ◌≢◌, ℕ, ◌≤◌, inl, inr, List, [], ◌∷◌, length, map, refl, sym, ap, subst, ◌∙◌, arith, ◌++◌}
 use Rattle.std.specs.List.{AllZip, Contains, All, filter}
 use Rattle.outer_io.specs.declared.file_name.FileName.{FileName}
 use Rattle.outer_io.specs.declared.file_name.FileName.TheVariants.{Commit, Live, Segment}
@@ -34,18 +34,6 @@ use Rattle.point_codec.specs.Points.{Item}
 use Rattle.std.proofs.lemmas.List.Elements.{All-head, All-tail}
 
 -- ---- what shows that a file isn't as the commit says
-
-pub unequal_shown : (s : Listed) (name : FileName) (m n : ℕ) → ((name ≡ Segment s.segment) ⊎ (name ≡ Live s.segment s.generation)) → (d : Damage)
-    → IsPairDamage name m n d × (m ≢ n) → IsListedDamage s d
-unequal_shown s name m n here (Unequal file said found) (pair, apart) =
-    inr (inr (⊎_elim (λ e. inl (pair.0 ∙ e)) (λ e. inr (pair.0 ∙ e)) here, λ e. apart (sym pair.1 ∙ e ∙ pair.2)))
-unequal_shown s name m n here (Page file number bytes) (pair, apart) = absurd pair
-unequal_shown s name m n here (Leaf file number offset len bytes) (pair, apart) = absurd pair
-unequal_shown s name m n here (Body file bytes) (pair, apart) = absurd pair
-unequal_shown s name m n here (Missing file) (pair, apart) = absurd pair
-unequal_shown s name m n here (Size file size needed) (pair, apart) = absurd pair
-unequal_shown s name m n here (NotGiven doc next) (pair, apart) = absurd pair
-unequal_shown s name m n here (Doubled doc) (pair, apart) = absurd pair
 
 pub unequal_of : (files : Files) (c : CommitData) (s : Listed) (name : FileName) (m n : ℕ) → IsPair files c s name m n → (d : Damage)
     → IsPairDamage name m n d × (m ≢ n) → IsListedDamageOf files c s d

@@ -105,10 +105,6 @@ pub if_map : {A : Type 0} (o : Option A) (P Q : A → Type 0) → IfSome o P →
 if_map None P Q h f = tt
 if_map (Some x) P Q h f = f x h
 
-pub and_map : {A : Type 0} (o : Option A) (P Q : A → Type 0) → IsSomeAnd o P → ((x : A) → P x → Q x) → IsSomeAnd o Q
-and_map None P Q h f = h
-and_map (Some x) P Q h f = f x h
-
 pub none_long : (b : List ℕ) → length b ≡ 0 → b ≡ []
 none_long [] e = refl
 none_long (x ∷ xs) e = absurd (omega arith)

@@ -3,7 +3,7 @@ use Rattle.std.proofs.Common.{◌≡◌, ◌<◌, ◌≤◌, ◌+◌, ◌-◌, �
 use Rattle.std.proofs.Common.{set, reverse, refl, sym, ap, subst, ◌∙◌, arith, All, append_assoc, length-append, ℤ, pos}
 use Rattle.std.proofs.lemmas.List.{length-map, take-map, drop-map, map-append, length-take-le, length-drop, reverse-append, get_or-map}
 use Rattle.std.proofs.lemmas.List.Elements.{All-take, All-drop}
-use Rattle.std.proofs.Math.Seq.{take-append_seam, drop-append_seam, take-length}
+use Rattle.std.proofs.Math.Seq.{take-append_seam, drop-append_seam}
 use Rattle.point_codec.specs.Points.{Region}
 use Rattle.point_codec.specs.Seen.{region_of}
 use Rattle.point_codec.specs.Keys.{key}
@@ -217,10 +217,6 @@ left_counts k nodes places cells many_nodes many_cells some all =
     let same = length-take-le k places (omega arith) in
     let cell = length-take-le k cells (omega arith) in
     (omega arith, omega arith)
-
--- the rest of a list, as a slice to its end
-pub to_end : {X : Type 0} (k : ℕ) (xs : List X) → take (length xs - k) (drop k xs) ≡ drop k xs
-to_end k xs = ap (λ (n : ℕ). take n (drop k xs)) (sym (length-drop k xs)) ∙ take-length (drop k xs)
 
 -- a place that stands for none
 abbrev pub nowhere : LeafPlace

@@ -52,10 +52,6 @@ pub end_of_append : (e : Spot) (ms ns : List ℕ) → end_of e (ms ++ ns) ≡ en
 end_of_append e [] ns = refl
 end_of_append e (m ∷ ms) ns = end_of_append (leaf_end (leaf_begin e m) m) ms ns
 
-pub end_of_fits : (e : Spot) (ns : List ℕ) → e.offset ≤ 4064 → AreLengths ns → (end_of e ns).offset ≤ 4064
-end_of_fits e [] le h = le
-end_of_fits e (n ∷ ns) le h = end_of_fits (leaf_end (leaf_begin e n) n) ns (fitted_fits e n ((head_length n ns h).1)) (tail_lengths n ns h)
-
 pub end_of_from : (e : Spot) (ns : List ℕ) → e.page ≤ (end_of e ns).page
 end_of_from e [] = omega arith
 end_of_from e (n ∷ ns) = omega (arith, fitted_from e n, end_of_from (leaf_end (leaf_begin e n) n) ns)

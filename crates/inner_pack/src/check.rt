@@ -1,10 +1,10 @@
 //! Checking that bytes are a tree.
 
-ghost use Rattle.std.specs.Prelude.{◌≡◌, ◌≤◌, ◌<◌, ◌≤ℤ◌, ◌+◌, ◌-◌, ◌^◌, ℕ, ℤ, List, pos, length, IfSome, IsSomeAnd};
-ghost use Rattle.std.specs.Prelude.{IsTrue, ◌↔◌, slice_index_or, slice_set};
+ghost use Rattle.std.specs.Prelude.{◌≡◌, ◌≤◌, ◌<◌, ◌+◌, ◌-◌, length, IfSome, IsSomeAnd};
+ghost use Rattle.std.specs.Prelude.{IsTrue, ◌↔◌, slice_set};
 ghost use Rattle.point_codec.specs.Seen.{region_of};
-ghost use Rattle.inner_pack.specs.Places.{leaf_begin, end_of};
-ghost use Rattle.inner_pack.specs.Trees.{IndexTree, IsInCell, lengths_of};
+ghost use Rattle.inner_pack.specs.Places.{leaf_begin};
+ghost use Rattle.inner_pack.specs.Trees.{IndexTree, IsInCell};
 ghost use Rattle.inner_pack.specs.Bodies.{first_length};
 ghost use Rattle.inner_pack.specs.Spelled.{IsNodeOf};
 ghost use Rattle.inner_pack.specs.Heads.{SpansFrom, IsSpanOf, spot_of};

@@ -1,14 +1,13 @@
 //! What an inner node says of itself, in each form.
 
-ghost use Rattle.std.specs.Prelude.{◌≡◌, ◌≤◌, ◌<◌, ◌*◌, ◌+◌, ◌-◌, ◌^◌, ◌++◌, ◌∷◌, [], ℕ, ℤ, List, length, drop, All};
-ghost use Rattle.std.specs.Prelude.{IfSome, IsSomeAnd, slice_index_or, slice_set, FitsSigned};
-ghost use Rattle.std.specs.Int.{w16, w32, to_be_bytes};
+ghost use Rattle.std.specs.Prelude.{◌≡◌, ◌≤◌, ◌<◌, ◌*◌, ◌+◌, ◌-◌, ◌++◌, ◌∷◌, [], ℕ, ℤ, List, length};
+ghost use Rattle.std.specs.Prelude.{IfSome, IsSomeAnd, slice_index_or, FitsSigned};
+ghost use Rattle.std.specs.Int.{w32};
 ghost use Rattle.point_codec.specs.Points.{Region};
 ghost use Rattle.point_codec.specs.Keys.{key};
-ghost use Rattle.inner_pack.specs.Places.{Spot, LeafSpan};
-ghost use Rattle.inner_pack.specs.Trees.{IndexTree, Split, lengths_of};
-ghost use Rattle.inner_pack.specs.Bodies.{first_length, place_bytes};
-ghost use Rattle.inner_pack.specs.Spelled.{IsNodeOf, spelled_part, told_part};
+ghost use Rattle.inner_pack.specs.Places.{Spot};
+ghost use Rattle.inner_pack.specs.Trees.{IndexTree, Split};
+ghost use Rattle.inner_pack.specs.Spelled.{IsNodeOf};
 ghost use Rattle.inner_pack.specs.Heads.{IsNodeHead, SaysSplit};
 
 use crate::fields::{take_byte, take_key, take_place, take_vint};

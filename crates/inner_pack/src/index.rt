@@ -1,6 +1,6 @@
 //! An index: the bytes of its tree, and what has to be known beside them.
 
-ghost use Rattle.std.specs.Prelude.{◌≡◌, ◌≤◌, ℕ, length, IfOk, IfErr, IfSome, IsSome, IsSomeAnd, List, map};
+ghost use Rattle.std.specs.Prelude.{◌≡◌, ◌≤◌, ℕ, IfOk, IfErr, IfSome, IsSome, IsSomeAnd, List, map};
 ghost use Rattle.point_codec.specs.Points.{Region};
 ghost use Rattle.point_codec.specs.Seen.{region_of};
 ghost use Rattle.point_codec.specs.Keys.{key};

@@ -1,6 +1,6 @@
 //! Laws of indexes. Each function has an empty body: its contract is the law.
 
-ghost use Rattle.std.specs.Prelude.{◌≡◌, ◌≤◌, ◌+◌, ℕ, ℤ, List, All, true, length};
+ghost use Rattle.std.specs.Prelude.{◌≡◌, ◌≤◌, ℕ, ℤ, List, All, true, length};
 ghost use Rattle.point_codec.specs.Points.{Region};
 ghost use Rattle.point_codec.specs.Cells.{within, left_of, right_of};
 ghost use Rattle.inner_pack.specs.Places.{Spot, end_of};

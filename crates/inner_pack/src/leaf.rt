@@ -1,12 +1,12 @@
 //! What a leaf says of itself, in each form.
 
-ghost use Rattle.std.specs.Prelude.{◌≡◌, ◌≤◌, ◌<◌, ◌+◌, ◌^◌, ◌++◌, [], ℕ, List, length, true, IfSome, IsSomeAnd};
-ghost use Rattle.std.specs.Prelude.{IsTrue, ◌↔◌, if◌then◌else◌, ◌==◌};
+ghost use Rattle.std.specs.Prelude.{◌≡◌, ◌≤◌, ◌<◌, ◌+◌, ◌++◌, ℕ, List, length, IfSome, IsSomeAnd};
+ghost use Rattle.std.specs.Prelude.{IsTrue, ◌↔◌, ◌==◌};
 ghost use Rattle.point_codec.specs.Points.{Region};
 ghost use Rattle.point_codec.specs.Seen.{region_of};
 ghost use Rattle.point_codec.specs.Cells.{within};
 ghost use Rattle.byte_cursor.specs.Vint.{vint};
-ghost use Rattle.inner_pack.specs.Places.{Spot, leaf_begin};
+ghost use Rattle.inner_pack.specs.Places.{leaf_begin};
 ghost use Rattle.inner_pack.specs.Trees.{Leaf};
 ghost use Rattle.inner_pack.specs.Spelled.{IsNodeOf};
 ghost use Rattle.inner_pack.specs.Heads.{IsPackedLeaf, IsOwnCell, IsTableLeaf, IsLeafBehind, spot_of};

@@ -8,7 +8,7 @@ use Rattle.point_codec.specs.Points.{Item}
 use Rattle.leaf_codec.specs.Dimensions.{key_of, key_byte, shared_prefix, sorted_dimension}
 use Rattle.leaf_codec.specs.Spelling.{prefixes, shared_bytes, sorted_bytes, sorted_part, rests}
 use Rattle.leaf_codec.specs.Words.{coordinate}
-use Rattle.leaf_codec.specs.Raw.{RawNumbers, RawKeys, AreRawKeys, start_of, gap_of, place_of, sorted_raw, keys_bytes, key_at, point_at, raw_item, raw_items}
+use Rattle.leaf_codec.specs.Raw.{RawNumbers, RawKeys, AreRawKeys, start_of, sorted_raw, keys_bytes, key_at, point_at, raw_item, raw_items}
 use Rattle.leaf_codec.proofs.Bytes.{key-coordinate}
 use Rattle.leaf_codec.proofs.ReadKeys.{length-key_at, AreBytes-key_at}
 use Rattle.leaf_codec.proofs.TakeKeys.{lengths_same, prefixes_same, sorts_same}

@@ -67,9 +67,6 @@ flat_map_nothing : (ns : List ℕ) (f : ℕ → List ℕ) → ((n : ℕ) → f n
 flat_map_nothing [] f h = refl
 flat_map_nothing (n ∷ ns) f h = (λ i. h n i ++ flat_map_nothing ns f h i)
 
-pub low_bytes-none : (n : ℕ) → low_bytes 0 n ≡ []
-low_bytes-none n = refl
-
 pub form_row : (ns : List ℕ) → is_row ns ≡ true → form ns ≡ 0
 unfolding form
 form_row ns row = cond-true (is_row ns) 0 (width (greatest ns - least ns)) row

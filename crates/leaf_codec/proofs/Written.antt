@@ -28,9 +28,6 @@ sorted_number D items = unwrap_or (sorted_dimension D items) D
 pub get_or-lengths : (D d : ℕ) (items : List Item) → d < D → get_or (lengths_of D items) d 0 ≡ shared_prefix d items
 get_or-lengths D d items lt = get_or-map-range_with_len (λ k. shared_prefix k items) 0 D d d 0 lt (omega arith)
 
-one_if : Bool → ℕ
-one_if b = cond b 1 0
-
 -- how many bytes of a key stand before the rests
 pub told_is : (D d : ℕ) (items : List Item) → d < D → told_of (lengths_of D items) (sorted_number D items) d ≡ told_length (sorted_dimension D items) d items
 told_is D d items lt = ap (λ n. n + cond (eqb d (sorted_number D items)) 1 0) (get_or-lengths D d items lt) ∙ by (sorted_dimension D items)

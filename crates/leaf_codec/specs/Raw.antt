@@ -2,7 +2,6 @@
 use Rattle.std.specs.Prelude.{ℕ, ◌≡◌, ◌+◌, ◌-◌, ◌*◌, ◌^◌, ◌<◌, ◌≤◌, List, [], ◌∷◌, ◌++◌, map, length, take, drop, All}
 use Rattle.std.specs.Prelude.{ℤ, if◌then◌else◌, nat_lt, ◌==◌, slice_index}
 use Rattle.std.specs.List.{range_with_len, sum_by}
-use Rattle.std.specs.Int.{w16, to_be_bytes}
 use Rattle.point_codec.specs.Points.{Item}
 use Rattle.leaf_codec.specs.Dimensions.{told_of}
 use Rattle.leaf_codec.specs.Spelling.{sorted_bytes}
@@ -91,9 +90,6 @@ unfoldable pub point_at : ℕ → RawKeys → ℕ → List ℤ
 point_at D r i = map (λ d. coordinate (key_at D r i d)) (range_with_len 0 D)
 
 -- ---- the whole
-
-abbrev pub leaf_bytes : ℕ → ℕ → RawNumbers → RawKeys → List ℕ
-leaf_bytes D count numbers keys = to_be_bytes w16 count ++ numbers_bytes numbers ++ keys_bytes D keys
 
 unfoldable pub raw_item : ℕ → RawNumbers → RawKeys → ℕ → Item
 raw_item D numbers keys i = record { doc = numbers.least + offset_at numbers i; at = point_at D keys i }

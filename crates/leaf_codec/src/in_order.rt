@@ -1,6 +1,6 @@
 //! Whether the entries of a leaf stand in leaf order and inside a cell.
 
-ghost use Rattle.std.specs.Prelude.{◌≡◌, ◌≢◌, ◌≤◌, ◌<◌, ◌^◌, ◌+◌, ◌*◌, ◌↔◌, ℕ, IsTrue, length, true, pos, int_le};
+ghost use Rattle.std.specs.Prelude.{◌≡◌, ◌≢◌, ◌≤◌, ◌<◌, ◌^◌, ◌+◌, ◌*◌, ◌↔◌, ℕ, IsTrue, length, true, pos};
 ghost use Rattle.std.specs.Prelude.{nat_lt, if◌then◌else◌, slice_index_or, FitsSigned, bit_and, take, drop};
 ghost use Rattle.std.specs.Int.{w32};
 ghost use Rattle.std.specs.declared.cmp.Ordering.TheVariants.{Less};

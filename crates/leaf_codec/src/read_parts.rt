@@ -1,7 +1,7 @@
 //! Reading the keys of a leaf: shared prefixes, sorted bytes and rests.
 
 ghost use Rattle.std.specs.Prelude.{◌≡◌, ◌≤◌, ◌<◌, ◌^◌, ◌*◌, ◌+◌, ◌-◌, ◌++◌, ℕ, List, length, All, IfSome, IsSome};
-ghost use Rattle.std.specs.Prelude.{IsTrue, ◌↔◌, slice_index, take, drop};
+ghost use Rattle.std.specs.Prelude.{IsTrue, ◌↔◌, take, drop};
 ghost use Rattle.leaf_codec.specs.Dimensions.{told_of};
 ghost use Rattle.leaf_codec.specs.Raw.{RawKeys, AreRawKeys, MaySort, keys_bytes, sorted_raw, start_of, gap_of};
 ghost use Rattle.leaf_codec.specs.Raw.{place_of, key_at, point_at};

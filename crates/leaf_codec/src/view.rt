@@ -1,6 +1,6 @@
 //! Reading a leaf in place.
 
-ghost use Rattle.std.specs.Prelude.{◌≡◌, ◌≤◌, ◌<◌, ◌^◌, ◌+◌, ◌*◌, ◌↔◌, ℕ, List, length, All, IfSome, IfNone, IsSomeAnd};
+ghost use Rattle.std.specs.Prelude.{◌≡◌, ◌≤◌, ◌<◌, ◌+◌, ◌*◌, ◌↔◌, ℕ, List, length, All, IfSome, IfNone, IsSomeAnd};
 ghost use Rattle.std.specs.Prelude.{IsTrue, slice_get, slice_index, nat_lt, if◌then◌else◌, ◌==◌, true, take, drop};
 ghost use Rattle.std.specs.Prelude.{int_lt, int_le, FitsSigned, ◌++◌, map, OnOk, OnErr};
 ghost use Rattle.std.specs.Int.{w32};
@@ -9,11 +9,10 @@ ghost use Rattle.point_codec.specs.Points.{Item};
 ghost use Rattle.point_codec.specs.Seen.{region_of};
 ghost use Rattle.leaf_codec.specs.Ascending.{AscendIn, coordinate};
 ghost use Rattle.leaf_codec.specs.Dimensions.{count_values};
-ghost use Rattle.leaf_codec.specs.LeafOrder.{item_of};
 ghost use Rattle.leaf_codec.specs.Leaves.{SpellsLeafIn, SpellsSomeIn};
-ghost use Rattle.leaf_codec.specs.Raw.{RawNumbers, place_of, raw_item, raw_items};
-ghost use Rattle.leaf_codec.specs.Views.{IsParts, IsReadable, AreDimensionsOf, AscendInside, items_said};
-ghost use Rattle.leaf_codec.specs.Views.{raw_numbers_of, raw_keys_of, IsWide, NeverFall};
+ghost use Rattle.leaf_codec.specs.Raw.{RawNumbers, place_of, raw_items};
+ghost use Rattle.leaf_codec.specs.Views.{IsParts, IsReadable, AreDimensionsOf, items_said};
+ghost use Rattle.leaf_codec.specs.Views.{raw_keys_of, IsWide, NeverFall};
 
 use crate::byte_set::ByteSet;
 use crate::guess::guess;

@@ -1,6 +1,6 @@
 //! Writing the keys of a leaf: shared prefixes, sorted bytes and rests.
 
-ghost use Rattle.std.specs.Prelude.{◌≡◌, ◌≤◌, ◌<◌, ◌^◌, ◌++◌, ◌-◌, ℕ, length, All, OnOk, map, take, drop, unwrap_or};
+ghost use Rattle.std.specs.Prelude.{◌≡◌, ◌≤◌, ◌<◌, ◌++◌, ◌-◌, length, All, OnOk, map, take, drop, unwrap_or};
 ghost use Rattle.std.specs.List.{flat_map, range_with_len};
 ghost use Rattle.point_codec.specs.Seen.{items_of};
 ghost use Rattle.leaf_codec.specs.Dimensions.{key_of, key_byte, shared_prefix, sorted_dimension, told_of};

@@ -1,6 +1,6 @@
 //! Writing the numbers of a leaf.
 
-ghost use Rattle.std.specs.Prelude.{◌≡◌, ◌≤◌, ◌<◌, ◌^◌, ◌++◌, ◌-◌, length, All, OnOk, map, IsTrue};
+ghost use Rattle.std.specs.Prelude.{◌≡◌, ◌≤◌, ◌<◌, ◌^◌, ◌++◌, ◌-◌, length, All, OnOk};
 ghost use Rattle.std.specs.List.{flat_map};
 ghost use Rattle.leaf_codec.specs.Spelling.{least, greatest, is_row, width, low_bytes, numbers};
 ghost use Rattle.leaf_codec.specs.Entries.{docs_of};

@@ -182,17 +182,6 @@ pub record IsReading (told : Type 0) (old : LineReader) (before : List ℕ) (r :
   pub whole : told → KnowsEnd old before → lines_left old before ≡ lines_of (seen ++ (waiting r ++ left))
   pub ended : told → KnowsEnd old before → KnowsEnd r left
 
-pub reading_first : (told : Type 0) (r : LineReader) (left bytes : List ℕ) → bytes ≡ [] → IsReading told r left r left bytes false
-reading_first told r left bytes none = record {
-  seen = [];
-  plain = refl;
-  bytes_are = none;
-  begun = λ e. absurd cc;
-  unbegun = λ e. refl;
-  whole = λ t knows. refl;
-  ended = λ t knows. knows;
-}
-
 module _ (told : Type 0) (old : LineReader) (before : List ℕ) (r s : LineReader) (left now bytes : List ℕ) (is_begun : Bool)
     (so_far : IsReading told old before r left bytes is_begun) where
   -- where more is held, the lines left are those of what was seen, what waits and what is left

@@ -1,6 +1,6 @@
 //! Bytes that are there already, as a source.
 
-ghost use Rattle.std.specs.Prelude.{true, min, length};
+ghost use Rattle.std.specs.Prelude.{true, min};
 
 use outer_io::{Failed, Source};
 

@@ -28,7 +28,6 @@ pub struct LineReader {
 }
 
 impl LineReader {
-    ghost use Rattle.std.specs.Prelude.{◌∷◌, [], IsErrOf};
     ghost use Rattle.outer_io.specs.Faults.{HasCause};
     ghost use Rattle.line_source.specs.Faults.{HasReadCause};
     ghost use Rattle.line_source.specs.Reader.{Gives, HoldsBytes, IsUnread, KnowsEnd, TakesPart, kept_bytes, waiting};

@@ -5,9 +5,6 @@ use Rattle.live_bits.specs.LiveSet.{LiveSet}
 use Rattle.live_bits.specs.LiveBody.{head, IsLiveBody}
 use Rattle.live_bits.proofs.Heads.{head-length, live_in-length, sizes_unique}
 
-pub head_of : ℕ → ℕ → LiveSet → List ℕ
-head_of segment generation s = head segment generation s.base s.span (length s.live)
-
 -- bytes that a body begins with begin with its head, where they are long enough
 pub begins : (segment generation : ℕ) (s : LiveSet) (front body x y : List ℕ) → 36 ≤ length front → IsLiveBody segment generation s body
     → front ++ x ≡ body ++ y

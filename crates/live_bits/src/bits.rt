@@ -1,6 +1,6 @@
 //! Bits in bytes, the lowest bit of each byte first.
 
-ghost use Rattle.std.specs.Prelude.{◌≡◌, ◌<◌, ◌≤◌, ◌+◌, ◌*◌, ◌/◌, ◌^◌, ◌&&◌, ◌||◌, ◌↔◌, ℕ, not, false, nat_eq, length};
+ghost use Rattle.std.specs.Prelude.{◌≡◌, ◌<◌, ◌≤◌, ◌+◌, ◌/◌, ◌^◌, ◌&&◌, ◌||◌, ◌↔◌, ℕ, not, false, nat_eq, length};
 ghost use Rattle.std.specs.Prelude.{IsTrue, sum_by, count_ones, All};
 ghost use Rattle.live_bits.specs.LiveBody.{is_set};
 

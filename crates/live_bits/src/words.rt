@@ -1,6 +1,6 @@
 //! Bits sixty-four at a time, as words of which bit 0 is the first.
 
-ghost use Rattle.std.specs.Prelude.{◌≡◌, ◌<◌, ◌≤◌, ◌+◌, ◌-◌, ◌*◌, ◌/◌, ◌&&◌, ℕ, nat_le, slice_index, length};
+ghost use Rattle.std.specs.Prelude.{◌≡◌, ◌<◌, ◌+◌, ◌-◌, ◌*◌, ◌/◌, ◌&&◌, ℕ, nat_le, slice_index, length};
 ghost use Rattle.live_bits.specs.LiveBody.{has_bit, is_set};
 
 /// The 64 bits from bit `i` of the bytes on, with zeros past their end.

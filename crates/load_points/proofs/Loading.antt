@@ -26,7 +26,7 @@ use Rattle.index_core.specs.Steps.{FaultKeeps, KeepsUndone}
 use Rattle.index_core.specs.Whole.{Adds, DoesWhole, HasNewCanonical, IsNewSegment, SessionMoment, with_point, with_points}
 use Rattle.index_core.proofs.Answering.{no_cause}
 use Rattle.index_core.proofs.FaultCauses.{fault_to, memory_cause}
-use Rattle.load_points.specs.Loaded.{full_text, loaded_text, columns_answer, opened_state, refusal}
+use Rattle.load_points.specs.Loaded.{full_text, loaded_text, columns_answer, refusal}
 use Rattle.load_points.specs.Loads.{HasKept, IsLoading, Loads, LoadMoment}
 use Rattle.load_points.proofs.Counted.{added_is, done_answer, full_is, matched_is, rest_done}
 use Rattle.index_core.proofs.Bringing.{brings_then}

@@ -25,15 +25,6 @@ pub record IsFront (l : ℕ) (sizes : List ℕ) (pinned : List Bool) (n : ℕ) (
   pub whole : (i : ℕ) → i < n → IsFree l sizes pinned i → Contains xs i
   pub counted : count_by (is_free l) (take n (zip sizes pinned)) ≡ length xs
 
-pub front_none : (l : ℕ) (sizes : List ℕ) (pinned : List Bool) → IsFront l sizes pinned 0 []
-front_none l sizes pinned = record {
-  rising = λ k h. absurd (omega arith);
-  below = λ k d h. absurd (omega arith);
-  free = λ k d h. absurd (omega arith);
-  whole = λ i h f. absurd (omega arith);
-  counted = refl;
-}
-
 -- the test of a position's size and pin
 free_at : (l : ℕ) (sizes : List ℕ) (pinned : List Bool) (i : ℕ) → length sizes ≡ length pinned → IsFree l sizes pinned i
     → is_free l (get_or sizes i 0, get_or pinned i false) ≡ true

@@ -1,21 +1,17 @@
 -- Entries added one after another.
-use Rattle.std.proofs.Common.{◌≡◌, ℕ, ◌+◌, ◌<◌, true, false, cond, List, [], ◌∷◌, ◌++◌, length, take, get_or, ℤ, refl, sym, ap, subst, ◌∙◌, arith}
+use Rattle.std.proofs.Common.{◌≡◌, ℕ, ◌+◌, ◌<◌, List, [], ◌∷◌, ◌++◌, length, take, get_or, ℤ, sym, ap, subst, ◌∙◌, arith}
 use Rattle.std.proofs.lemmas.List.{map-append}
 use Rattle.std.proofs.lemmas.List.Sums.{sum_by-cons, sum_by_push}
-use Rattle.std.proofs.lemmas.List.Elements.{filter_more}
 use Rattle.std.proofs.lemmas.Option.{slice_get-get_or, get_or_from_slice_get}
-use Rattle.std.specs.Prelude.{IsSomeAnd}
-use Rattle.std.specs.List.{sum_by, slice_get}
+use Rattle.std.specs.List.{sum_by}
 use Rattle.point_codec.specs.Points.{Item, dist2}
 use Rattle.point_codec.specs.Seen.{items_of}
 use Rattle.point_codec.specs.declared.entries.Entry.{Entry}
 use Rattle.point_codec.specs.declared.entries.Near.{Near}
 use Rattle.point_codec.proofs.LeastCells.{map-more}
-use Rattle.live_bits.specs.LiveSet.{LiveSet, is_live}
 use Rattle.nearest_query.specs.declared.candidates.Candidates.{Candidates}
 use Rattle.documents.specs.NearestEntries.{near_of, nears_of}
 use Rattle.nearest_query.specs.Best.{AreBest, AreAdded}
-use Rattle.nearest_query.specs.Segments.{live_items}
 
 pub added_none : (seen : List Near) (c : Candidates) → AreBest seen c → AreAdded seen [] c
 added_none seen c best = record { after = seen; best = best; totals = λ f. omega arith }
@@ -46,28 +42,6 @@ entries_more at es i e n h is same =
     ∙ ap (λ x. nears_of at (items_of (take i es)) ++ record { dist2 = dist2 x.point.c at; doc = x.doc } ∷ []) (sym is)
     ∙ ap (λ x. nears_of at (items_of (take i es)) ++ x ∷ []) (sym same)
 
--- the live ones among items, and one more
-pub live_more : (at : List ℤ) (live : LiveSet) (xs : List Item) (i : ℕ) (x : Item) (n : Near) → i < length xs → x ≡ get_or xs i x → is_live live x.doc ≡ true
-    → n ≡ near_of at x
-    → nears_of at (live_items live (take (i + 1) xs)) ≡ nears_of at (live_items live (take i xs)) ++ n ∷ []
-live_more at live xs i x n h is alive same =
-    ap (nears_of at)
-    (filter_more (λ y. is_live live y.doc) xs i x h ∙ ap (λ y. live_items live (take i xs) ++ cond (is_live live y.doc) (y ∷ []) []) (sym is)
-    ∙ ap (λ b. live_items live (take i xs) ++ cond b (x ∷ []) []) alive)
-    ∙ map-append (near_of at) (live_items live (take i xs)) (x ∷ [])
-    ∙ ap (λ y. nears_of at (live_items live (take i xs)) ++ y ∷ []) (sym same)
-
-append_nothing : {X : Type 0} (xs : List X) → xs ++ [] ≡ xs
-append_nothing [] = refl
-append_nothing (x ∷ xs) = ap (λ ys. x ∷ ys) (append_nothing xs)
-
-pub dead_more : (at : List ℤ) (live : LiveSet) (xs : List Item) (i : ℕ) (x : Item) → i < length xs → x ≡ get_or xs i x → is_live live x.doc ≡ false
-    → nears_of at (live_items live (take (i + 1) xs)) ≡ nears_of at (live_items live (take i xs))
-dead_more at live xs i x h is dead =
-    ap (nears_of at)
-    (filter_more (λ y. is_live live y.doc) xs i x h ∙ ap (λ y. live_items live (take i xs) ++ cond (is_live live y.doc) (y ∷ []) []) (sym is)
-    ∙ ap (λ b. live_items live (take i xs) ++ cond b (x ∷ []) []) dead ∙ append_nothing (live_items live (take i xs)))
-
 abbrev pub near_with : ℕ → ℕ → Near
 near_with d doc = record { dist2 = d; doc = doc }
 
@@ -76,10 +50,6 @@ with_dist d e doc h = ap (λ x. near_with x doc) h
 
 pub no_item : Item
 no_item = record { doc = 0; at = [] }
-
--- what is read of an item of the list
-pub read_item : (P : Item → Type 0) (xs : List Item) (i : ℕ) → i < length xs → IsSomeAnd (slice_get xs i) P → P (get_or xs i no_item)
-read_item P xs i h p = subst (λ o. IsSomeAnd o P) (slice_get-get_or xs i no_item h) p
 
 pub read_same : (xs : List Item) (i : ℕ) → i < length xs → get_or xs i no_item ≡ get_or xs i (get_or xs i no_item)
 read_same xs i h = sym (get_or_from_slice_get xs i (get_or xs i no_item) (get_or xs i no_item) (slice_get-get_or xs i no_item h))

@@ -57,9 +57,6 @@ some_counted x (y ∷ ys) h = by_test _ (is_same x y)
     let z : one_if x y ≡ 0 = ap (λ b. cond b 1 0) o in
     cons_tail y ys x (some_counted x ys (omega (arith, c, z, h))))
 
-pub same_members : (xs ys : List Near) → ((f : Near → ℕ) → sum_by f xs ≡ sum_by f ys) → (x : Near) → Contains xs x → Contains ys x
-same_members xs ys h x k = let c = counts_some x xs k in let t = h (one_if x) in some_counted x ys (omega (arith, c, t))
-
 -- ---- the nodes that wait are far
 
 zero_waiting : {D : ℕ} (w : World) (d : ℕ) (f : Near → ℕ) → ((y : Near) → d ≤ y.dist2 → f y ≡ 0) → (nodes : List (NodeAt D)) (waiting : List Waiting)

@@ -3,11 +3,10 @@
 ghost use Rattle.std.specs.Prelude.{◌≡◌, ◌≤◌, ◌<◌, ◌+◌, ◌++◌, ℕ, List, [], length, All, IsTrue, OnOk, IfOk};
 ghost use Rattle.std.specs.Prelude.{sum_by};
 ghost use Rattle.std.specs.List.{range_with_len};
-ghost use Rattle.point_codec.specs.Points.{Item, Region};
+ghost use Rattle.point_codec.specs.Points.{Item};
 ghost use Rattle.point_codec.specs.Seen.{items_of};
 ghost use Rattle.point_codec.specs.declared.entries.Near.{Near};
 ghost use Rattle.inner_pack.specs.Trees.{IndexTree};
-ghost use Rattle.inner_pack.specs.Bodies.{HasTree};
 ghost use Rattle.page_cache.specs.Cache.{Agrees};
 ghost use Rattle.page_cache.specs.Evidence.{OnDamage, NotDamaged};
 ghost use Rattle.page_cache.specs.Reading.{ReadsMarking, ReadsNothing};
@@ -17,8 +16,8 @@ ghost use Rattle.nearest_query.specs.Dead.{MayPass, MarksDead};
 ghost use Rattle.nearest_query.specs.Segments.{AreLeavesKept, AreSegments, AreNearLeaves, HasId, HaveTrees};
 ghost use Rattle.nearest_query.specs.Segments.{IsSegmentDamage, bound_of, live_in};
 ghost use Rattle.nearest_query.specs.Found.{IsFound};
-ghost use Rattle.nearest_query.specs.Fronts.{Front, leaf_sum, sum_below};
-ghost use Rattle.nearest_query.specs.Search.{World, AreInside, IsOver, IsNodeBelow, IsNode, HasRoots, head_at, live_at};
+ghost use Rattle.nearest_query.specs.Fronts.{leaf_sum, sum_below};
+ghost use Rattle.nearest_query.specs.Search.{World, AreInside, IsNodeBelow, IsNode, HasRoots, head_at, live_at};
 ghost use Rattle.nearest_query.specs.Search.{sum_of_live};
 
 use crate::answer::Nearest;

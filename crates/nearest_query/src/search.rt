@@ -1,6 +1,6 @@
 //! The search: waiting nodes are opened, the nearest first, until none can have an entry among the nearest.
 
-ghost use Rattle.std.specs.Prelude.{◌≡◌, ◌≤◌, ◌<◌, ◌+◌, ℕ, List, [], ◌∷◌, length, All, IsTrue, true, OnOk, sum_by};
+ghost use Rattle.std.specs.Prelude.{◌≡◌, ◌≤◌, ◌<◌, ◌+◌, ℕ, List, ◌∷◌, length, All, IsTrue, true, OnOk, sum_by};
 ghost use Rattle.std.specs.Prelude.{IfOk, Option};
 ghost use Rattle.point_codec.specs.Points.{Region};
 ghost use Rattle.point_codec.specs.declared.entries.Near.{Near};

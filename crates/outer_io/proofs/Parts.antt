@@ -1,28 +1,8 @@
 -- Torn writes, one after another.
-use Rattle.std.proofs.Common.{Result, Ok, Err, OnErr, ◌≡◌, ℕ, ◌+◌, ◌-◌, List, ◌++◌, length, take, drop, append_assoc, sym, ◌∙◌}
+use Rattle.std.proofs.Common.{Result, Ok, Err, OnErr, ◌≡◌, ℕ, ◌+◌, ◌-◌, List, ◌++◌, length, take, drop, append_assoc, sym}
 use Rattle.std.proofs.lemmas.List.{take_rest}
 use Rattle.std.proofs.Math.Seq.{take-add}
-use Rattle.outer_io.specs.Parts.{WritesPart, ReadsPart}
-
--- a whole went out, and then a part of b: a part of a ++ b went out
-pub part_after : {old mid new b : List ℕ} → (a : List ℕ) → mid ≡ old ++ a → WritesPart mid new b → WritesPart old new (a ++ b)
-part_after {old} {mid} {new} {b} a all part =
-    record {
-      sent = a ++ part.sent;
-      rest = part.rest;
-      whole = rw part.whole (sym (append_assoc a part.sent part.rest));
-      grew = part.grew ∙ rw all (append_assoc old a part.sent);
-    }
-
--- a part of a went out, and nothing of what was to come after it
-pub part_before : {old new a : List ℕ} → (b : List ℕ) → WritesPart old new a → WritesPart old new (a ++ b)
-part_before {old} {new} {a} b part =
-    record {
-      sent = part.sent;
-      rest = part.rest ++ b;
-      whole = rw part.whole (append_assoc part.sent part.rest b);
-      grew = part.grew;
-    }
+use Rattle.outer_io.specs.Parts.{ReadsPart}
 
 -- the next n bytes went out after those before `at`
 pub sent_more : (old mid new : List ℕ) (at n : ℕ) (b : List ℕ) → mid ≡ old ++ take at b → new ≡ mid ++ take n (take (length b - at) (drop at b))

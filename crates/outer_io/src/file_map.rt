@@ -3,7 +3,6 @@ ghost use Rattle.std.specs.Prelude.{◌≡◌, ◌++◌, ◌≤◌, None, Some, 
 ghost use Rattle.std.specs.Prelude.{vec_capacity, OnOk, OnErr};
 ghost use Rattle.outer_io.specs.Files.{bytes_of, SameBut, SameButTwo, IsRenamed};
 ghost use Rattle.outer_io.specs.FileMap.{files_of, is_named, name_after_rename, with_new_name};
-ghost use Rattle.outer_io.specs.Names.{same_name};
 
 use crate::file_name::FileName;
 use std::alloc::{AllocError, Global};

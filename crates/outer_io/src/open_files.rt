@@ -1,9 +1,8 @@
 //! Files that stay open between reads.
 ghost use Rattle.outer_io.specs.declared.open_files.Opened.{Opened};
-ghost use Rattle.std.specs.Prelude.{◌<◌, position, slice_index_or, ◌≡◌, ◌∷◌, [], find, filter, not, take, option_map};
+ghost use Rattle.std.specs.Prelude.{◌<◌, position, slice_index_or, ◌≡◌, ◌∷◌, [], filter, not, take, option_map};
 ghost use Rattle.std.specs.Prelude.{vec_len, vec_capacity, ◌≤◌, IfOk, All, Contains};
 ghost use Rattle.outer_io.specs.OpenFiles.{is_opened, file_under};
-ghost use Rattle.outer_io.specs.Names.{same_name};
 
 use crate::file_name::FileName;
 use std::alloc::{AllocError, Global};

@@ -22,11 +22,6 @@ pub agreeing_page : (files : Files) (c : PageCache) (id number : ℕ) (bytes : L
 unfolding Agrees
 agreeing_page files c id number bytes agrees keeps = agrees id number bytes keeps
 
--- a cache that keeps nothing agrees with all files
-pub agrees_empty : (files : Files) (c : PageCache) → ((id : ℕ) → KeepsFile c id → ⊥) → Agrees files c
-unfolding Agrees KeepsFile IsKept
-agrees_empty files c none id number bytes keeps = absurd (none id (number, (bytes, keeps)))
-
 -- a page of which a leaf is known to be dead is kept
 pub dead_is_kept : (c : PageCache) (id number offset len : ℕ) (bytes : List ℕ) → KeepsDead c id number offset len bytes → Keeps c id number bytes
 unfolding Keeps KeepsDead

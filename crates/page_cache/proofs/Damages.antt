@@ -96,12 +96,3 @@ other_size asks files p pages file size needed first asked e =
       needs = e.2;
       first_asks = subst (λ (l : List ℕ). asks l pages) first.payload asked;
     }))
-
--- an answer with the damage of a page has that of its file
-pub on_file_from_page : {T : Type 0} (r : Result T PageFault) (name : FileName) (n : ℕ) → OnDamage r (IsPageDamage name n) → OnDamage r (IsFileDamage name)
-on_file_from_page r name n = on_damage_weaker r (IsPageDamage name n) (IsFileDamage name) (file_from_page name n)
-
-pub on_file_from_page_of : {T : Type 0} (r : Result T PageFault) (files : Files) (name : FileName) (n : ℕ) → (n ≡ 0 → files name ≢ None)
-    → OnDamage r (IsPageDamage name n) → OnDamage r (IsPageDamageOf files n) → OnDamage r (IsFileDamageOf files)
-on_file_from_page_of r files name n there =
-    on_damage_both r (IsPageDamage name n) (IsPageDamageOf files n) (IsFileDamageOf files) (λ d. file_from_page_of files name n d there)

@@ -14,10 +14,6 @@ use Rattle.page_cache.proofs.KeptPages.{key_true}
 pub same_part : (a b : LeafPart) → a.offset ≡ b.offset → a.length ≡ b.length → a ≡ b
 same_part a b offset len = λ i. record { offset = offset i; length = len i }
 
--- a page that isn't kept: nothing is marked
-pub marks_none : (key : PageKey) (part : LeafPart) (es : Kept) → MarksOne key part es es
-marks_none key part es = record { order = refl; was = λ k bytes has. has; stays = λ k bytes has. has; dead = λ k p bytes has. inl has }
-
 -- the value d of the key is written over by w, which has the same page
 module _ (key : PageKey) (part : LeafPart) (d w : KeptData) (same : w.page ≡ d.page)
     (known : (p : LeafPart) → Contains w.dead (Some p) → Contains d.dead (Some p) ⊎ (p ≡ part)) where

@@ -1,6 +1,6 @@
 -- What one read of 4,096 bytes says of a page.
 use Rattle.std.proofs.Common.{◌≡◌, ℕ, ◌+◌, ◌*◌, ◌≤◌, ◌<◌, List, [], ◌++◌, length, take, drop, sym, ap, ◌∙◌, subst, arith, append-nil, length-take, length-drop}
-use Rattle.std.proofs.Common.{Result, Ok, Err, IfOk, IfErr, OnErr}
+use Rattle.std.proofs.Common.{Result, Ok, Err, IfOk, OnErr}
 use Rattle.std.proofs.Math.ListN.{drop_of_length-le}
 use Rattle.std.specs.declared.boxed.Box.{Box}
 use Rattle.std.specs.declared.alloc.Global.{Global}
@@ -9,10 +9,9 @@ use Rattle.outer_io.specs.declared.file_name.FileName.{FileName}
 use Rattle.outer_io.specs.Files.{Files, bytes_of, IsReadAt}
 use Rattle.page_file.specs.Page.{IsPage}
 use Rattle.page_cache.specs.FilePages.{kind_of, number_of, page_at, IsFilePage}
-use Rattle.page_cache.specs.declared.faults.Damage.TheVariants.{Page}
 use Rattle.page_cache.specs.declared.faults.PageFault.{PageFault}
 use Rattle.page_cache.specs.declared.faults.PageFault.TheVariants.{Failed, Damaged, Memory}
-use Rattle.page_cache.specs.Evidence.{FaultShows, OnDamage, NotDamaged, IsPageOf, IsPageDamageOf, seen_end}
+use Rattle.page_cache.specs.Evidence.{NotDamaged, IsPageOf}
 
 -- a read that brought a whole page brought that of the file
 pub read_whole : (files : Files) (name : FileName) (n at count : ℕ) (old new : List ℕ) → length old ≡ 4096 → at ≡ 4096 * n → 4096 ≤ count
@@ -23,12 +22,6 @@ read_whole files name n at count old new len begin full read =
     let none : drop count old ≡ [] = drop_of_length-le old (omega arith) in
     read.filled ∙ ap (λ (x : List ℕ). take count (drop at (bytes_of (files name))) ++ x) none ∙ append-nil (take count (drop at (bytes_of (files name))))
     ∙ ap (λ (k : ℕ). take k (drop at (bytes_of (files name)))) all ∙ ap (λ (k : ℕ). take 4096 (drop k (bytes_of (files name)))) begin
-
--- fewer bytes came: the file ends there, or before the page
-pub read_short : (files : Files) (name : FileName) (n at count : ℕ) (old new : List ℕ) → length old ≡ 4096 → at ≡ 4096 * n → count < 4096
-    → IsReadAt (files name) at count old new → at + count ≡ seen_end files name n
-read_short files name n at count old new len begin short read =
-    let counted = read.counted in let left = length-drop at (bytes_of (files name)) in omega arith
 
 -- and then it doesn't have the page
 pub short_is_none : (files : Files) (name : FileName) (n at count : ℕ) (old new : List ℕ) → length old ≡ 4096 → at ≡ 4096 * n → count < 4096
@@ -61,11 +54,6 @@ module _ (files : Files) (name : FileName) (n : ℕ) (page : Box PageBytes Globa
       → IfOk r (λ p. IsPageOf files name n p.value.b)
   checked_bytes (Ok p) same e = subst (λ (q : Box PageBytes Global). IsPageOf files name n q.value.b) (sym e) same
   checked_bytes (Err e) same h = tt
-
-pub checked_damage : {T : Type 0} (files : Files) (name : FileName) (n : ℕ) (page : Box PageBytes Global) (r : Result T PageFault)
-    → IsPageOf files name n page.value.b → IfErr r (λ e. e ≡ Damaged (Page name n page)) → OnDamage r (IsPageDamageOf files n)
-checked_damage files name n page (Ok p) same h = tt
-checked_damage files name n page (Err e) same h = subst (FaultShows (IsPageDamageOf files n)) (sym h) same
 
 pub checked_whole : {T : Type 0} (r : Result T PageFault) (P : Type 0) → P → OnErr r (P → ⊥) → NotDamaged r
 checked_whole (Ok p) P holds h = tt

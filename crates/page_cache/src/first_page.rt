@@ -25,7 +25,7 @@ pub struct FirstPage {
 impl FirstPage {
     ghost use Rattle.std.specs.Prelude.{◌≡◌, ◌≤◌, ◌+◌, ◌*◌, length, vec_len, IsTrue, IsOk, IfOk, OnOk, IfSome, IfNone};
     ghost use Rattle.std.specs.Prelude.{None, IsErrOf, ◌↔◌};
-    ghost use Rattle.outer_io.specs.Files.{Files, bytes_of};
+    ghost use Rattle.outer_io.specs.Files.{bytes_of};
     ghost use Rattle.page_cache.specs.FilePages.{IsFilePage, ArePages, payloads_of};
     ghost use Rattle.page_cache.specs.Evidence.{OnDamage, NotDamaged, SizeNeeds, SizeWithin, IsSizeDamage};
     ghost use Rattle.page_cache.specs.Evidence.{IsFileDamage, IsFileDamageOf};

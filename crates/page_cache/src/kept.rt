@@ -1,13 +1,13 @@
 //! The kept pages by themselves: a list of pages by their keys, the last used first.
 
-ghost use Rattle.std.specs.Prelude.{◌≡◌, ◌⊎◌, ◌≤◌, ◌<◌, ◌-◌, ◌++◌, ◌∷◌, [], cond, ℕ, List, length, map, take, filter};
+ghost use Rattle.std.specs.Prelude.{◌≡◌, ◌⊎◌, ◌<◌, ◌-◌, ◌++◌, ◌∷◌, [], cond, ℕ, List, take, filter};
 ghost use Rattle.std.specs.Prelude.{option_map};
-ghost use Rattle.std.specs.Prelude.{Contains, IsTrue, IfSome, IfNone, IfOk, OnOk, OnErr};
+ghost use Rattle.std.specs.Prelude.{Contains, IsTrue, IfSome, IfNone, OnOk, OnErr};
 ghost use Rattle.std.specs.Bool.{OnTrue, OnFalse};
 ghost use Rattle.std.specs.Map.{keys_of};
 ghost use Rattle.page_cache.specs.declared.key.PageKey.{PageKey};
 ghost use Rattle.page_cache.specs.Notes.{Fits};
-ghost use Rattle.page_cache.specs.Keys.{KeptData, Kept, fresh, same_key, keys_but, HasKey, KeepsIn, KeepsDeadIn};
+ghost use Rattle.page_cache.specs.Keys.{KeptData, Kept, fresh, keys_but, HasKey, KeepsIn, KeepsDeadIn};
 ghost use Rattle.page_cache.specs.Keys.{KeepsNoMore, KeepsOneMore, MarksOne, is_of_other};
 
 use crate::faults::Memory;

@@ -1,6 +1,6 @@
 //! Pages read from a file.
 
-ghost use Rattle.std.specs.Prelude.{◌≡◌, ◌≤◌, ◌<◌, ◌+◌, ◌*◌, ◌^◌, ◌++◌, ◌↔◌, length, vec_len, IsTrue, IfOk, OnOk};
+ghost use Rattle.std.specs.Prelude.{◌≡◌, ◌≤◌, ◌<◌, ◌+◌, ◌*◌, ◌++◌, ◌↔◌, length, vec_len, IsTrue, IfOk, OnOk};
 ghost use Rattle.std.specs.Prelude.{IfErr, OnErr};
 ghost use Rattle.outer_io.specs.Counts.{RisesByOne};
 ghost use Rattle.outer_io.specs.Faults.{HasCause};

@@ -1,10 +1,10 @@
 //! Cells: the closed boxes of a tree's nodes.
 
-ghost use Rattle.std.specs.Prelude.{◌≡◌, ℕ, ◌<◌, ◌≤◌, ◌≤ℤ◌, ◌↔◌, length, List, ℤ, IsTrue, true, false, Bool, ◌&&◌};
+ghost use Rattle.std.specs.Prelude.{◌≡◌, ◌<◌, ◌≤◌, ◌≤ℤ◌, ◌↔◌, length, List, ℤ, IsTrue, true, false, ◌&&◌};
 ghost use Rattle.std.specs.Prelude.{◌||◌, MatchOption, IfSome, IsSome, map, slice_index_or, slice_set, pos, int_le};
 ghost use Rattle.std.specs.Prelude.{◌-ℤ◌};
 ghost use Rattle.std.specs.Int.{int_max, int_min};
-ghost use Rattle.point_codec.specs.Points.{Region, all_le, in_box, dist2, square};
+ghost use Rattle.point_codec.specs.Points.{all_le, in_box, dist2, square};
 ghost use Rattle.point_codec.specs.Cells.{by_dimension};
 
 use crate::coordinates::{Point, squared_gap};
@@ -19,7 +19,7 @@ pub struct Cell<const D: usize> {
 }
 
 impl<const D: usize> Cell<D> {
-    ghost use Rattle.point_codec.specs.Points.{all_le, in_box, dist2, Region};
+    ghost use Rattle.point_codec.specs.Points.{all_le, in_box, dist2};
     ghost use Rattle.point_codec.specs.Cells.{left_of, right_of, nearest_in, IsLeastCell};
     ghost use Rattle.point_codec.specs.Seen.{region_of, items_of};
 

@@ -1,6 +1,6 @@
 //! A point, and the points of a document.
 
-ghost use Rattle.std.specs.Prelude.{◌≡◌, ℕ, ◌+◌, ◌*◌, ◌^◌, ◌≤◌, ◌<◌, ◌∷◌, [], length, List, ℤ, IsTrue, map, ◌-ℤ◌};
+ghost use Rattle.std.specs.Prelude.{◌≡◌, ◌+◌, ◌*◌, ◌≤◌, ◌<◌, ◌∷◌, [], length, List, ℤ, map, ◌-ℤ◌};
 ghost use Rattle.point_codec.specs.Points.{square};
 
 use std::marker::Model;

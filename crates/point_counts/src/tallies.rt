@@ -1,6 +1,6 @@
 //! The counts of segments and of a buffer.
 
-ghost use Rattle.std.specs.Prelude.{◌≡◌, ◌≤◌, ◌+◌, ℕ, [], ◌∷◌, length, IsTrue, OnOk};
+ghost use Rattle.std.specs.Prelude.{◌≤◌, ◌+◌, ℕ, [], ◌∷◌, length, IsTrue, OnOk};
 ghost use Rattle.point_codec.specs.Seen.{items_of};
 ghost use Rattle.page_cache.specs.Cache.{Agrees};
 ghost use Rattle.page_cache.specs.Causes.{HasPageCause};

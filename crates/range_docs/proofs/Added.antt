@@ -1,5 +1,5 @@
 -- What a line adds: points of as many coordinates as there are dimensions, each a whole number of 32 bits.
-use Rattle.std.proofs.Common.{◌≡◌, ℕ, zero, suc, ◌+◌, ◌*◌, ◌/◌, ◌%◌, ◌==◌, ◌≤◌, ◌^◌, ◌-◌, ◌&&◌, Bool, true, false, cond, List, [], ◌∷◌, length, map, take, drop}
+use Rattle.std.proofs.Common.{◌≡◌, ℕ, zero, suc, ◌+◌, ◌*◌, ◌==◌, ◌≤◌, ◌^◌, ◌-◌, ◌&&◌, Bool, true, false, cond, List, [], ◌∷◌, length, map, take, drop}
 use Rattle.std.proofs.Common.{Option, Some, None, Result, Ok, Err, arith, refl, sym, ap, ◌∙◌, subst, ℤ, pos}
 use Rattle.std.proofs.Common.{length-take-le, length-drop}
 use Rattle.std.specs.Prelude.{All, FitsSigned, nat_lt, nat_le, is_some, option_map, neg_ℤ, ok_or}
@@ -19,7 +19,6 @@ use Rattle.std.proofs.lemmas.List.Elements.{All-contains, All-contains_itself, A
 use Rattle.std.proofs.lemmas.Map.Views.{Contains-from_any, list_any-from_Contains}
 use mir.Syntax.{w32}
 use Rattle.number_text.specs.Number.{coordinate, number_up_to}
-use Rattle.point_codec.specs.Order.{in_order}
 use Rattle.point_codec.specs.Points.{ordered_points}
 use Rattle.point_codec.proofs.Corners.{both_true}
 use Rattle.point_codec.proofs.Ordered.{points_exact, points_total}

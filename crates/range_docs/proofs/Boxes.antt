@@ -9,7 +9,7 @@ use mir.Syntax.{w32}
 use Rattle.point_codec.specs.Points.{Region, all_le, in_box}
 use Rattle.point_codec.specs.Cells.{by_dimension}
 use Rattle.point_codec.proofs.Corners.{both_true, all_le-refl, all_le-trans, all_le_greatest, all_le_of_greatest}
-use Rattle.range_docs.specs.Ranges.{Decides, IsQuery, is_boxed, range_of, is_range, Has, AnswersOn, HasAnswers, box_for, least, greatest}
+use Rattle.range_docs.specs.Ranges.{Decides, is_boxed, range_of, is_range, Has, AnswersOn, HasAnswers, box_for, least, greatest}
 use Rattle.range_docs.specs.declared.ranges.Question.{Question}
 use Rattle.range_docs.specs.declared.ranges.Question.TheVariants.{Intersects, Within, Contains}
 use Rattle.range_docs.proofs.Ends.{all_above, all_below, between, in_box-between}

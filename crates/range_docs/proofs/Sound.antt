@@ -1,5 +1,5 @@
 -- What a line asks is within the limits, what it names are ranges, and no line fails for want of memory.
-use Rattle.std.proofs.Common.{◌≡◌, ℕ, ◌*◌, ◌/◌, ◌%◌, ◌==◌, ◌≤◌, ◌&&◌, Bool, true, false, cond, List, [], ◌∷◌, Some, None, Result, Ok, Err, arith}
+use Rattle.std.proofs.Common.{◌≡◌, ℕ, ◌*◌, ◌/◌, ◌%◌, ◌==◌, ◌&&◌, Bool, true, false, cond, List, [], ◌∷◌, Some, None, Result, Ok, Err, arith}
 use Rattle.std.proofs.Common.{refl, sym, subst, ℤ}
 use Rattle.std.specs.Prelude.{◌≢◌, not, IfOk, All, FitsSigned}
 use Rattle.std.proofs.Common.{length, ◌∙◌}
@@ -22,7 +22,7 @@ use Rattle.script_lang.specs.Seen.{IsWithinLimits, first_request_of}
 use Rattle.script_lang.specs.declared.commands.First.{First}
 use Rattle.script_lang.specs.declared.faults.LineFault.{LineFault}
 use Rattle.script_lang.specs.declared.faults.LineFault.TheVariants as line
-use Rattle.range_docs.specs.Ranges.{AreEnds, IsQuery, range_of, is_range}
+use Rattle.range_docs.specs.Ranges.{AreEnds, range_of, is_range}
 use Rattle.range_docs.specs.Refusals.{fault_of}
 use Rattle.range_docs.specs.Reading.{RangeRequest, Asks, Finds, RangeReading, as_points, from_part, read_create_ranges, if_ranges, read_delete_number}
 use Rattle.range_docs.specs.Reading.{read_question, read_without_ranges, read_range_command, read_range_words, if_blank, range_read, read_range_text}

@@ -1,6 +1,6 @@
 //! The lines that ask which ranges are there.
 
-ghost use Rattle.std.specs.Prelude.{◌≡◌, ◌*◌, ◌/◌, ◌%◌, ◌≤◌, take, drop, length, MatchResult, Ok, Err};
+ghost use Rattle.std.specs.Prelude.{◌≡◌, ◌/◌, ◌%◌, ◌≤◌, take, drop, length, MatchResult, Ok, Err};
 ghost use Rattle.script_lang.specs.Parts.{words_left, IsRestOf};
 ghost use Rattle.script_lang.specs.Seen.{request_of};
 ghost use Rattle.script_lang.specs.Reading.{box_of};

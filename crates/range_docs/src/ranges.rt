@@ -1,6 +1,6 @@
 //! Ranges, and the boxes of the ranges that are answers on one.
 
-ghost use Rattle.std.specs.Prelude.{◌≡◌, ◌+◌, ◌*◌, ◌/◌, ◌%◌, ◌≤◌, ◌++◌, length, take, drop, replicate, true};
+ghost use Rattle.std.specs.Prelude.{◌≡◌, ◌+◌, ◌*◌, ◌/◌, ◌%◌, ◌≤◌, ◌++◌, length, replicate, true};
 ghost use Rattle.std.specs.List.{list_all};
 ghost use Rattle.point_codec.specs.Seen.{coordinates_of};
 ghost use Rattle.range_docs.specs.Ranges.{range_of, is_range, query_of, bounds_of, box_for, HasAnswers, least};

@@ -104,12 +104,6 @@ some_at test at i a b s h p q e =
     ∙ ap (λ (v : List ℤ). (v, get_or (drop 1 ring) (i - 1) [])) start ∙ ap (λ (v : List ℤ). (a.c, v)) (next ∙ end) in
     list_any_at test (edges_of ring) (i - 1) ([], []) (omega (arith, long, length-drop 1 ring, length-zip ring (drop 1 ring))) (ap test edge ∙ e)
 
-pub none_more_rings : (test : EdgeEnds → Bool) (rings : List (List (List ℤ))) (i : ℕ) (ring : List (List ℤ)) → i < length rings → ring ≡ get_or rings i ring
-    → list_any test (all_edges (take i rings)) ≡ false → list_any test (edges_of ring) ≡ false → list_any test (all_edges (take (i + 1) rings)) ≡ false
-none_more_rings test rings i ring there is none e =
-    ap (list_any test) (rings_more rings i ring there is) ∙ list_any-append test (all_edges (take i rings)) (edges_of ring)
-    ∙ or_from (list_any test (all_edges (take i rings))) (list_any test (edges_of ring)) none e
-
 pub some_in : (test : EdgeEnds → Bool) (rings : List (List (List ℤ))) (i : ℕ) (ring : List (List ℤ)) → i < length rings → ring ≡ get_or rings i ring
     → list_any test (edges_of ring) ≡ true → list_any test (all_edges rings) ≡ true
 some_in test rings i ring there is e =
@@ -139,9 +133,3 @@ odd_more p at i a b s h f g o t oo tt' =
     differ o t
     ∙ ap (λ x. xor x t) oo ∙ ap (λ x. xor (is_odd edges p) x) (tt' ∙ sym (oddly-cons (λ e. counts e p) (a.c, b.c) [] ∙ xor_false (counts (a.c, b.c) p)))
     ∙ sym (oddly-append (λ e. counts e p) edges ((a.c, b.c) ∷ [])) ∙ ap (λ es. is_odd es p) (sym (edges_more at i a b s h f g))
-
-pub odd_more_rings : (p : List ℤ) (rings : List (List (List ℤ))) (i : ℕ) (ring : List (List ℤ)) → i < length rings → ring ≡ get_or rings i ring
-    → (o t : Bool) → o ≡ is_odd (all_edges (take i rings)) p → t ≡ is_odd (edges_of ring) p → not (beq o t) ≡ is_odd (all_edges (take (i + 1) rings)) p
-odd_more_rings p rings i ring there is o t oo tt' =
-    differ o t ∙ ap (λ x. xor x t) oo ∙ ap (λ x. xor (is_odd (all_edges (take i rings)) p) x) tt'
-    ∙ sym (oddly-append (λ e. counts e p) (all_edges (take i rings)) (edges_of ring)) ∙ ap (λ es. is_odd es p) (sym (rings_more rings i ring there is))

@@ -45,33 +45,8 @@ tells_append T line (x ∷ xs) ys a b (first, rest, one, others, is) more = (
   ap (λ t. followed_by t b) is ∙ follow_assoc first rest b,
 )
 
--- what is told of lines is told of the first ones and then of the others
-pub record Parts (T : Teller) (line : ℕ) (xs ys : List (List ℕ)) (t : Told) : Type 0 where
-  pub front : Told
-  pub back : Told
-  pub of_front : TellsLines T line xs front
-  pub of_back : TellsLines T (line + length xs) ys back
-  pub is : t ≡ followed_by front back
-
-pub tells_split : (T : Teller) (line : ℕ) (xs ys : List (List ℕ)) (t : Told) → TellsLines T line (xs ++ ys) t → Parts T line xs ys t
-tells_split T line [] ys t all =
-    record { front = silence; back = t; of_front = refl; of_back = subst (λ n. TellsLines T n ys t) (sym (add-zero line)) all; is = sym (follow_silence t) }
-tells_split T line (x ∷ xs) ys t (first, rest, one, others, is) =
-    let h = tells_split T (line + 1) xs ys rest others in
-    record {
-      front = followed_by first h.front;
-      back = h.back;
-      of_front = (first, h.front, one, h.of_front, refl);
-      of_back = subst (λ n. TellsLines T n ys h.back) (step_length line xs) h.of_back;
-      is = is ∙ ap (followed_by first) h.is ∙ sym (follow_assoc first h.front h.back);
-    }
-
 pub one_line : (T : Teller) (line : ℕ) (x : List ℕ) (t : Told) → T line x t → TellsLines T line (x ∷ []) t
 one_line T line x t one = (t, silence, one, refl, sym (silence_follows t))
-
--- the first lines touch no more than all
-pub front_touches : (T : Teller) (line : ℕ) (xs ys : List (List ℕ)) (t : Told) (p : Parts T line xs ys t) → p.front.touched ≤ t.touched
-front_touches T line xs ys t p = let same = ap (λ (u : Told). u.touched) p.is in omega (arith, same)
 
 -- ---- stages
 

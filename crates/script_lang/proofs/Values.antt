@@ -14,9 +14,6 @@ use Rattle.script_lang.specs.declared.words.Words.{Words}
 
 -- ---- the words that are left
 
-pub rest_none : (w : Words) → IsRestOf w w
-rest_none w = record { place = omega arith; count = refl }
-
 -- what is left of what is left
 pub rest_both : {a b c : Words} → IsRestOf b a → IsRestOf c b → IsRestOf c a
 rest_both r s = record { place = omega (arith, r.place, s.place); count = s.count ∙ r.count }
@@ -27,10 +24,6 @@ counted place n a b at count rest = omega (arith, at, count, rest.count)
 
 -- ---- their values
 
-before-nil : {X : Type 0} (others : Result (List X) LineFault) → before [] others ≡ others
-before-nil (Ok xs) = refl
-before-nil (Err f) = refl
-
 before-before : {X : Type 0} (xs ys : List X) (others : Result (List X) LineFault) → before xs (before ys others) ≡ before (xs ++ ys) others
 before-before xs ys (Ok zs) = ap Ok (sym (append_assoc xs ys zs))
 before-before xs ys (Err f) = refl
@@ -38,10 +31,6 @@ before-before xs ys (Err f) = refl
 before-one : {X : Type 0} (x : X) (others : Result (List X) LineFault) → onto_values (Ok x) others ≡ before (x ∷ []) others
 before-one x (Ok xs) = refl
 before-one x (Err f) = refl
-
--- nothing is read at first
-pub writes_none : {X : Type 0} (value : List ℕ → Option X) (w : Words) → Writes value [] w w
-writes_none value w = record { values = sym (before-nil (values_of value w.place (words_left w))); count = omega arith }
 
 -- what is read, and then what is read behind it
 pub writes_both : {X : Type 0} {value : List ℕ → Option X} {xs ys : List X} {a b c : Words}

@@ -1,6 +1,6 @@
 //! The lines that change what is there.
 
-ghost use Rattle.std.specs.Prelude.{◌≡◌, ◌≤◌, ◌<◌, ◌+◌, ◌*◌, ◌%◌, ◌/◌, length, List, ℤ, Ok, Err, MatchResult, IfOk};
+ghost use Rattle.std.specs.Prelude.{◌≡◌, ◌≤◌, ◌<◌, ◌+◌, ◌*◌, ◌%◌, ◌/◌, length, Ok, Err, MatchResult, IfOk};
 ghost use Rattle.std.specs.Prelude.{◌==◌, ◌&&◌, ◌≢◌, ℕ};
 ghost use Rattle.number_text.specs.Number.{number, coordinate};
 ghost use Rattle.point_codec.specs.Seen.{coordinates_of};

@@ -1,6 +1,6 @@
 //! The numbers and the points that words write.
 
-ghost use Rattle.std.specs.Prelude.{◌≡◌, ◌+◌, ◌*◌, ◌<◌, ◌≤◌, ◌^◌, ◌∷◌, ◌++◌, [], length, MatchOption, MatchResult, Ok};
+ghost use Rattle.std.specs.Prelude.{◌≡◌, ◌*◌, ◌<◌, ◌≤◌, length, MatchResult, Ok};
 ghost use Rattle.std.specs.Prelude.{Err};
 ghost use Rattle.script_lang.specs.Reading.{value_of, values_of, box_of};
 ghost use Rattle.script_lang.specs.Parts.{words_left, Writes, IsRestOf};

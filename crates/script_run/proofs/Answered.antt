@@ -63,11 +63,6 @@ fault_read request (range.Line fault.LeafSize) reading no' h = h
 fault_read request (range.Line fault.BadK) reading no' h = h
 fault_read request (range.Line (fault.Geo geo)) reading no' h = h
 
--- and the fault of a line is never want of memory
-pub never_memory : {C : Type 0} (request : C → Request) (f : RangeFault) (reading : RangeReading) → AgreesOnRanges request (Err f) reading
-    → f ≢ range.Line fault.Memory
-never_memory request f reading h is = subst (λ (g : RangeFault). AgreesOnRanges request (Err g) reading) is h
-
 -- a line where no index is there is answered by what was read of it
 pub first_is : (lang : Language) → (line : ℕ) (bytes : List ℕ) (reading : LineRequest) → line_request lang None bytes ≡ reading
     → answer lang line None bytes ≡ answer_of line None reading

@@ -4,7 +4,6 @@ use Rattle.std.proofs.lemmas.Grind.{merely}
 use Rattle.outer_io.specs.Files.{Files}
 use Rattle.outer_io.specs.declared.file_name.FileName.{FileName}
 use Rattle.stored_index.specs.Kept.{SameKept}
-use Rattle.stored_index.proofs.KeptFiles.{kept_after}
 use Rattle.run_status.specs.Ends.{HasStopCause, OnStopDamage}
 use Rattle.run_status.specs.declared.stop.Stop.{Stop}
 use Rattle.run_status.specs.declared.stop.Stop.TheVariants as stop
@@ -15,7 +14,6 @@ use Rattle.script_run.specs.Runs.{EndsLines, EndsRead, Halts}
 use Rattle.page_cache.specs.declared.faults.Damage.{Damage}
 use Rattle.script_run.specs.declared.halt.Halt.{Halt}
 use Rattle.script_run.specs.declared.halt.Halt.TheVariants as halt
-use Rattle.script_run.proofs.Calling.{stop_after}
 use Rattle.script_run.proofs.Shown.{stop_named}
 use Rattle.index_opening.specs.Evidence.{IsEvidentSince, IsEvidentWith, IsOfListed, IsOfEntries, MayBeNeeded}
 use Rattle.script_run.specs.Script.{Meaning}
@@ -70,12 +68,6 @@ halted_no_source done result is e = by_done done (sym is ∙ e)
 -- memory was wanting, and no object failed
 pub memory_cause : {T : Type 0} (f0 f1 k0 k1 : ℕ) → f0 ≤ f1 → k0 ≤ k1 → HasStopCause {T = T} f0 f1 k0 k1 (Err stop.Memory)
 memory_cause f0 f1 k0 k1 f k = record { folder_later = f; sink_later = k; folder = λ e. absurd cc; sink = λ e. absurd cc }
-
--- what was kept before is still
-pub halt_after : {T : Type 0} (a b c : Files) (result : Result T Halt) → SameKept a b → HaltKeeps b c result → HaltKeeps a c result
-halt_after {T} a b c (Ok x) first h = stop_after {T = T} a b c (Ok x) first h
-halt_after {T} a b c (Err (halt.Stopped s)) first h = stop_after {T = T} a b c (Err s) first h
-halt_after {T} a b c (Err halt.Source) first h = kept_after a b c first h
 
 -- under another premise, over the same files, and where other files may be needed
 pub halt_named : {X : Type 0} (O P : FileName → Type 0) (S T : Type 0) (files : Files) (result : Result X Halt) → (T → S)

@@ -11,7 +11,7 @@ use Rattle.point_codec.specs.Points.{Region, in_box}
 use Rattle.documents.specs.Documents.{Document, hits, passes}
 use Rattle.script_lang.specs.Reading.{Reading, Says, read}
 use Rattle.script_lang.specs.Replies.{hits_text}
-use Rattle.script_lang.specs.Requests.{Request, Viewed}
+use Rattle.script_lang.specs.Requests.{Viewed}
 use Rattle.script_lang.specs.Requests as asks
 use Rattle.range_docs.specs.Ranges.{AreEnds, Decides, IsQuery, box_for, range_of}
 use Rattle.range_docs.specs.Reading.{Asks, Finds, RangeReading, if_blank, range_read, read_range_text}

@@ -1,8 +1,6 @@
 //! Answers that were reckoned by hand: over a buffer, over stored segments and over both; how often a search reads;
 //! and what it says of a leaf that is damaged.
 
-ghost use Rattle.std.specs.Prelude.{◌≤◌};
-
 use crate::asserts::{same, same_at};
 use crate::stored::{
     ASTRAY, AT_TEN, ONE_FIELDS, ONE_TO_NINE, Stored, THREE_LEAVES, TWO_FIELDS, open_alone, store,

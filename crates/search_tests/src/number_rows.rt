@@ -1,6 +1,6 @@
 //! Small sets and lists, with answers reckoned by hand.
 
-ghost use Rattle.std.specs.Prelude.{◌<◌, ◌^◌, All};
+ghost use Rattle.std.specs.Prelude.{◌<◌};
 
 use crate::asserts::{same, same_at};
 use byte_cursor::Memory;

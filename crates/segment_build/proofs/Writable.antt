@@ -23,7 +23,7 @@ use Rattle.bkd_build.specs.Canon.{KdTree, Leaf, Split, entries_of, leaves_of, in
 use Rattle.bkd_build.proofs.Counts.{leaves_unique}
 use Rattle.bkd_build.proofs.Leaves.{size_at, are_leaves, built_in_any_order}
 use Rattle.bkd_build.proofs.Whole.{unmapped}
-use Rattle.segment_build.specs.NewSegments.{NewSegmentData, HasEntries, HasSomeEntries, IsCanonical}
+use Rattle.segment_build.specs.NewSegments.{NewSegmentData, HasEntries, HasSomeEntries}
 
 -- the least multiple of a leaf that has the entries
 holds_all : (leaf_size count n left : ℕ) → n * leaf_size + left ≡ count + leaf_size - 1 → left < leaf_size → 1 ≤ count
@@ -162,17 +162,6 @@ pub can_write : (D id : ℕ) (n : NewSegmentData) (index : Body) (leaves : List 
     → ∥ CanWrite D id n.leaf_size n.entries index leaves ∥₁
 can_write D id n index leaves same_index same_leaves some =
     ∥∥₁_map some (λ s. record { items = s.items; fits = fits_parts D id n index leaves s.items same_index same_leaves s.has })
-
--- and its head is canonical
-pub head_canonical : (D id : ℕ) (n : NewSegmentData) (head : Head) (items : List Item) → head ≡ head_of id n.entries n.leaf_size n.index → HasEntries D items n
-    → IsCanonical D head items
-head_canonical D id n head items is h = subst (λ (g : Head). IsCanonical D g items) (sym is) (record {
-  root = h.built.root;
-  tree = h.built.tree;
-  canon = h.built.canon;
-  form = h.built.form;
-  index = h.built.index;
-})
 
 -- it has 1 to 8 dimensions
 pub some_dims : (D : ℕ) (n : NewSegmentData) → ∥ HasSomeEntries D n ∥₁ → (1 ≤ D) × (D ≤ 8)

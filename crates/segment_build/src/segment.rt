@@ -41,11 +41,11 @@ impl<const D: usize> Model for NewSegment<D> {
 }
 
 impl<const D: usize> NewSegment<D> {
-    ghost use Rattle.std.specs.Prelude.{◌≡◌, ◌≤◌, ℕ, List, IsTrue, IfOk};
+    ghost use Rattle.std.specs.Prelude.{◌≡◌, ◌≤◌, List, IsTrue, IfOk};
     ghost use Rattle.outer_io.specs.Files.{bytes_of, SameBut};
     ghost use Rattle.outer_io.specs.declared.file_name.FileName.TheVariants.{Segment};
     ghost use Rattle.point_codec.specs.Points.{Item};
-    ghost use Rattle.live_bits.specs.LiveSet.{IsLiveSet, is_live, live_set_without};
+    ghost use Rattle.live_bits.specs.LiveSet.{is_live, live_set_without};
     ghost use Rattle.outer_io.specs.Faults.{HasWriteCause};
     ghost use Rattle.segment_file.specs.Segments.{IsSegment};
     ghost use Rattle.segment_file.specs.Written.{head_of};

@@ -19,7 +19,7 @@ use Rattle.page_cache.specs.declared.faults.PageFault.{PageFault}
 use Rattle.page_cache.specs.declared.faults.PageFault.TheVariants.{Failed, Damaged, Memory}
 use Rattle.page_cache.proofs.PageRuns.{payloads_join, payloads_of_one, pages_from_first}
 use Rattle.segment_file.specs.Heads.{Head, Fields, AreFields, HasRanges, IsHead, fields_bytes, fields_of, index_pages}
-use Rattle.segment_file.specs.Segments.{SpellsHead, IsHeadOf, AreBeforeLeaves, OnePage, WithIndex}
+use Rattle.segment_file.specs.Segments.{SpellsHead, IsHeadOf, AreBeforeLeaves, WithIndex}
 use Rattle.segment_file.specs.Written.{head_of}
 use Rattle.segment_file.specs.FieldsSeen.{fields_said, HasFields, IsIndexOf}
 use Rattle.segment_file.specs.declared.fields.HeadFields.{HeadFields}
@@ -179,15 +179,6 @@ head_said D bytes id h p payload f same has = fields_same payload f (fields_of D
 pub before_leaves : (bytes payload : List ℕ) (f : HeadFields) → payload ≡ payload_of (page_at bytes 0) → HasFields payload f
     → AreBeforeLeaves bytes (1 + pages_for f.index_length)
 before_leaves bytes payload f same has = WithIndex (fields_said f) has.are (sym same ∙ has.is) (omega arith)
-
-pub before_leaves_of : (D : ℕ) (bytes : List ℕ) (h : Head) (n : ℕ) → IsHeadOf D bytes h → AreBeforeLeaves bytes n → n ≤ 1 + index_pages h
-unfolding IsHeadOf
-before_leaves_of D bytes h n p (OnePage one) = omega (arith, one)
-before_leaves_of D bytes h n p (WithIndex f are is few) =
-    let g = fields_of D h (pages_of p.tree) in
-    let same = fields_unique f g (zeros f) (zeros g) (narrow_fields f are)
-    (narrow_fields g (head_fields D h (pages_of p.tree) p.spells.ranges p.spells.said_fits)) (sym is ∙ p.spells.first) in
-    omega (arith, few, ap (λ (l : ℕ). pages_for l) same.index_length)
 
 -- all payloads before the leaf pages
 pub head_payloads : (files : Files) (id count : ℕ) (payload rest : List ℕ) → IsFilePage (Segment id) (bytes_of (files (Segment id))) 0

@@ -1,11 +1,11 @@
 -- A file of live bits has one set.
-use Rattle.std.proofs.Common.{◌≡◌, ◌<◌, ◌^◌, ◌+◌, ◌-◌, ◌*◌, ◌/◌, ℕ, List, [], ◌++◌, length, replicate, sym, ap, subst, ◌∙◌, arith, append_assoc, length-append}
+use Rattle.std.proofs.Common.{◌≡◌, ◌+◌, ◌-◌, ◌*◌, ◌/◌, ℕ, List, [], ◌++◌, length, replicate, sym, ap, subst, ◌∙◌, arith, append_assoc, length-append}
 use Rattle.std.specs.Int.{w32, to_be_bytes}
 use Rattle.std.proofs.lemmas.List.{append_cancel_left}
 use Rattle.byte_cursor.proofs.Numbers.{spelling_unique}
 use Rattle.live_bits.specs.LiveSet.{LiveSet}
 use Rattle.live_bits.specs.LiveBody.{head, IsLiveBody}
-use Rattle.live_bits.proofs.Heads.{name, sizes, head-parts, head-length, live_in-length}
+use Rattle.live_bits.proofs.Heads.{name, sizes, head-parts, head-length}
 use Rattle.live_bits.proofs.Bodies.{one_set}
 use Rattle.page_cache.specs.FilePages.{payloads_of}
 use Rattle.page_cache.specs.Bodies.{pages_for, padded_body}
@@ -18,11 +18,6 @@ body_length segment generation s body h =
     let len = h.are_bits.len in
     let front = head-length segment generation s.base s.span (length s.live) in
     ap (λ (x : List ℕ). length x) h.spelling ∙ length-append (head segment generation s.base s.span (length s.live)) h.bits ∙ omega (arith, len, front)
-
-few : (segment generation : ℕ) (s : LiveSet) (body : List ℕ) → IsLiveBody segment generation s body → length s.live < 2 ^ 32
-few segment generation s body h =
-    let limit = h.are_bits.limit in
-    omega (arith, ap (λ (x : List ℕ). length x) h.numbers, live_in-length s.base s.span h.bits)
 
 -- the span of two bodies that begin alike
 same_span : (segment generation : ℕ) (s t : LiveSet) (a b x y : List ℕ) → IsLiveBody segment generation s a → IsLiveBody segment generation t b

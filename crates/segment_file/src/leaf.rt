@@ -1,7 +1,7 @@
 //! One leaf, read in place in a page that the cache keeps.
 
-ghost use Rattle.std.specs.Prelude.{◌≡◌, ◌≤◌, ◌<◌, ◌+◌, ℕ, List, length, take, drop, IsTrue, IsOk, IfOk, OnOk};
-ghost use Rattle.std.specs.Prelude.{OnErr, IfSome, IfNone};
+ghost use Rattle.std.specs.Prelude.{◌≡◌, ◌≤◌, ◌<◌, ◌+◌, ℕ, List, length, take, drop, IsTrue, IsOk, IfOk};
+ghost use Rattle.std.specs.Prelude.{IfSome, IfNone};
 ghost use Rattle.outer_io.specs.Files.{Files, bytes_of};
 ghost use Rattle.outer_io.specs.declared.file_name.FileName.TheVariants.{Segment};
 ghost use Rattle.point_codec.specs.Points.{Item, Region};

@@ -218,13 +218,6 @@ came_again doc = came_gone (gone_as doc) (gone_waits_not doc) ∙ back
     back : gone_as doc - 2147483648 ≡ came_as doc
     back = omega arith
 
--- what was gone stays as it is
-pub gone_stays : (doc : ℕ) → waits doc ≡ false → gone_as doc ≡ doc
-gone_stays doc e = let le = ltb-false doc 2147483648 e in omega (arith, le, came_gone doc e)
-
-pub gone_now : (doc : ℕ) → waits doc ≡ true → gone_as doc ≡ doc + 2147483648
-gone_now doc e = ap (λ n. n + 2147483648) (came_waiting doc e)
-
 pub waiting_out : (number : ℕ) (held : List Item) → waiting (map (out_of number) held) ≡ entries_but number (waiting held)
 waiting_out number [] = refl
 waiting_out number (x ∷ xs) = by (waiting_out number xs) (waits x.doc) (eqb (came_as x.doc) number) refl refl

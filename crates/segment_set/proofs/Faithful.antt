@@ -16,9 +16,8 @@ use Rattle.segment_file.proofs.Unique.{head_of_segment}
 use Rattle.segment_view.specs.LiveSegments.{LiveSegment, parts_among}
 use Rattle.file_names.specs.Names.{NameList, is_named}
 use Rattle.segment_set.specs.Sets.{BegunMerge, IsNamed, IsWell, NamedView, SetData, inputs_of, set_but}
-use Rattle.segment_set.specs.Kept.{AreCanonical, Follows, HasCanonical, KeepsNamed, StaysButCache}
+use Rattle.segment_set.specs.Kept.{AreCanonical, Follows, HasCanonical, KeepsNamed}
 use Rattle.segment_set.specs.Merged.{Rearranges}
-use Rattle.segment_set.specs.Losing.{KeepsBegun}
 use Rattle.segment_set.specs.Faithful.{HasFileHead, IsFaithful}
 use Rattle.segment_set.proofs.BegunKept.{begun_alike, begun_none, begun_without}
 
@@ -60,17 +59,6 @@ faithful_parts D f g names old new named same follows canon has =
 pub part_files : (D : ℕ) {f g : Files} (s : SetData) → IsWell D s → ((m : FileName) → is_named s.names.names m ≡ true → g m ≡ f m) → (p : LiveSegment)
     → Contains s.parts p → g (Segment p.head.id) ≡ f (Segment p.head.id)
 part_files D s well same p there = same (Segment p.head.id) (All-contains (IsNamed s.names) s.parts p well.named there)
-
--- where only kept pages went or came
-pub faithful_cache : (D : ℕ) (f g : Files) (s t : SetData) → StaysButCache s t → g ≡ f → Agrees g t.cache → IsFaithful D f s → IsFaithful D g t
-faithful_cache D f g s t stays same agrees is = record {
-  pages = agrees;
-  heads =
-      subst (λ (h : Files). All (HasFileHead D h) t.parts) (sym same) (subst (All (HasFileHead D f)) (sym (ap (λ (u : SetData). u.parts) stays.is)) is.heads);
-  kept = subst (λ (h : Files). All (λ v. All (HasFileHead D h) v.parts) t.snapshots) (sym same)
-      (subst (λ (vs : List NamedView). All (λ v. All (HasFileHead D f) v.parts) vs) (sym (ap (λ (u : SetData). u.snapshots) stays.is)) is.kept);
-  begun = subst (λ (h : Files). KeepsBegun D h t) (sym same) (subst (KeepsBegun D f) (sym stays.is) is.begun);
-}
 
 -- where merges and flushes arranged it anew
 pub faithful_rearranged : (D : ℕ) (told : Type 0) (f g : Files) (s t : SetData) → IsWell D s → Rearranges D told f g s t → told

@@ -113,11 +113,3 @@ held_dropped next live held now dropped is =
       below = All-filter (λ (x : Item). waits x.doc) (λ x. came x < next) held is.below;
       counted = is.counted ∙ ap length (sym (waiting_twice held));
     })
-
-pub held_none : (next : ℕ) (held : List Item) → held ≡ [] → IsHeld next 0 held
-held_none next held none =
-    subst (IsHeld next 0) (sym none) (record {
-      ordered = λ i j d le lt. absurd (omega (arith, lt));
-      below = λ k d lt. absurd (omega (arith, lt));
-      counted = refl;
-    })

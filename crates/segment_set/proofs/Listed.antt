@@ -22,9 +22,6 @@ pub same_at : {X Y Z : Type 0} (f : X → Z) (g : Y → Z) (xs : List X) (ys : L
 same_at f g xs ys i d e in_xs in_ys same =
     sym (get_or-map f xs i d (f d) in_xs) ∙ ap (λ zs. get_or zs i (f d)) same ∙ get_or-map g ys i e (f d) in_ys
 
-pub same_length : {X Y Z : Type 0} (f : X → Z) (g : Y → Z) (xs : List X) (ys : List Y) → map f xs ≡ map g ys → length xs ≡ length ys
-same_length f g xs ys same = sym (length-map xs f) ∙ ap length same ∙ length-map ys g
-
 -- ---- the live sets of segments
 
 pub counts_lives : (parts : List LiveSegment) → map (λ (s : LiveSet). length s.live) (lives_of parts) ≡ map (λ (p : LiveSegment). length p.live.live) parts

@@ -20,18 +20,6 @@ map_heads f (p ∷ ps) = ap (λ xs. f p.head.id ∷ xs) (map_heads f ps)
 
 -- ---- positions, each once
 
-among_push : (xs : List ℕ) (n m : ℕ) → is_among (xs ++ n ∷ []) m ≡ (is_among xs m || eqb n m)
-among_push [] n m = right (eqb n m)
-  where
-    right : (b : Bool) → (b || false) ≡ b
-    right true = refl
-    right false = refl
-among_push (x ∷ xs) n m = ap (λ b. eqb x m || b) (among_push xs n m) ∙ assoc (eqb x m) (is_among xs m) (eqb n m)
-  where
-    assoc : (a b c : Bool) → (a || (b || c)) ≡ ((a || b) || c)
-    assoc true b c = refl
-    assoc false b c = refl
-
 pub once_more : (xs : List ℕ) (n : ℕ) → each_once (xs ++ n ∷ []) ≡ cond (is_among xs n) (each_once xs) (each_once xs ++ n ∷ [])
 once_more [] n = refl
 once_more (x ∷ xs) n = by (is_among xs n) (eqb x n) refl (once_more xs n)

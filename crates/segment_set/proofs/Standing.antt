@@ -3,7 +3,7 @@ use Rattle.std.proofs.Common.{◌≡◌, ℕ, ◌+◌, ◌≤◌, Bool, true, eq
 use Rattle.std.proofs.Common.{Option, Some, None, is_some, refl, sym, ap, subst, ◌∙◌, arith}
 use Rattle.std.specs.List.{All, AllZip, Contains, filter, sum_by}
 use Rattle.std.proofs.lemmas.List.Elements.{All-contains, All-filter, All-head, All-tail}
-use Rattle.std.proofs.lemmas.List.Sums.{sum_by-append, sum_by-cons}
+use Rattle.std.proofs.lemmas.List.Sums.{sum_by-cons}
 use Rattle.outer_io.specs.declared.file_name.FileName.TheVariants.{Segment}
 use Rattle.outer_io.specs.Files.{Files}
 use Rattle.point_codec.specs.Points.{Item}
@@ -28,18 +28,8 @@ use Rattle.segment_set.specs.Kept.{KeepsNamed}
 pub totals_none : (xs : List Item) → SameTotals xs xs
 totals_none xs f = refl
 
-pub totals_is : (xs ys : List Item) → ys ≡ xs → SameTotals xs ys
-totals_is xs ys same f = ap (sum_by f) same
-
-pub totals_back : (xs ys : List Item) → SameTotals xs ys → SameTotals ys xs
-totals_back xs ys same f = sym (same f)
-
 pub totals_then : (xs ys zs : List Item) → SameTotals xs ys → SameTotals ys zs → SameTotals xs zs
 totals_then xs ys zs first second f = second f ∙ first f
-
-pub totals_append : (xs ys us vs : List Item) → SameTotals xs us → SameTotals ys vs → SameTotals (xs ++ ys) (us ++ vs)
-totals_append xs ys us vs first second f =
-    sum_by-append f us vs ∙ ap (λ n. n + sum_by f vs) (first f) ∙ ap (λ n. sum_by f xs + n) (second f) ∙ sym (sum_by-append f xs ys)
 
 pub totals_length : (xs ys : List Item) → SameTotals xs ys → length ys ≡ length xs
 totals_length xs ys same = sym (counts ys) ∙ same (λ _. 1) ∙ counts xs
@@ -184,9 +174,6 @@ pub record IsLike (s t : SetData) : Type 0 where
   pub next : t.next ≡ s.next
   pub points_given : t.points_given ≡ s.points_given
   pub snapshots : t.snapshots ≡ s.snapshots
-
-pub like_itself : (s : SetData) → IsLike s s
-like_itself s = record { leaf_size = refl; next = refl; points_given = refl; snapshots = refl }
 
 -- another set over other files, with the same entries in whatever order
 pub sees_moved : (D : ℕ) (old new : Files) (s t : SetData) (i : Index) (d : Contents) (seen : Sees D old s i) → IsWell D s

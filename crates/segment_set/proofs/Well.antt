@@ -57,9 +57,6 @@ cond_le : (a b : Bool) → (a ≡ true → b ≡ true) → cond a 1 0 ≤ cond b
 cond_le true b h = subst (λ c. 1 ≤ cond c 1 0) (sym (h refl)) (omega arith)
 cond_le false b h = omega arith
 
-pub fewer_entries : (keeps : ℕ → Bool) (m : ℕ) (xs : List Item) → cond (has_entry m (filter (λ (x : Item). keeps x.doc) xs)) 1 0 ≤ cond (has_entry m xs) 1 0
-fewer_entries keeps m xs = cond_le _ _ (λ e. left_of (has_entry m xs) (keeps m) (sym (has_filtered keeps m xs) ∙ e))
-
 -- ---- numbers that are live
 
 pub places_cons : (m : ℕ) (s : LiveSet) (ss : List LiveSet) → places m (s ∷ ss) ≡ cond (is_live s m) 1 0 + places m ss

@@ -22,11 +22,6 @@ use Rattle.segment_set.specs.Merges.{IsMerged, Replaces, part_at}
 use Rattle.segment_set.proofs.Replaced.{all_placed, but_placed, id_of_part, length_placed}
 use Rattle.segment_set.proofs.Weller.{free_id}
 
-keeps_all : (keep : LiveSegment → Bool) (ps : List LiveSegment) → ((p : LiveSegment) → Contains ps p → keep p ≡ true) → filter keep ps ≡ ps
-keeps_all keep [] all = refl
-keeps_all keep (p ∷ ps) all =
-    rw (all p (cons_head p ps)) (ap (λ (qs : List LiveSegment). p ∷ qs) (keeps_all keep ps (λ q there. all q (cons_tail p ps q there))))
-
 keeps_none : (keep : LiveSegment → Bool) (ps : List LiveSegment) → ((p : LiveSegment) → Contains ps p → keep p ≡ false) → filter keep ps ≡ []
 keeps_none keep [] none = refl
 keeps_none keep (p ∷ ps) none = rw (none p (cons_head p ps)) (keeps_none keep ps (λ q there. none q (cons_tail p ps q there)))

@@ -1,6 +1,6 @@
 //! The set, and what is known of it without its files.
 
-ghost use Rattle.std.specs.Prelude.{◌≡◌, ◌≤◌, ◌↔◌, List, [], None, false, IfOk, is_some};
+ghost use Rattle.std.specs.Prelude.{◌≡◌, ◌≤◌, ◌↔◌, [], None, false, IfOk, is_some};
 ghost use Rattle.outer_io.specs.Files.{Files};
 ghost use Rattle.leaf_codec.specs.Leaves.{leaf_limit};
 ghost use Rattle.page_cache.specs.Cache.{room_of};

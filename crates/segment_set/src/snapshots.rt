@@ -1,6 +1,6 @@
 //! Snapshots: views that are kept under a name, and how they are taken, found and let go.
 
-ghost use Rattle.std.specs.Prelude.{◌≡◌, ◌≤◌, ◌<◌, ◌++◌, ◌∷◌, ◌↔◌, ℕ, [], None, Some, false, true, not, length, filter};
+ghost use Rattle.std.specs.Prelude.{◌≡◌, ◌≤◌, ◌<◌, ◌++◌, ◌∷◌, ◌↔◌, [], None, Some, false, true, not, length, filter};
 ghost use Rattle.std.specs.Prelude.{OnOk, OnErr, IsErrOf};
 ghost use Rattle.std.specs.Str.{bytes_eq};
 ghost use Rattle.outer_io.specs.Files.{Files};
@@ -40,7 +40,7 @@ impl<const D: usize> Snapshot<D> {
 }
 
 impl<const D: usize> SegmentSet<D> {
-    ghost use Rattle.segment_set.specs.Sets.{NamedView, SetData, has_name, set_released, set_snapped};
+    ghost use Rattle.segment_set.specs.Sets.{NamedView, has_name, set_released, set_snapped};
     ghost use Rattle.segment_set.specs.Seen.{Sees};
     ghost use Rattle.segment_set.specs.Faithful.{IsFaithful};
     ghost use Rattle.segment_set.specs.declared.faults.SnapFault.TheVariants.{Taken, TooMany};

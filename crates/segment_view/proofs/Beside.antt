@@ -40,10 +40,6 @@ length_parts [] lives e = refl
 length_parts (h ∷ hs) [] e = absurd (omega (arith, e))
 length_parts (h ∷ hs) (l ∷ ls) e = let r = length_parts hs ls (omega (arith, e)) in omega (arith, r)
 
-pub parts_again : (parts : List LiveSegment) → parts_of (heads_of parts) (lives_of parts) ≡ parts
-parts_again [] = refl
-parts_again (p ∷ ps) = ap (λ zs. p ∷ zs) (parts_again ps)
-
 pub parts-append : (heads more : List Head) (lives others : List LiveSet) → length lives ≡ length heads
     → parts_of (heads ++ more) (lives ++ others) ≡ parts_of heads lives ++ parts_of more others
 parts-append [] more [] others e = refl

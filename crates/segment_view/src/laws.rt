@@ -1,6 +1,6 @@
 //! Laws of segments and their live entries. Each function has an empty body: its contract is the law.
 
-ghost use Rattle.std.specs.Prelude.{◌≡◌, ◌++◌, ◌&&◌, ◌⊎◌, ℕ, Bool, List, [], ◌∷◌, not, nat_eq, true, Contains};
+ghost use Rattle.std.specs.Prelude.{◌≡◌, ◌++◌, ◌&&◌, ℕ, Bool, List, [], ◌∷◌, not, nat_eq, Contains};
 ghost use Rattle.outer_io.specs.Files.{Files};
 ghost use Rattle.outer_io.specs.declared.file_name.FileName.TheVariants.{Segment};
 ghost use Rattle.page_cache.specs.declared.cache.PageCache.{PageCache};

@@ -1,6 +1,6 @@
 //! The documents nearest to a point.
 
-ghost use Rattle.std.specs.Prelude.{◌≡◌, ◌≤◌, ◌+◌, ◌++◌, ℕ, List, All, Contains, IsTrue, IfOk};
+ghost use Rattle.std.specs.Prelude.{◌≤◌, ◌+◌, ◌++◌, ℕ, List, All, Contains, IsTrue, IfOk};
 ghost use Rattle.point_codec.specs.declared.entries.Near.{Near};
 ghost use Rattle.point_codec.specs.Seen.{items_of};
 ghost use Rattle.inner_pack.specs.Trees.{IndexTree};

@@ -8,7 +8,7 @@ ghost use Rattle.outer_io.specs.Files.{Files, bytes_of, SameBut, SameButTwo};
 ghost use Rattle.point_codec.specs.Points.{Item};
 ghost use Rattle.documents.specs.Documents.{Document, is_live as is_live_doc};
 ghost use Rattle.documents.specs.Entries.{AreDocs, MakeDocs, has_entry};
-ghost use Rattle.index_model.specs.State.{Index, State};
+ghost use Rattle.index_model.specs.State.{State};
 ghost use Rattle.live_bits.specs.LiveSet.{LiveSet, IsLiveSet, is_live};
 ghost use Rattle.commit_list.specs.declared.listed.Listed.{Listed};
 ghost use Rattle.commit_list.specs.Commits.{CommitData, IsListed};

@@ -1,5 +1,5 @@
 -- The lines are answered while the merge begins.
-use Rattle.std.proofs.Common.{◌≡◌, ◌∙◌, All, Err, List, length, lit<, map, ap, refl, subst, sym}
+use Rattle.std.proofs.Common.{◌≡◌, ◌∙◌, All, Err, List, length, lit<, map, ap, subst, sym}
 use Rattle.std.specs.List.{flat_map}
 use Rattle.std.proofs.lemmas.Result.{err_from_is_err_and}
 use Rattle.page_cache.specs.declared.faults.PageFault.{PageFault}

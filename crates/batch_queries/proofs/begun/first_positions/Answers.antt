@@ -1,6 +1,6 @@
 -- One position after the other.
-use Rattle.std.proofs.Common.{◌≡◌, ◌+◌, ◌++◌, ℕ, suc, List, [], ◌∷◌, ap, arith, refl, sym, ◌∙◌}
-use Rattle.batch_queries.specs.Merging.{below, merged_count}
+use Rattle.std.proofs.Common.{◌≡◌, ◌+◌, ◌++◌, ℕ, suc, List, [], ◌∷◌, ap, arith, ◌∙◌}
+use Rattle.batch_queries.specs.Merging.{below}
 use Rattle.batch_queries.proofs.begun.first_positions.Goals as goal
 
 pub loop-position-preserved : goal.loop-position-preserved

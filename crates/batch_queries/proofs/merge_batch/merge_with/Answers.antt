@@ -1,7 +1,6 @@
 -- All is answered before the text goes out, and the merge is ended after it.
-use Rattle.std.proofs.Common.{◌≡◌, Err, IsTrue, ap, refl, subst, sym, ◌∙◌}
+use Rattle.std.proofs.Common.{Err, ap, refl, ◌∙◌}
 use Rattle.std.proofs.lemmas.Result.{err_from_is_err_and}
-use Rattle.index_core.proofs.Sizes.{session_fits}
 use Rattle.run_status.specs.declared.stop.Stop.{Stop}
 use Rattle.batch_queries.proofs.MergeCalls.{sent_part, sent_whole, status_known}
 use Rattle.batch_queries.proofs.Merged.{all_merged, beside_cut, beside_stopped, end_stopped}

@@ -1,9 +1,7 @@
 -- The file that was read is the source's bytes, and its lines end as one record says.
-use Rattle.std.proofs.Common.{◌≡◌, ◌∙◌, ◌≤◌, ◌^◌, ℕ, IsTrue, List, length, inl, inr, refl, sym, subst}
-use Rattle.script_lang.specs.Lines.{lines_of}
+use Rattle.std.proofs.Common.{◌∙◌, ◌≤◌, ◌^◌, ℕ, List, length, inl, inr, refl, sym, subst}
 use Rattle.stored_index.proofs.KeptFiles.{kept_itself}
 use Rattle.run_status.specs.Ends.{DoesNothing}
-use Rattle.batch_queries.specs.MergeRuns.{MergesBatch}
 use Rattle.batch_queries.proofs.MergeCalls.{all_evident, status_is}
 use Rattle.batch_queries.proofs.merge_batch.run_merging_batch.Goals as goal
 

@@ -1,5 +1,5 @@
 -- The words say which command is run; where they are of none nothing is done.
-use Rattle.std.proofs.Common.{arith, ◌∙◌, ◌≡◌, true, false, Option, Err, IsTrue, refl, sym, ap, subst, inl, inr}
+use Rattle.std.proofs.Common.{arith, ◌≡◌, true, false, Option, Err, IsTrue, refl, sym, ap, subst, inl, inr}
 use Rattle.command_words.specs.Commands.{Task}
 use Rattle.command_words.specs.declared.WordsFault.{WordsFault}
 use Rattle.bkd_top.specs.Calls.{LeavesTask, OnTask, TakesInput}

@@ -1,4 +1,4 @@
-use Rattle.std.proofs.Common.{◌≡◌, ◌*◌, List, ℕ, length, refl, sym, ap, subst, ◌∙◌}
+use Rattle.std.proofs.Common.{◌≡◌, ◌*◌, length, refl, sym, subst, ◌∙◌}
 use Rattle.page_cache.specs.Bodies.{pages_for}
 use Rattle.commit_list.specs.CommitFiles.{HasNoFilled}
 use Rattle.commit_list.proofs.CommitPages.{filled_none}

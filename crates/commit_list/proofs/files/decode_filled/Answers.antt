@@ -1,4 +1,4 @@
-use Rattle.std.proofs.Common.{◌≡◌, ◌*◌, ℕ, List, Option, length, take, replicate, subst, sym, ap, ◌∙◌, refl, MatchOption, IfOk}
+use Rattle.std.proofs.Common.{◌≡◌, ℕ, List, Option, length, take, replicate, subst, sym, refl, MatchOption, IfOk}
 use Rattle.std.proofs.lemmas.Result.{IfOk-weaker}
 use Rattle.commit_list.specs.Commits.{CommitData}
 use Rattle.commit_list.specs.Layout.{SpellsCommit, HasNoCommit}

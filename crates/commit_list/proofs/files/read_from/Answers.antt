@@ -1,11 +1,9 @@
-use Rattle.std.proofs.Common.{◌≡◌, ◌*◌, arith, sym, ap, subst, ◌∙◌, refl, ℕ, length}
+use Rattle.std.proofs.Common.{◌≡◌, ◌*◌, arith, sym, ap, ◌∙◌, refl, ℕ, length}
 use Rattle.std.proofs.lemmas.Result.{err_from_is_err_and, IfOk-weaker}
 use Rattle.outer_io.specs.Files.{bytes_of}
-use Rattle.outer_io.specs.declared.file_name.FileName.{FileName}
 use Rattle.outer_io.specs.declared.file_name.FileName.TheVariants.{Commit}
-use Rattle.page_cache.specs.FilePages.{ArePages, payloads_of}
 use Rattle.page_cache.specs.FirstPages.{first_name, first_size}
-use Rattle.page_cache.specs.Evidence.{FaultShows, IsSizeDamage, IsFileDamage}
+use Rattle.page_cache.specs.Evidence.{IsSizeDamage}
 use Rattle.page_cache.proofs.Damages.{fault_weaker}
 use Rattle.commit_list.specs.CommitFiles.{IsCommitFile, SpellsFilled, IsCommitDamageOf}
 use Rattle.commit_list.proofs.CommitDamages.{joined_fault_of, commit_size_of, first_is_there}

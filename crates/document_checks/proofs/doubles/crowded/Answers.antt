@@ -1,5 +1,5 @@
 use Rattle.document_checks.proofs.doubles.crowded.Given.{Over}
-use Rattle.std.proofs.Common.{◌≡◌, ◌<◌, ◌≤◌, ℕ, List, length, true, false, get_or, sym, subst, rules, is_lt}
+use Rattle.std.proofs.Common.{List, sym, subst, rules, is_lt}
 use Rattle.std.specs.List.Sorted.{IsPermutation, IsSorted}
 use Rattle.std.proofs.lemmas.Fn.{always_returns_same}
 use Rattle.std.proofs.lemmas.Option.{IfSome_then}

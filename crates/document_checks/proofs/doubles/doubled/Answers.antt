@@ -1,11 +1,11 @@
 use Rattle.document_checks.proofs.doubles.doubled.Given.{Over}
-use Rattle.std.proofs.Common.{◌≡◌, ◌-◌, ◌≤◌, ℕ, Bool, List, true, nat_eq, filter, count_by, eqb, sym, ap, subst, ◌∙◌, refl, arith}
+use Rattle.std.proofs.Common.{◌≡◌, ◌-◌, ◌≤◌, ℕ, Bool, List, true, filter, eqb, sym, ap, subst, ◌∙◌}
 use Rattle.std.proofs.lemmas.Bool.{eqb-true}
 use Rattle.std.proofs.lemmas.Option.{IfSome_then}
 use Rattle.point_codec.specs.Points.{Item}
 use Rattle.point_codec.specs.Seen.{items_of}
 use Rattle.point_codec.specs.declared.entries.Entry.{Entry}
-use Rattle.leaf_codec.specs.LeafOrder.{item_of, NoneTwice}
+use Rattle.leaf_codec.specs.LeafOrder.{NoneTwice}
 use Rattle.document_checks.specs.Marks.{is_marked}
 use Rattle.document_checks.specs.Crowded.{AreFew, IsLeastCrowded, count_of}
 use Rattle.document_checks.proofs.Moved.{IfNone_then, all_fit, count_entries, least_among, items-filter, lone}

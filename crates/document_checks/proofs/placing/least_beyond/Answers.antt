@@ -1,8 +1,8 @@
-use Rattle.std.proofs.Common.{◌≡◌, ℕ, List, take, ap, subst, ◌∙◌, arith}
+use Rattle.std.proofs.Common.{◌≡◌, List, take, subst, arith}
 use Rattle.std.proofs.lemmas.List.{take_all}
 use Rattle.live_bits.specs.LiveSet.{LiveSet}
 use Rattle.stored_index.specs.Segments.{places}
-use Rattle.document_checks.proofs.MarkedSets.{IsLeastNotGiven, not_given_more}
+use Rattle.document_checks.proofs.MarkedSets.{not_given_more}
 use Rattle.document_checks.proofs.placing.least_beyond.Goals as goal
 
 pub loop-live-preserved : goal.loop-live-preserved

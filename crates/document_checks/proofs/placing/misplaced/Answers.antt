@@ -1,7 +1,6 @@
-use Rattle.std.proofs.Common.{◌≡◌, ◌≤◌, ◌<◌, ◌^◌, ℕ, arith, inl, inr}
+use Rattle.std.proofs.Common.{◌≡◌, arith, inl, inr}
 use Rattle.std.proofs.lemmas.Bool.{cases_lt}
 use Rattle.stored_index.specs.Segments.{places}
-use Rattle.document_checks.specs.Placed.{IsPlacedOnce}
 use Rattle.document_checks.proofs.placing.misplaced.Goals as goal
 
 pub returns-then-beyond-lt-MOST_POINTS-clause-some : goal.returns-then-beyond-lt-MOST_POINTS-clause-some

@@ -1,4 +1,4 @@
-use Rattle.std.proofs.Common.{◌≡◌, ◌++◌, ℕ, ◌/◌, ◌-◌, List, length, map, take, drop, sym, ap, ◌∙◌, subst, arith, rules}
+use Rattle.std.proofs.Common.{◌≡◌, ◌++◌, ℕ, ◌/◌, ◌-◌, List, length, map, take, drop, sym, ap, ◌∙◌, subst, rules}
 use Rattle.std.proofs.lemmas.List.{take_rest, take-append-drop}
 use Rattle.ring_parity.specs.Seen.{ends_of}
 use Rattle.edge_tree.specs.declared.runs.Run.{Run}

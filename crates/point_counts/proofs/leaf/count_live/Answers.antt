@@ -1,4 +1,4 @@
-use Rattle.std.proofs.Common.{◌≡◌, ◌<◌, ◌+◌, ◌∙◌, ℕ, List, ℤ, false, true, ap, sym, subst, refl, length, take, drop, arith, rules}
+use Rattle.std.proofs.Common.{◌≡◌, ◌<◌, ◌+◌, ◌∙◌, ℕ, List, ℤ, false, true, ap, sym, subst, length, take, drop, arith, rules}
 use Rattle.std.proofs.Common.{eqb, cond}
 use Rattle.std.specs.Prelude.{All, int_lt}
 use Rattle.std.specs.Int.{w32}

@@ -1,4 +1,4 @@
-use Rattle.std.proofs.Common.{◌≡◌, true, false, sym, ap, ◌∙◌}
+use Rattle.std.proofs.Common.{true, false, sym, ap, ◌∙◌}
 use Rattle.point_codec.specs.Seen.{region_of}
 use Rattle.ring_parity.specs.Rings.{is_within}
 use Rattle.polygon_query.proofs.PolygonRelation.{one_point}

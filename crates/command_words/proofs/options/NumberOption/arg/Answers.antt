@@ -1,8 +1,7 @@
 use Rattle.std.proofs.Common.{rules, ◌≡◌, ◌∙◌, ap, arith, Some}
 use Rattle.std.specs.Prelude.{pos}
-use Rattle.std.proofs.lemmas.Int.{ints}
 use Rattle.clap.specs.Words.{Rule, rule_of}
-use Rattle.command_words.specs.Commands.{number_option, text_option}
+use Rattle.command_words.specs.Commands.{text_option}
 use Rattle.command_words.proofs.Ranges.{narrowed}
 use Rattle.clap.specs.declared.builder.value_parser.ValueParser.TheVariants.{Signed}
 use Rattle.command_words.proofs.options.NumberOption.arg.Goals as goal

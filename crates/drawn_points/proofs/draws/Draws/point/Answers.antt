@@ -1,5 +1,5 @@
-use Rattle.std.proofs.Common.{rules, ◌≡◌, ◌∙◌, ◌*◌, ◌∷◌, [], ap, ap₂, sym, List, ℤ, to_z, of_z, w32}
-use Rattle.drawn_points.specs.Draws.{coordinate, draw, next}
+use Rattle.std.proofs.Common.{rules, ◌≡◌, ◌∙◌, ◌∷◌, [], ap, ap₂, sym, ℤ, to_z, of_z, w32}
+use Rattle.drawn_points.specs.Draws.{coordinate, next}
 use Rattle.drawn_points.proofs.Pairs.{behind, first, second}
 use Rattle.drawn_points.proofs.draws.Draws.point.Goals as goal
 

@@ -1,7 +1,6 @@
-use Rattle.std.proofs.Common.{◌≡◌, ◌≤◌, true, false, Bool, drop, map, length}
-use Rattle.std.specs.Prelude.{All, count_by}
+use Rattle.std.proofs.Common.{◌≤◌, drop, map, length}
+use Rattle.std.specs.Prelude.{All}
 use Rattle.point_codec.specs.Seen.{region_of}
-use Rattle.ring_parity.specs.Edges.{EdgeEnds, misses}
 use Rattle.ring_parity.specs.Seen.{ends_of}
 use Rattle.edge_tree.specs.Nodes.{all_held_edges}
 use Rattle.edge_tree.specs.Ways.{IsStretch, all_on, AreNear}
