@@ -17,6 +17,7 @@ sys.dont_write_bytecode = True
 from house_clauses import faults_of_places
 from house_diagram import crates_of, draw, faults_of, floors_of
 from house_reading import fresh_reading
+from house_unused import unused
 
 ROOT = os.path.join(os.path.dirname(os.path.abspath(__file__)), "..")
 PICTURE, FLOORS, READING = "docs/images/crates.svg", "docs/ARCHITECTURE.md", "docs/READING.md"
@@ -190,7 +191,7 @@ def main(words):
         of_kind = {path: number for (k, path), number in numbers.items() if k == kind}
         print("%-24s %4d places beyond the bound, %d in sum" % (kind, len(of_kind), sum(of_kind.values())))
     faults = list(code_faults(numbers)) + list(page_faults()) + list(diagram_faults()) + list(reading_faults())
-    faults += list(link_faults()) + list(faults_of_places(ROOT))
+    faults += list(link_faults()) + list(faults_of_places(ROOT)) + list(unused(ROOT))
     for fault in faults:
         print("FAULT " + fault)
     print("%d faults" % len(faults))

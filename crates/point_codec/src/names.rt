@@ -16,7 +16,6 @@ pub struct Name {
 
 impl Model for Name {
     ghost use Rattle.std.specs.Prelude.{List, ℕ, take, length, ◌++◌, ◌-◌, replicate};
-    ghost use Rattle.std.proofs.Common.{length-take-le, arith};
     ghost use Rattle.point_codec.specs.Names.{IsPadded, padded_again, padded_length};
 
     ghost Value = { List ℕ };
