@@ -1,3 +1,4 @@
 pub mod Commanding
+pub mod Promised
 pub mod Finished
 pub mod Verdict

@@ -1,6 +1,6 @@
 -- What holds of every command, whatever the folder holds: which words are of none, what it reads of its input, and why
 -- it ended so.
-use Rattle.std.specs.Prelude.{ℕ, ◌≡◌, ◌⊎◌, Bool, IsTrue, List, [], Option, None, Some}
+use Rattle.std.specs.Prelude.{ℕ, ◌≡◌, ◌≤◌, ◌^◌, ◌⊎◌, Bool, true, IsTrue, List, [], length, Option, None, Some}
 use Rattle.outer_io.specs.Files.{Files}
 use Rattle.script_lang.specs.Lines.{lines_of}
 use Rattle.command_words.specs.Commands.{Task, Run, Load, Explain, Check, Generate, Session, Count, Ranges, Batch}
@@ -8,19 +8,21 @@ use Rattle.command_words.specs.Commands.{MergingBatch}
 use Rattle.index_model.specs.State.{State}
 use Rattle.stored_index.specs.Stored.{IsStored}
 use Rattle.index_opening.specs.Evidence.{IsEvidentSince}
+use Rattle.index_core.specs.Brought.{KeepsCommit}
 use Rattle.index_core.specs.KeptLive.{KeepsLive}
 use Rattle.index_core.specs.Light.{KeepsLevels}
+use Rattle.index_core.specs.Whole.{HasNewCanonical}
 use Rattle.run_status.specs.Ends.{IsAnswer, IsDamaged, OnStatusDamage}
 use Rattle.run_status.specs.declared.status.Status.{Status}
 use Rattle.run_status.specs.declared.status.Status.TheVariants as status
 use Rattle.script_run.specs.Kept.{RunCosts, StatusKeeps}
 use Rattle.script_run.specs.declared.language.Language.TheVariants as language
-use Rattle.run_status.specs.Causes.{ReadsInput}
+use Rattle.run_status.specs.Causes.{Counts, HasCauses, NoneRose, ReadsInput}
 use Rattle.count_queries.specs.Counts as counts
 use Rattle.batch_queries.specs.Ends.{LeavesNoText, ReadsOnce, StoresSome, TellsStored}
 use Rattle.batch_queries.specs.Merging.{MergeLeaves}
 use Rattle.bkd_top.specs.Checking.{Checks}
-use Rattle.bkd_top.specs.Commands.{ReadsFew}
+use Rattle.bkd_top.specs.Commands.{Before, EndsTask, ReadsFew, reads_input, reads_whole}
 
 -- words of no command are told as that, unless memory was wanting, and no others are
 pub record TellsUsage (task : Option Task) (s : Status) : Type 0 where
@@ -116,3 +118,39 @@ LeavesTask (Count cache) c s = CountCosts (IsTrue c.source) (lines_of c.input) c
 LeavesTask (Batch forks) c s = BatchLeaves c s
 LeavesTask (MergingBatch forks) c s = MergingLeaves c s
 LeavesTask Check c s = Checks (IsTrue c.sink) c.old c.new c.written c.written_now c.before c.now s
+
+-- ---- the program
+
+-- what stood before the call, over a folder that stores this state
+abbrev pub before_of : Call → State → Before
+before_of c state = record { state = state; files = c.old; input = c.input; written = c.written }
+
+-- over each state that the files store, of the command that is asked for, where the input that it reads is told
+abbrev pub OverStored : Call → Option Task → (Before → Task → Type 0) → Type 0
+OverStored c task P = (state : State) → IsStored c.old state → (a : Task) → task ≡ Some a
+    → (reads_input a ≡ true → IsTrue c.source) → P (before_of c state) a
+
+-- an input that is read as a whole isn't too large
+abbrev pub IsShort : Task → List ℕ → Type 0
+IsShort a input = reads_whole a ≡ true → length input ≤ 2 ^ 29
+
+-- What is promised of every call, by the command that its words ask for, if they ask for one: `told` says that the
+-- folder tells its files, `left` what the source has left, and the counts which faults were met before and after.
+pub record Promises (told : Type 0) (task : Option Task) (c : Call) (left : List ℕ) (faults faults_now : Counts)
+    (s : Status) : Type 0 where
+  pub usage : TellsUsage task s
+  -- the headline, and what each other end leaves of the text and of the folder
+  pub ends : told → OverStored c task (λ b a. EndsTask (IsTrue c.sink) a b c.new c.written_now s)
+  -- where no call failed it is done, or memory was wanting
+  pub complete : told → OverStored c task (λ b a. IsShort a c.input → NoneRose faults faults_now
+      → IsAnswer s ⊎ (s ≡ status.Memory))
+  pub input : IsTrue c.source → OnTask (λ a. TakesInput a c.input left s) task
+  -- each segment that the commit lists anew is canonical
+  pub canon : told → (state : State) → IsStored c.old state → IsAnswer s → HasNewCanonical c.old c.new
+  -- what it leaves and costs, whatever the folder holds
+  pub leaves : told → OnTask (λ a. LeavesTask a c s) task
+  -- whatever it ends with, what was kept is, or a commit of which each listed file is whole
+  pub lasting : told → KeepsCommit c.old c.new
+  -- why it ended otherwise
+  pub damage : TellsDamage told c.old c.new s
+  pub causes : HasCauses faults faults_now s

@@ -1,14 +1,14 @@
 //! The top call, `run`: which command the words ask for, and the contract of the whole program.
 
-ghost use Rattle.std.specs.Prelude.{◌≡◌, ◌≤◌, ◌^◌, ◌⊎◌, length, map, Some, true, false, IsTrue, string_bytes};
+ghost use Rattle.std.specs.Prelude.{◌≡◌, map, true, false, IsTrue, string_bytes};
 ghost use Rattle.index_model.specs.State.{State};
 ghost use Rattle.stored_index.specs.Stored.{IsStored};
 ghost use Rattle.run_status.specs.Ends.{DoesNothing};
-ghost use Rattle.command_words.specs.Commands.{Task, IsWithin, task_in, task_of};
+ghost use Rattle.command_words.specs.Commands.{IsWithin, task_in, task_of};
 ghost use Rattle.index_core.specs.Brought.{KeepsCommit};
 ghost use Rattle.index_core.specs.Whole.{HasNewCanonical};
-ghost use Rattle.run_status.specs.Causes.{HasCauses, NoneRose};
-ghost use Rattle.bkd_top.specs.Calls.{LeavesTask, OnTask, TakesInput, TellsDamage, TellsUsage};
+ghost use Rattle.run_status.specs.Causes.{HasCauses};
+ghost use Rattle.bkd_top.specs.Calls.{LeavesTask, Promises, TakesInput, TellsDamage};
 ghost use Rattle.run_status.specs.Ends.{IsAnswer};
 ghost use Rattle.bkd_top.specs.Commands.{EndsTask, does, is_session, reads_input, reads_whole};
 
@@ -55,31 +55,7 @@ pub fn run<S: Source, F: Folder, K: Sink, R: Threads + Sync, G: Gate>(
     out: &mut K,
     gate: &G,
 ) -> Status
-    ensures usage { TellsUsage (task_in (map string_bytes words.now)) result }
-    // the headline, and what each other end leaves of the text and the folder
-    ensures ends { IsTrue F.told → (state : State) → IsStored (F.files folder.old) state → (a : Task)
-        → task_in (map string_bytes words.now) ≡ Some a → (reads_input a ≡ true → IsTrue S.told)
-        → EndsTask (IsTrue K.told) a
-        (record { state = state; files = F.files folder.old; input = S.left input.old; written = K.written out.old })
-        (F.files folder.new) (K.written out.new) result }
-    // where no call failed, a command over a folder that stores a state is done, or memory was wanting
-    ensures complete { IsTrue F.told → (state : State) → IsStored (F.files folder.old) state → (a : Task)
-        → task_in (map string_bytes words.now) ≡ Some a → (reads_input a ≡ true → IsTrue S.told)
-        → (reads_whole a ≡ true → length (S.left input.old) ≤ 2 ^ 29)
-        → NoneRose (record { source = S.faults input.old; folder = F.faults folder.old; sink = K.faults out.old })
-        (record { source = S.faults input.new; folder = F.faults folder.new; sink = K.faults out.new })
-        → IsAnswer result ⊎ (result ≡ Status.Memory) }
-    ensures input { IsTrue S.told
-        → OnTask (λ a. TakesInput a (S.left input.old) (S.left input.new) result)
-        (task_in (map string_bytes words.now)) }
-    ensures unread { does (λ a. reads_input a) (task_in (map string_bytes words.now)) ≡ false → input.new ≡ input.old }
-    ensures untouched { does (λ a. is_session a) (task_in (map string_bytes words.now)) ≡ false → DoesNothing result
-        → (folder.new ≡ folder.old) × (out.new ≡ out.old) }
-    // each segment that the commit lists anew is canonical
-    ensures canon { IsTrue F.told → (state : State) → IsStored (F.files folder.old) state → IsAnswer result
-        → HasNewCanonical (F.files folder.old) (F.files folder.new) }
-    // what it leaves and costs, whatever the folder holds
-    ensures leaves { IsTrue F.told → OnTask (λ a. LeavesTask a
+    ensures all { Promises (IsTrue F.told) (task_in (map string_bytes words.now))
         (record {
           source = S.told;
           sink = K.told;
@@ -90,14 +66,14 @@ pub fn run<S: Source, F: Folder, K: Sink, R: Threads + Sync, G: Gate>(
           written_now = K.written out.new;
           before = F.reads folder.old;
           now = F.reads folder.new;
-        }) result) (task_in (map string_bytes words.now)) }
-    // whatever it ends with, what was kept is, or a commit of which each listed file is whole
-    ensures lasting { IsTrue F.told → KeepsCommit (F.files folder.old) (F.files folder.new) }
-    // why it ended otherwise
-    ensures damage { TellsDamage (IsTrue F.told) (F.files folder.old) (F.files folder.new) result }
-    ensures causes { HasCauses
+        })
+        (S.left input.new)
         (record { source = S.faults input.old; folder = F.faults folder.old; sink = K.faults out.old })
         (record { source = S.faults input.new; folder = F.faults folder.new; sink = K.faults out.new }) result }
+    // what reads no input leaves it, and what does nothing leaves all three
+    ensures unread { does (λ a. reads_input a) (task_in (map string_bytes words.now)) ≡ false → input.new ≡ input.old }
+    ensures untouched { does (λ a. is_session a) (task_in (map string_bytes words.now)) ≡ false → DoesNothing result
+        → (folder.new ≡ folder.old) × (out.new ≡ out.old) }
 {
     match read_words(alloc, words) {
         Ok(words) => run_command(rt, alloc, words, input, folder, out, gate),

@@ -1,7 +1,6 @@
 -- The status says how the lines ended.
 use Rattle.std.proofs.Common.{sym, subst, ◌∙◌}
 use Rattle.run_status.specs.Ends.{DoesNothing, IsAnswer, IsDamaged}
-use Rattle.run_status.specs.declared.status.Status.TheVariants as status
 use Rattle.script_run.proofs.Statuses.{never_refuses, read_folder, read_script, read_shows, read_sink, read_source, session_ends, session_undamaged, when_read}
 use Rattle.script_run.proofs.Statuses.{with_lines}
 use Rattle.script_run.specs.Languages.{meaning}
