@@ -94,6 +94,9 @@ def unused(root):
         for _, old, new, is_handed_on in file.words:
             if not is_handed_on and not file.says(new):
                 yield "%s brings in %s and doesn't say it" % (file.path, old)
+        for module, alias in file.wholes:
+            if alias != module and alias + "." not in file.text:
+                yield "%s brings in %s and doesn't say it" % (file.path, alias)
         if file.path.endswith(".antt") and not file.path.endswith(ANSWERS):
             of_others = cited.get(file.module(), set())
             for name in file.unsaid():

@@ -36,7 +36,6 @@ use Rattle.index_core.proofs.Listed.{attached_listed, new_canonical}
 use Rattle.index_core.proofs.Undone.{levels_after, undone_after}
 use Rattle.run_status.specs.Stops.{status_of, stop_of}
 use Rattle.run_status.specs.Told.{TellsAll}
-use Rattle.run_status.specs.declared.status.Status.TheVariants as status
 use Rattle.run_status.specs.declared.stop.Stop.{Stop}
 use Rattle.run_status.specs.declared.stop.Stop.TheVariants as stop
 use Rattle.run_status.proofs.Ending.{does_lines}

@@ -1,5 +1,5 @@
 -- The number that an option gives.
-use Rattle.std.proofs.Common.{◌≡◌, ◌∙◌, ◌^◌, ◌<◌, ◌≤◌, ap, ℕ, ℤ, Bool, true, false, List, [], ◌∷◌, drop}
+use Rattle.std.proofs.Common.{◌≡◌, ◌∙◌, ◌^◌, ◌<◌, ◌≤◌, ap, ℕ, Bool, true, false, List, [], ◌∷◌, drop}
 use Rattle.std.proofs.Common.{Option, Some, None, option_map, refl, sym, subst, inl, inr, arith, cond, ◌==◌, unwrap_or}
 use Rattle.std.specs.Prelude.{IfSome, pos, neg_ℤ, ◌≤ℤ◌, Ok, Err, Result}
 use Rattle.std.specs.Str.Parse.{IsNumeral, ParsesUnsigned, digits_value, starts_with_minus, without_leading_plus, without_leading_sign}

@@ -5,7 +5,6 @@ use Rattle.std.specs.Bool.{beq}
 use Rattle.std.proofs.lemmas.Bool.{or_cases, or_left, or_right}
 use Rattle.std.proofs.lemmas.Int.{ints}
 use Rattle.std.proofs.lemmas.List.Elements.{All-head, All-tail, All-nil, All-cons}
-use Rattle.ring_parity.specs.Edges as EdgeSpecs
 use Rattle.ring_parity.specs.Edges.{EdgeEnds, x_of, y_of, is_above, counts}
 use Rattle.ring_parity.specs.Rings.{is_odd}
 use Rattle.ring_parity.proofs.Crossing.{xor}

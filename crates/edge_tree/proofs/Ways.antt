@@ -12,7 +12,7 @@ use Rattle.ring_parity.specs.Rings.{AreClosed, is_on_any, is_odd, is_within}
 use Rattle.ring_parity.proofs.Crossing.{xor}
 use Rattle.ring_parity.proofs.Parity.{oddly, oddly_xor, oddly_same, AreClosed-marks, xor_self}
 use Rattle.ring_parity.proofs.Rays.{counts_level, counts_east}
-use Rattle.ring_parity.proofs.OneAnswer.{in_region, misses_by, mark, change, not_on, past}
+use Rattle.ring_parity.proofs.OneAnswer.{in_region, misses_by, mark, change, not_on}
 use Rattle.edge_tree.specs.declared.outline.Bounds.{Bounds}
 use Rattle.edge_tree.specs.Outlines.{IsBoxed, are_apart, is_apart}
 use Rattle.edge_tree.specs.Ways.{differ, is_marked, passes, is_off_way, IsPassed, AreNear}

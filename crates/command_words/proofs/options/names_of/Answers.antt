@@ -1,4 +1,4 @@
-use Rattle.std.proofs.Common.{ap, ◌≡◌, ◌∙◌, sym, true, false}
+use Rattle.std.proofs.Common.{ap, ◌≡◌, ◌∙◌, sym, true}
 use Rattle.std.proofs.lemmas.Result.{IfOk-weaker}
 use Rattle.command_words.specs.Commands.{are_names}
 use Rattle.command_words.proofs.Names.{names_taken, names_refused, names_within, texts}
