@@ -1,57 +1,91 @@
 //! The program `bkd`: an index of integer points in a folder.
 #![tactic(auto)]
 
+mod asked;
+mod forms;
+mod notes;
+
+use asked::{Asked, AskedFault, LONGEST_WAIT, read_asked};
 use bkd_build::OpenGate;
 use bkd_top::{Status, code, run, status_line};
-use outer_io::{DirFolder, StdSink, StdSource, write_all};
+use notes::{reason_note, usage_note, wants_notes};
+use outer_io::{DirFolder, Reason, StdSink, StdSource, write_all};
+use std::alloc::AllocError;
 use std::io::{Lock, Read};
 use std::marker::Sync;
 use std::process::ExitCode;
 use std::thread::Threads;
 use std::{env, io};
 
+/// How a run ended, and what there is to tell of it beside its status.
+type Ended = (Status, Option<String>);
+
 fn main(rt: HostRuntime) -> ExitCode {
-    let status = status_of(&rt, &rt);
-    let mut line = Vec::new(rt.alloc());
-    if status_line(rt.alloc(), &status, &mut line).is_ok() {
-        // the exit status says the same, so nothing is lost where standard error takes no more
-        let _ = write_all(&mut StdSink::new(rt.stderr().lock()), line.as_slice());
+    let (status, note) = run_words(&rt, &rt);
+    let mut told = Vec::new(rt.alloc());
+    if let Some(note) = note {
+        told.extend_from_slice(note.as_bytes()).unwrap_or(());
+    }
+    // the exit status says the same as the line, so nothing is lost where standard error takes no more
+    if status_line(rt.alloc(), &status, &mut told).is_ok() {
+        let _ = write_all(&mut StdSink::new(rt.stderr().lock()), told.as_slice());
     }
     ExitCode::from(code(&status))
 }
 
 /// Runs the program over its arguments, its streams and its directory.
-fn status_of<R: Threads + Sync>(rt: &HostRuntime, threads: &R) -> Status {
+fn run_words<R: Threads + Sync>(rt: &HostRuntime, threads: &R) -> Ended {
     let alloc = rt.alloc();
-    let mut words = Vec::new(alloc);
-    match env::args(rt) {
-        Ok(args) => {
-            for word in args.skip(1) {
-                if words.push(word).is_err() {
-                    return Status::Memory;
-                }
-            }
-        }
-        Err(e) if e.kind() == io::ErrorKind::OutOfMemory => return Status::Memory,
-        // a word that is not UTF-8
-        Err(_) => return Status::Usage,
-    }
-    let dir = match words.as_slice() {
-        [dir, ..] => dir.as_str(),
-        [] => ".",
+    let asked = match env::args(rt) {
+        Ok(words) => read_asked(alloc, words),
+        Err(e) if e.kind() == io::ErrorKind::OutOfMemory => Err(AskedFault::Memory),
+        Err(_) => Err(AskedFault::NotText),
     };
-    let Ok(mut folder) = DirFolder::new(rt, alloc, dir) else {
-        return Status::Memory;
+    let note = match asked {
+        Ok(asked) => return run_asked(rt, threads, &asked),
+        Err(AskedFault::Memory) => return (Status::Memory, None),
+        Err(AskedFault::NotText) => format!(in alloc; "bkd: a word is not UTF-8\n"),
+        Err(AskedFault::Wait) => {
+            format!(in alloc; "bkd: --wait takes seconds, 0 to {LONGEST_WAIT}, and stands once\n")
+        }
+    };
+    (Status::Usage, wanted(rt, note))
+}
+
+/// Runs the program as it is asked to.
+fn run_asked<R: Threads + Sync>(rt: &HostRuntime, threads: &R, asked: &Asked) -> Ended {
+    let alloc = rt.alloc();
+    let words = asked.words.as_slice();
+    let Ok(mut folder) = DirFolder::open(rt, alloc, asked.dir(), asked.hold, asked.wait) else {
+        return (Status::Memory, None);
     };
     let mut input = StdSource::new(rt.stdin().lock());
     let mut output = StdSink::new(rt.stdout().lock());
-    run(
+    let status = run(
         threads,
         alloc,
-        words.as_slice(),
+        words,
         &mut input,
         &mut folder,
         &mut output,
         &OpenGate,
-    )
+    );
+    let note = match (&status, folder.reason()) {
+        (Status::Usage, _) => wanted(rt, usage_note(alloc, words)),
+        (Status::FolderFault, Some(reason @ (Reason::Call { .. } | Reason::Names(_)))) => {
+            wanted(rt, reason_note(alloc, &reason))
+        }
+        // that the directory can't be held is told to all, since something else is to be done then
+        (Status::FolderFault, Some(reason)) => reason_note(alloc, &reason).ok(),
+        _ => None,
+    };
+    (status, note)
+}
+
+/// A note, where there is memory for it and somebody wants it.
+fn wanted(rt: &HostRuntime, note: Result<String, AllocError>) -> Option<String> {
+    match note {
+        Ok(note) if wants_notes(rt) => Some(note),
+        _ => None,
+    }
 }

@@ -7,8 +7,10 @@
 
 mod calls;
 mod copy;
+mod custody;
 mod dir_folder;
 mod faults;
+mod file_bytes;
 mod file_map;
 mod file_name;
 mod folder;
@@ -16,11 +18,13 @@ mod mem_folder;
 mod mem_sink;
 mod mem_source;
 mod open_files;
+mod reason;
 mod sink;
 mod source;
 mod std_streams;
 mod unsynced;
 
+pub use custody::Hold;
 pub use dir_folder::DirFolder;
 pub use faults::{Failed, ReadAll, WriteFault};
 pub use file_name::FileName;
@@ -28,6 +32,7 @@ pub use folder::{Folder, Pages};
 pub use mem_folder::MemFolder;
 pub use mem_sink::MemSink;
 pub use mem_source::MemSource;
+pub use reason::{Call, Reason};
 pub use sink::{Sink, write_all};
 pub use source::{Source, read_all};
 pub use std_streams::{StdSink, StdSource};

@@ -9,9 +9,9 @@ use std::alloc::{AllocError, Global};
 
 /// A file that is open.
 #[derive(Drop)]
-struct Opened<F> {
-    name: FileName,
-    file: F,
+pub(crate) struct Opened<F> {
+    pub(crate) name: FileName,
+    pub(crate) file: F,
 }
 
 /// The files that were read last, open, the last one first.
@@ -78,7 +78,7 @@ impl<F: Drop> OpenFiles<F> {
 }
 
 /// The place of the first file that is open under this name.
-fn place<F>(files: &[Opened<F>], n: &FileName) -> Option<usize>
+pub(crate) fn place<F>(files: &[Opened<F>], n: &FileName) -> Option<usize>
     ensures { result ≡ position (is_opened n.now) files.now }
 {
     files.iter().position(|opened| opened.name.is(n))
