@@ -1,5 +1,5 @@
 -- How the words of a grid are read, and that no line of counts fails for want of memory.
-use Rattle.std.proofs.Common.{◌≡◌, ℕ, ◌+◌, ◌*◌, Bool, true, false, cond, List, [], ◌∷◌, length, Option, Some, None, Result, Ok, Err, ℤ, arith, refl, sym, ap}
+use Rattle.std.proofs.Common.{◌≡◌, ℕ, ◌+◌, ◌*◌, Bool, true, false, cond, List, [], ◌∷◌, length, Option, Some, None, Result, Ok, Err, ℤ, refl, sym, ap}
 use Rattle.std.proofs.Common.{subst, ◌∙◌}
 use Rattle.std.specs.Prelude.{◌≢◌, ok_or}
 use Rattle.std.proofs.lemmas.Bool.{eq-eqb}
@@ -8,7 +8,7 @@ use Rattle.script_lang.specs.Reading.{box_of, corners_of, onto_values, text_of, 
 use Rattle.script_lang.specs.declared.faults.LineFault.{LineFault}
 use Rattle.script_lang.specs.declared.faults.LineFault.TheVariants as fault
 use Rattle.script_lang.proofs.Limits.{text_remembers}
-use Rattle.script_lang.specs.Lines.{lines_of, words_of}
+use Rattle.script_lang.specs.Lines.{words_of}
 use Rattle.script_lang.specs.Parts.{Takes, words_left}
 use Rattle.script_lang.specs.declared.words.Words.{Words}
 use Rattle.point_counts.specs.Grids.{plan_of}
@@ -130,9 +130,3 @@ grid_read D place words x step_x y step_y ends a b c d is long six p q r s =
 pub words_four : {a b c d : List ℕ} {v w x y z : Words} → Takes a v w → Takes b w x → Takes c x y → Takes d y z → words_left v ≡ a ∷ b ∷ c ∷ d ∷ words_left z
 words_four {a} {b} {c} {d} {v} {w} {x} {y} {z} p q r s =
     p.words ∙ ap (λ ws. a ∷ ws) (q.words ∙ ap (λ ws. b ∷ ws) (r.words ∙ ap (λ ws. c ∷ ws) s.words))
-
--- a text without bytes has no line
-pub no_lines : (bytes : List ℕ) → length bytes ≡ 0 → lines_of bytes ≡ []
-unfolding lines_of
-no_lines [] h = refl
-no_lines (b ∷ bs) h = absurd (omega arith)

@@ -1,5 +1,5 @@
 -- What a folder's segments are where it stores a state, and those that were opened.
-use Rattle.std.proofs.Common.{◌≡◌, ◌≤◌, ◌+◌, ◌/◌, ℕ, List, [], ◌∷◌, length, get_or, map, Some, None, refl, sym, ap, subst, ◌∙◌, ⊎_elim, arith, All}
+use Rattle.std.proofs.Common.{◌≡◌, ℕ, List, [], ◌∷◌, get_or, map, Some, None, refl, sym, ap, subst, ◌∙◌, All}
 use Rattle.std.specs.List.{AllZip, Contains}
 use Rattle.std.proofs.lemmas.List.Elements.{All-contains_itself, All-map}
 use Rattle.outer_io.specs.declared.file_name.FileName.TheVariants.{Commit, Segment}
@@ -16,16 +16,16 @@ use Rattle.segment_file.specs.Segments.{IsHeadOf, IsSegment}
 use Rattle.index_model.specs.State.{Index, State}
 use Rattle.stored_index.specs.Segments.{SegmentData, entries_at}
 use Rattle.stored_index.specs.Stored.{HasHead, HaveHeads, HaveLive, HoldsFiles, HoldsIndex, IsStored, index_of}
-use Rattle.stored_index.specs.Opening.{IsOpening, OpensIndex, segments_pages}
 use Rattle.stored_index.proofs.Pairwise.{partner_of}
-use Rattle.stored_index.proofs.Parts.{contents, head_in, heads_once, held_heads, held_sets}
+use Rattle.stored_index.proofs.Parts.{contents, head_in, held_heads, held_sets}
 use Rattle.stored_index.proofs.Whole.{held_for}
 use Rattle.segment_view.specs.LiveSegments.{AreRead, Contents, IsRead, LiveSegment, heads_of, live_in_parts, lives_of}
 use Rattle.segment_view.specs.Held.{HasOwnHead}
 use Rattle.index_opening.specs.Opened.{IsOpened}
 use Rattle.index_opening.proofs.Listed.{as_part, lives_map, opened_heads, opened_lives, parts_held, entries_map}
 use Rattle.index_opening.proofs.Ordered.{zip_right}
-use Rattle.count_queries.specs.Counted.{AreStoredParts, IsScope, Scope, bare}
+use Rattle.commands.proofs.Looking.{AreScopes}
+use Rattle.count_queries.specs.Counted.{AreStoredParts, IsScope, Scope, bare, scope_heads}
 use Rattle.count_queries.specs.Counts.{IsCounting}
 
 -- ---- a folder whose Commit file says a commit
@@ -54,11 +54,11 @@ heads_map : (held : List SegmentData) → heads_of (map as_part held) ≡ map he
 heads_map [] = refl
 heads_map (d ∷ ds) = ap (λ (hs : List Head). d.head ∷ hs) (heads_map ds)
 
-pub scope_heads : (files : Files) (c : CommitData) (s : Scope) → Holds files c s → HaveHeads files c (heads_of s.parts)
-scope_heads files c s h = subst (HaveHeads files c) (sym (ap heads_of h.parts ∙ heads_map h.holds.parts)) (held_heads files c h.holds.parts h.holds.segments)
+pub has_heads : (files : Files) (c : CommitData) (s : Scope) → Holds files c s → HaveHeads files c (heads_of s.parts)
+has_heads files c s h = subst (HaveHeads files c) (sym (ap heads_of h.parts ∙ heads_map h.holds.parts)) (held_heads files c h.holds.parts h.holds.segments)
 
-pub scope_lives : (files : Files) (c : CommitData) (s : Scope) → Holds files c s → HaveLive files c (lives_of s.parts)
-scope_lives files c s h = subst (HaveLive files c) (sym (ap lives_of h.parts ∙ lives_map h.holds.parts)) (held_sets files c h.holds.parts h.holds.segments)
+pub has_lives : (files : Files) (c : CommitData) (s : Scope) → Holds files c s → HaveLive files c (lives_of s.parts)
+has_lives files c s h = subst (HaveLive files c) (sym (ap lives_of h.parts ∙ lives_map h.holds.parts)) (held_sets files c h.holds.parts h.holds.segments)
 
 -- each state that is stored has segments
 pub scope_of : (files : Files) (state : State) → IsStored files state → (s : Scope) × IsScope files s
@@ -76,6 +76,14 @@ scope_of files (Some i) stored =
         );
       },
     )
+
+-- a scope's heads are those that the commit lists
+pub are_scopes : AreScopes IsScope scope_heads
+are_scopes = record {
+  of = scope_of;
+  stored = λ files s scope. (s.state, scope.stored);
+  have = λ files c s says scope. has_heads files c s (scope_holds files c s says scope);
+}
 
 -- without a Commit file there is none
 pub none_scope : (files : Files) (s : Scope) → files Commit ≡ None → IsScope files s → s ≡ bare
@@ -142,29 +150,3 @@ opened_counting T D files c parts s t dims says opened scope =
     let h = scope_holds files c s says scope in
     held_counting D files c parts s dims says h
     (parts_held files c parts h.holds.parts (opened_heads T files c parts t opened) (opened_lives T files c parts t opened) h.holds.segments)
-
--- ---- the pages of opening
-
--- they are those of the commit and of the segments
-pub opening_is : (files : Files) (c : CommitData) (s : Scope) (pages : ℕ) → IsCommitFile (bytes_of (files Commit)) c → IsScope files s → IsOpening files pages
-    → pages ≡ length (bytes_of (files Commit)) / 4096 + segments_pages files c.listed (heads_of s.parts)
-opening_is files c s pages says scope opening = ⊎_elim
-    (λ none. absurd (let there = (file_there (files Commit) c says).0 in let no = none.0 in cc))
-    (λ (o : OpensIndex files pages).
-    let one = one_file (bytes_of (files Commit)) o.commit c o.says says in
-    let heads = heads_once files c o.heads (heads_of s.parts) (subst (λ (d : CommitData). HaveHeads files d o.heads) one o.have)
-    (scope_heads files c s (scope_holds files c s says scope)) in
-    o.is ∙ (λ i. length (bytes_of (files Commit)) / 4096 + segments_pages files (one i).listed (heads i)))
-    opening
-
--- reading the commit reads no more than opening, where a state is stored
-pub commit_few : (files : Files) (s : Scope) (pages before now : ℕ) → IsScope files s → IsOpening files pages → (files Commit ≡ None → now ≡ before)
-    → ((c : CommitData) → IsCommitFile (bytes_of (files Commit)) c → now ≤ before + length (bytes_of (files Commit)) / 4096) → now ≤ before + pages
-commit_few files s pages before now scope opening unread most = by s.state scope.stored
-  where
-    by : (state : State) → IsStored files state → now ≤ before + pages
-    by None none = let same = unread none in omega (arith, same)
-    by (Some i) stored =
-        let few = most stored.commit stored.holds.commit in
-        let is = opening_is files stored.commit s pages stored.holds.commit scope opening in
-        omega (arith, few, is)

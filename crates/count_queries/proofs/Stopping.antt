@@ -1,5 +1,5 @@
 -- What is known of files that stay, and what a damage shows of them.
-use Rattle.std.proofs.Common.{◌≡◌, ℕ, List, Result, sym, subst}
+use Rattle.std.proofs.Common.{◌≡◌, ℕ, List, Option, None, Some, sym, subst}
 use Rattle.outer_io.specs.Files.{Files}
 use Rattle.page_cache.specs.declared.cache.PageCache.{PageCache}
 use Rattle.page_cache.specs.declared.faults.PageFault.{PageFault}
@@ -9,20 +9,8 @@ use Rattle.page_cache.proofs.Damages.{fault_weaker}
 use Rattle.index_model.specs.State.{State}
 use Rattle.stored_index.specs.Stored.{IsStored, IsUndefined}
 use Rattle.segment_view.specs.LiveSegments.{LiveSegment}
-use Rattle.index_opening.specs.Evidence.{IsEvident}
-use Rattle.index_opening.proofs.Evident.{evident_files}
-use Rattle.run_status.specs.Ends.{OnStopDamage}
-use Rattle.run_status.specs.declared.stop.Stop.{Stop}
-use Rattle.run_status.proofs.Ending.{stop_weaker}
 use Rattle.count_queries.specs.Counted.{Scope}
-use Rattle.count_queries.specs.Counts.{AreTrue, IsCounting}
-
-pub fault_at : (S T : Type 0) (f g : Files) (fault : PageFault) → (T → S) → (T → g ≡ f) → FaultShows (IsEvident S f) fault → FaultShows (IsEvident T g) fault
-fault_at S T f g fault less same = fault_weaker fault (IsEvident S f) (IsEvident T g) (λ d h. evident_files S T f g d less same h)
-
-pub stop_evident : {X : Type 0} (S T : Type 0) (f g : Files) (result : Result X Stop) → (T → S) → (T → g ≡ f) → OnStopDamage result (IsEvident S f)
-    → OnStopDamage result (IsEvident T g)
-stop_evident S T f g result less same = stop_weaker (IsEvident S f) (IsEvident T g) result (λ d h. evident_files S T f g d less same h)
+use Rattle.count_queries.specs.Counts.{AreTrue, CountFits, IsCounting}
 
 pub agrees_at : (old new : Files) (cache : PageCache) → new ≡ old → Agrees old cache → Agrees new cache
 agrees_at old new cache same = subst (λ (f : Files). Agrees f cache) (sym same)
@@ -34,6 +22,12 @@ pub true_at : (D : ℕ) (old new : Files) (parts : List LiveSegment) (before aft
     → AreTrue D old parts before → AreTrue D new parts after
 true_at D old new parts before after same agrees h =
     let still = subst (λ (f : Files). AreTrue D f parts before) (sym same) h in (agrees h.0, still.1, still.2)
+
+-- what is held fits files that stay
+pub fits_stay : (D : ℕ) (old new : Files) (parts : List LiveSegment) (before after : PageCache) → new ≡ old → (Agrees old before → Agrees old after)
+    → (s : Option Scope) → CountFits D old parts before s → CountFits D new parts after s
+fits_stay D old new parts before after same agrees None h = true_at D old new parts before after same (λ a. agrees_at old new after same (agrees a)) h
+fits_stay D old new parts before after same agrees (Some s) h = (agrees_at old new after same (agrees h.0), counting_at D old new parts s same h.1)
 
 -- what shows that no state is stored is no damage of files that store one
 pub never_stored : (files : Files) (state : State) (fault : PageFault) → IsStored files state → FaultShows (λ _. IsUndefined files) fault

@@ -10,6 +10,7 @@ use Rattle.documents.specs.Documents.{Document}
 use Rattle.documents.specs.Entries.{entries_in}
 use Rattle.commit_list.specs.Commits.{CommitData}
 use Rattle.commit_list.specs.CommitFiles.{IsCommitFile}
+use Rattle.segment_file.specs.Heads.{Head}
 use Rattle.script_lang.specs.Replies.{line_fault_text, refusal_text}
 use Rattle.index_model.specs.State.{Index, State}
 use Rattle.stored_index.specs.Stored.{HaveHeads, HaveLive, IsStored}
@@ -39,6 +40,10 @@ AreStoredParts files (Some i) parts =
 pub record IsScope (files : Files) (s : Scope) : Type 0 where
   pub stored : IsStored files s.state
   pub parts : AreStoredParts files s.state s.parts
+
+-- the heads of its segments
+abbrev pub scope_heads : Scope → List Head
+scope_heads s = heads_of s.parts
 
 -- where no index is there
 abbrev pub bare : Scope

@@ -1,5 +1,5 @@
--- How lines are counted over the segments of a stored index, and what counting reads.
-use Rattle.std.specs.Prelude.{ℕ, ◌+◌, ◌≡◌, ◌≤◌, Bool, List, All, Some, Result, IfOk}
+-- How lines are counted over the segments of a stored index.
+use Rattle.std.specs.Prelude.{ℕ, ◌+◌, ◌≡◌, ◌≤◌, Bool, List, All, Option, None, Some, Result, IfOk}
 use Rattle.outer_io.specs.Files.{Files}
 use Rattle.outer_io.specs.declared.file_name.FileName.TheVariants.{Segment}
 use Rattle.page_cache.specs.declared.cache.PageCache.{PageCache}
@@ -7,15 +7,13 @@ use Rattle.page_cache.specs.declared.faults.PageFault.{PageFault}
 use Rattle.page_cache.specs.Cache.{Agrees}
 use Rattle.page_cache.specs.Causes.{HasPageCause}
 use Rattle.page_cache.specs.Evidence.{NotDamaged, OnDamage}
-use Rattle.commit_list.specs.Commits.{CommitData}
 use Rattle.documents.specs.Entries.{AreDocs}
 use Rattle.index_model.specs.State.{Index}
-use Rattle.stored_index.specs.Opening.{IsOpening, segments_pages}
-use Rattle.segment_view.specs.LiveSegments.{AreRead, Contents, LiveSegment, heads_of, live_in_parts}
+use Rattle.segment_view.specs.LiveSegments.{AreRead, Contents, LiveSegment, live_in_parts}
 use Rattle.segment_view.specs.Held.{HasOwnHead}
 use Rattle.index_opening.specs.Evidence.{IsEvident, IsOfListed}
-use Rattle.run_status.specs.Told.{IsTold, Told, TellsLines}
-use Rattle.count_queries.specs.Counted.{IsScope, Scope, TellsCount}
+use Rattle.run_status.specs.Told.{IsTold, Told}
+use Rattle.count_queries.specs.Counted.{Scope}
 
 -- these segments with these files hold the documents of the index that is looked at
 pub record IsCounting (D : ℕ) (files : Files) (parts : List LiveSegment) (s : Scope) : Type 0 where
@@ -36,6 +34,11 @@ InScope s tells t = (i : Index) × (s.state ≡ Some i) × tells i t
 abbrev pub AreTrue : ℕ → Files → List LiveSegment → PageCache → Type 0
 AreTrue D files parts cache = Agrees files cache × All (HasOwnHead D files) parts
     × All (λ p. IsOfListed files (Segment p.head.id)) parts
+
+-- What is held fits these files: it is of them, and with a scope it holds the documents of that.
+abbrev pub CountFits : ℕ → Files → List LiveSegment → PageCache → Option Scope → Type 0
+CountFits D files parts cache None = AreTrue D files parts cache
+CountFits D files parts cache (Some s) = Agrees files cache × IsCounting D files parts s
 
 -- between two lines: the files, the kept pages, the folder's reads and faults, and the text
 pub record CountMoment : Type 0 where
@@ -58,18 +61,3 @@ pub record CountsLine (D : ℕ) (told : Type 0) (parts : List LiveSegment) (tell
   pub cause : HasPageCause old.faults new.faults result
   pub whole : told → Agrees old.files old.cache → (s : Scope) → IsCounting D old.files parts s → NotDamaged result
   pub evident : OnDamage result (IsEvident (told × AreTrue D old.files parts old.cache) old.files)
-
--- ---- what is read
-
--- after the commit is read: the pages of its segments' heads, indexes and live bits, and a page for each leaf that the
--- lines touch
-abbrev pub OpensFew : Files → CommitData → List (List ℕ) → (old new : ℕ) → Type 0
-OpensFew files c lines old new =
-    (s : Scope) → IsScope files s → (t : Told) → TellsLines (TellsCount s) 1 lines t
-    → new ≤ old + segments_pages files c.listed (heads_of s.parts) + t.touched
-
--- it reads at most the pages of opening, and a page for each leaf that the lines touch
-abbrev pub ReadsFew : Files → List (List ℕ) → (old new : ℕ) → Type 0
-ReadsFew files lines old new =
-    (pages : ℕ) → IsOpening files pages → (s : Scope) → IsScope files s → (t : Told)
-    → TellsLines (TellsCount s) 1 lines t → new ≤ old + pages + t.touched

@@ -3,6 +3,7 @@
 #![tactic(auto)]
 
 mod answers;
+mod counting;
 mod lines;
 mod run;
 mod texts;

@@ -44,6 +44,10 @@ pub record IsScope (files : Files) (s : Scope) : Type 0 where
   pub stored : IsStored files s.state
   pub heads : AreStoredHeads files s.state s.heads
 
+-- the heads of its segments
+abbrev pub scope_heads : Scope → List Head
+scope_heads s = s.heads
+
 -- where no index is there
 abbrev pub bare : Scope
 bare = record { state = None; heads = [] }

@@ -1,5 +1,5 @@
 -- How a set whose index is explained goes from one place to another.
-use Rattle.std.specs.Prelude.{ℕ, ◌+◌, ◌≡◌, ◌≤◌, Bool, List, Some, Result, IfOk, Contains}
+use Rattle.std.specs.Prelude.{ℕ, ◌+◌, ◌≡◌, ◌≤◌, Bool, List, Option, None, Some, Result, IfOk, Contains}
 use Rattle.outer_io.specs.declared.file_name.FileName.TheVariants.{Segment}
 use Rattle.outer_io.specs.Files.{Files}
 use Rattle.page_cache.specs.declared.faults.PageFault.{PageFault}
@@ -25,6 +25,11 @@ pub record IsExplaining (D : ℕ) (files : Files) (set : SetData) (s : Scope) : 
 pub record KnowsFiles (D : ℕ) (files : Files) (s : SetData) : Type 0 where
   pub faithful : IsFaithful D files s
   pub listed : (p : LiveSegment) → Contains s.parts p → IsOfListed files (Segment p.head.id)
+
+-- What is held fits these files: it is of them, and with a scope it is seen as the index of that.
+abbrev pub ExplainFits : ℕ → Files → SetData → Option Scope → Type 0
+ExplainFits D files set None = KnowsFiles D files set
+ExplainFits D files set (Some s) = IsExplaining D files set s
 
 -- this is told of the index that is looked at
 abbrev pub InScope : Scope → (Index → Told → Type 0) → Told → Type 0

@@ -2,7 +2,10 @@
 //! stored.
 #![tactic(auto)]
 
+mod answering;
 mod explain;
+mod run;
 mod texts;
 
 pub use explain::{explain_first, explain_line};
+pub use run::run_explain;
