@@ -228,8 +228,8 @@ none_left_of (Session cache forks) source sink input written files reads = λ to
     nothing_costs language.Points (lines_of input) files reads status.Memory (λ a. a)
 none_left_of (Ranges cache forks) source sink input written files reads = λ told.
     nothing_costs language.Ranges (lines_of input) files reads status.Memory (λ a. a)
-none_left_of (Explain cache) source sink input written files reads = record { files = refl; reads = λ told pages opening scope is t tells. omega arith }
-none_left_of (Count cache) source sink input written files reads = record { files = refl; reads = λ told pages opening scope is t tells. omega arith }
+none_left_of (Explain cache) source sink input written files reads = record { files = refl; reads = λ told scope is pages opening t tells. omega arith }
+none_left_of (Count cache) source sink input written files reads = record { files = refl; reads = λ told scope is pages opening t tells. omega arith }
 none_left_of (Batch forks) source sink input written files reads =
     record { files = refl; reads = λ answer. absurd answer; stored = λ some. absurd (some tt); unwritten = λ none. refl }
 none_left_of (MergingBatch forks) source sink input written files reads =

@@ -1,4 +1,5 @@
 pub mod Commanding
+pub mod Headlines
 pub mod Promised
 pub mod Finished
 pub mod Verdict

@@ -6,6 +6,7 @@ use Rattle.script_lang.specs.Lines.{lines_of}
 use Rattle.command_words.specs.Commands.{Task, Run, Load, Explain, Check, Generate, Session, Count, Ranges, Batch}
 use Rattle.command_words.specs.Commands.{MergingBatch}
 use Rattle.index_model.specs.State.{State}
+use Rattle.stored_index.specs.Opening.{IsOpening}
 use Rattle.stored_index.specs.Stored.{IsStored}
 use Rattle.index_opening.specs.Evidence.{IsEvidentSince}
 use Rattle.index_core.specs.Brought.{KeepsCommit}
@@ -18,11 +19,14 @@ use Rattle.run_status.specs.declared.status.Status.TheVariants as status
 use Rattle.script_run.specs.Kept.{RunCosts, StatusKeeps}
 use Rattle.script_run.specs.declared.language.Language.TheVariants as language
 use Rattle.run_status.specs.Causes.{Counts, HasCauses, NoneRose, ReadsInput}
-use Rattle.count_queries.specs.Counts as counts
+use Rattle.run_status.specs.Told.{Teller}
+use Rattle.commands.specs.Looks.{ReadsFew}
+use Rattle.explain_queries.specs.Explained.{IsScope, TellsLine}
+use Rattle.count_queries.specs.Counted as counts
 use Rattle.batch_queries.specs.Ends.{LeavesNoText, ReadsOnce, StoresSome, TellsStored}
 use Rattle.batch_queries.specs.Merging.{MergeLeaves}
 use Rattle.bkd_top.specs.Checking.{Checks}
-use Rattle.bkd_top.specs.Commands.{Before, EndsTask, ReadsFew, reads_input, reads_whole}
+use Rattle.bkd_top.specs.Commands.{Before, EndsTask, does, reads_input, reads_whole}
 
 -- words of no command are told as that, unless memory was wanting, and no others are
 pub record TellsUsage (task : Option Task) (s : Status) : Type 0 where
@@ -58,15 +62,11 @@ pub record TellsDamage (told : Type 0) (old new : Files) (s : Status) : Type 0 w
   pub never : told → (state : State) → IsStored old state → IsDamaged s → ⊥
   pub evident : OnStatusDamage s (IsEvidentSince old told new)
 
--- explaining changes no file, whatever the status, and reads little
-pub record ExplainCosts (source : Type 0) (lines : List (List ℕ)) (old new : Files) (before now : ℕ) : Type 0 where
+-- a command that answers lines over what is stored changes no file, whatever the status, and reads few pages
+pub record LookCosts {Scope : Type 0} (is : Files → Scope → Type 0) (tells : Scope → Teller) (source : Type 0)
+    (lines : List (List ℕ)) (old new : Files) (before now : ℕ) : Type 0 where
   pub files : new ≡ old
-  pub reads : source → ReadsFew old lines before now
-
--- `count` changes no file either, and reads few pages where the input is told
-pub record CountCosts (source : Type 0) (lines : List (List ℕ)) (old new : Files) (before now : ℕ) : Type 0 where
-  pub files : new ≡ old
-  pub reads : source → counts.ReadsFew old lines before now
+  pub reads : source → ReadsFew (is old) (λ s pages. IsOpening old pages) tells lines before now
 
 -- A command that is done as a whole leaves few segments of each level. Whatever the folder holds, it loses nothing that
 -- is kept where it isn't done, and no number that is kept live
@@ -111,10 +111,12 @@ LeavesTask (Session cache forks) c s = IsTrue c.source
     → RunCosts language.Points (lines_of c.input) c.old c.new c.before c.now s
 LeavesTask (Ranges cache forks) c s = IsTrue c.source
     → RunCosts language.Ranges (lines_of c.input) c.old c.new c.before c.now s
-LeavesTask (Explain cache) c s = ExplainCosts (IsTrue c.source) (lines_of c.input) c.old c.new c.before c.now
+LeavesTask (Explain cache) c s =
+    LookCosts IsScope TellsLine (IsTrue c.source) (lines_of c.input) c.old c.new c.before c.now
 LeavesTask (Load columns forks) c s = WholeLeaves c.old c.new s
 LeavesTask (Generate docs seed forks) c s = WholeLeaves c.old c.new s
-LeavesTask (Count cache) c s = CountCosts (IsTrue c.source) (lines_of c.input) c.old c.new c.before c.now
+LeavesTask (Count cache) c s =
+    LookCosts counts.IsScope counts.TellsCount (IsTrue c.source) (lines_of c.input) c.old c.new c.before c.now
 LeavesTask (Batch forks) c s = BatchLeaves c s
 LeavesTask (MergingBatch forks) c s = MergingLeaves c s
 LeavesTask Check c s = Checks (IsTrue c.sink) c.old c.new c.written c.written_now c.before c.now s
@@ -145,6 +147,8 @@ pub record Promises (told : Type 0) (task : Option Task) (c : Call) (left : List
   pub complete : told → OverStored c task (λ b a. IsShort a c.input → NoneRose faults faults_now
       → IsAnswer s ⊎ (s ≡ status.Memory))
   pub input : IsTrue c.source → OnTask (λ a. TakesInput a c.input left s) task
+  -- too large is only what is read as a whole
+  pub large : s ≡ status.TooLarge → does reads_whole task ≡ true
   -- each segment that the commit lists anew is canonical
   pub canon : told → (state : State) → IsStored c.old state → IsAnswer s → HasNewCanonical c.old c.new
   -- what it leaves and costs, whatever the folder holds

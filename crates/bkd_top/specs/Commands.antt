@@ -1,20 +1,18 @@
 -- How the program ends, by what its words ask for.
-use Rattle.std.specs.Prelude.{ℕ, ◌+◌, ◌≡◌, ◌≤◌, ◌⊎◌, Bool, true, false, List, ◌++◌, Option, None}
+use Rattle.std.specs.Prelude.{ℕ, ◌≡◌, ◌⊎◌, Bool, true, false, List, ◌++◌, Option, None}
 use Rattle.std.specs.Prelude.{Some}
 use Rattle.outer_io.specs.Files.{Files}
 use Rattle.outer_io.specs.Parts.{WritesPart}
 use Rattle.script_lang.specs.Lines.{lines_of}
-use Rattle.commit_list.specs.Commits.{CommitData}
 use Rattle.index_model.specs.State.{State}
 use Rattle.index_model.specs.Script.{Answer}
 use Rattle.stored_index.specs.Stored.{IsStored}
-use Rattle.stored_index.specs.Opening.{IsOpening, segments_pages}
 use Rattle.command_words.specs.Commands.{Task, Run, Load, Explain, Check, Generate, Session, Count, Ranges, Batch}
 use Rattle.command_words.specs.Commands.{MergingBatch}
 use Rattle.load_points.specs.Loaded.{load_answer}
 use Rattle.drawn_points.specs.Generated.{generate_answer}
 use Rattle.explain_queries.specs.Explained.{Scope, IsScope, TellsLine}
-use Rattle.run_status.specs.Told.{EndsTold, TellsLines, Told}
+use Rattle.run_status.specs.Told.{EndsTold}
 use Rattle.count_queries.specs.Counted as counts
 use Rattle.script_run.specs.Languages.{meaning}
 use Rattle.batch_queries.specs.Batched.{TellsBatch}
@@ -100,21 +98,6 @@ EndsWhole told b a files new (status.Damaged damage) = ⊥
 EndsWhole told b a files new status.Usage = Rests told b files new
 EndsWhole told b a files new status.SourceFault = Rests told b files new
 EndsWhole told b a files new status.TooLarge = Rests told b files new
-
--- ---- explaining
-
--- after the commit is read: the pages of its segments' heads, indexes and live bits, and a page for each leaf that the
--- lines touch
-abbrev pub OpensFew : Files → CommitData → List (List ℕ) → (old new : ℕ) → Type 0
-OpensFew files c lines old new =
-    (s : Scope) → IsScope files s → (t : Told) → TellsLines (TellsLine s) 1 lines t
-    → new ≤ old + segments_pages files c.listed s.heads + t.touched
-
--- it reads at most the pages of opening, and a page for each leaf that the lines touch
-abbrev pub ReadsFew : Files → List (List ℕ) → (old new : ℕ) → Type 0
-ReadsFew files lines old new =
-    (pages : ℕ) → IsOpening files pages → (s : Scope) → IsScope files s → (t : Told)
-    → TellsLines (TellsLine s) 1 lines t → new ≤ old + pages + t.touched
 
 -- ---- the program
 

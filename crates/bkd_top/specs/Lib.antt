@@ -1,3 +1,4 @@
 pub mod Checking
 pub mod Calls
 pub mod Commands
+pub mod Headline

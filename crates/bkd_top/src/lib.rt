@@ -2,13 +2,12 @@
 #![tactic(auto)]
 
 mod check;
-mod explain;
 mod loads;
 mod program;
 mod scripts;
 
 pub use check::run_check;
-pub use explain::run_explain;
+pub use explain_queries::run_explain;
 pub use loads::{run_generate, run_load};
 pub use program::run;
 pub use run_status::{MAX_INPUT, Memory, Status, code, status_line};

@@ -1,6 +1,6 @@
 //! The top call, `run`: which command the words ask for, and the contract of the whole program.
 
-ghost use Rattle.std.specs.Prelude.{◌≡◌, map, true, false, IsTrue, string_bytes};
+ghost use Rattle.std.specs.Prelude.{◌≡◌, ◌++◌, map, true, false, None, IsTrue, string_bytes};
 ghost use Rattle.index_model.specs.State.{State};
 ghost use Rattle.stored_index.specs.Stored.{IsStored};
 ghost use Rattle.run_status.specs.Ends.{DoesNothing};
@@ -9,17 +9,18 @@ ghost use Rattle.index_core.specs.Brought.{KeepsCommit};
 ghost use Rattle.index_core.specs.Whole.{HasNewCanonical};
 ghost use Rattle.run_status.specs.Causes.{HasCauses};
 ghost use Rattle.bkd_top.specs.Calls.{LeavesTask, Promises, TakesInput, TellsDamage};
+ghost use Rattle.bkd_top.specs.Headline.{IsRun, script_end, script_text};
 ghost use Rattle.run_status.specs.Ends.{IsAnswer};
 ghost use Rattle.bkd_top.specs.Commands.{EndsTask, does, is_session, reads_input, reads_whole};
 
 use crate::check::run_check;
-use crate::explain::run_explain;
 use crate::loads::{run_generate, run_load};
 use crate::scripts::{run_ranges, run_script, run_session};
 use batch_queries::{run_batch, run_merging_batch};
 use bkd_build::Gate;
 use command_words::{Words, WordsFault, read_words};
 use count_queries::run_count;
+use explain_queries::run_explain;
 use index_core::Settings;
 use outer_io::{Folder, Sink, Source};
 use run_status::Status;
@@ -70,10 +71,16 @@ pub fn run<S: Source, F: Folder, K: Sink, R: Threads + Sync, G: Gate>(
         (S.left input.new)
         (record { source = S.faults input.old; folder = F.faults folder.old; sink = K.faults out.old })
         (record { source = S.faults input.new; folder = F.faults folder.new; sink = K.faults out.new }) result }
-    // what reads no input leaves it, and what does nothing leaves all three
+    // what a scan of the live documents answers, line for line, and a folder that stores the documents then live
+    ensures headline { IsTrue F.told → IsTrue S.told → IsTrue K.told → IsRun (task_in (map string_bytes words.now))
+        → (state : State) → IsStored (F.files folder.old) state → IsAnswer result
+        → (K.written out.new ≡ K.written out.old ++ script_text state (S.left input.old))
+        × IsStored (F.files folder.new) (script_end state (S.left input.old)) }
+    // what reads no input leaves it, what does nothing leaves all three, and so do words of no command
     ensures unread { does (λ a. reads_input a) (task_in (map string_bytes words.now)) ≡ false → input.new ≡ input.old }
     ensures untouched { does (λ a. is_session a) (task_in (map string_bytes words.now)) ≡ false → DoesNothing result
         → (folder.new ≡ folder.old) × (out.new ≡ out.old) }
+    ensures unasked { task_in (map string_bytes words.now) ≡ None → (folder.new ≡ folder.old) × (out.new ≡ out.old) }
 {
     match read_words(alloc, words) {
         Ok(words) => run_command(rt, alloc, words, input, folder, out, gate),

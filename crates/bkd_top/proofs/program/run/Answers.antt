@@ -3,7 +3,9 @@ use Rattle.std.proofs.Common.{◌≡◌, Option, Err, ap, subst, false}
 use Rattle.command_words.specs.Commands.{Task}
 use Rattle.command_words.specs.declared.WordsFault.{WordsFault}
 use Rattle.bkd_top.specs.Commands.{does, is_session, reads_input}
+use Rattle.bkd_top.proofs.Headlines.{headline}
 use Rattle.bkd_top.proofs.Promised.{memory_promises, task_promises, usage_promises}
+use Rattle.bkd_top.proofs.Commanding.{is_none_and}
 use Rattle.bkd_top.proofs.program.run.Goals as goal
 
 pub returns-in-Ok-clause-all : goal.returns-in-Ok-clause-all
@@ -32,3 +34,16 @@ returns-in-Ok-clause-unread g c = λ e. c.run_command.ensures.unread (subst (λ 
 pub returns-in-Ok-clause-untouched : goal.returns-in-Ok-clause-untouched
 returns-in-Ok-clause-untouched g c = λ e.
     c.run_command.ensures.untouched (subst (λ (o : Option Task). does (λ a. is_session a) o ≡ false) c.in-Ok.ensures.words e)
+
+pub returns-in-Ok-clause-headline : goal.returns-in-Ok-clause-headline
+returns-in-Ok-clause-headline g c = λ told source sink run state stored answer.
+    headline _ _ _ _ _ _ _ (returns-in-Ok-clause-all g c) told source sink run state stored answer
+
+pub returns-in-Ok-clause-unasked : goal.returns-in-Ok-clause-unasked
+returns-in-Ok-clause-unasked g c = λ none. is_none_and _ _ none c.in-Ok.ensures.words
+
+pub returns-in-Err-Usage-clause-headline : goal.returns-in-Err-Usage-clause-headline
+returns-in-Err-Usage-clause-headline g c = λ told source sink run state stored answer. absurd answer
+
+pub returns-in-Err-Memory-clause-headline : goal.returns-in-Err-Memory-clause-headline
+returns-in-Err-Memory-clause-headline g c = λ told source sink run state stored answer. absurd answer

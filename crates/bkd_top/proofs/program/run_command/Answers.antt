@@ -104,7 +104,7 @@ pub returns-in-Explain : goal.returns-in-Explain
 returns-in-Explain g c =
     let is = ap task_of c.in-Explain.is in
     let reads = ap (λ (a : Task). reads_input a) is in
-    let e = c.run_explain.ensures in
+    let e = c.run_explain.ensures.looked in
     let input = g.S.Source.left c.args.input.now in
     let old = g.F.Pages.files c.args.folder.now in
     let new = g.F.Pages.files c.run_explain.new.folder in
@@ -116,13 +116,13 @@ returns-in-Explain g c =
       input = λ told. taken_by c.args.words _ input (g.S.Source.left c.run_explain.new.input) c.run_explain.result is (e.input told);
       unread = is_so (λ a. reads_input a) c.args.words _ is refl;
       large = λ w. ap (λ (a : Task). reads_whole a) is;
-      untouched = λ other. e.untouched;
+      untouched = λ other. c.run_explain.ensures.untouched;
       canon = λ told state h a. canonical_still _ _ (e.files told);
       leaves = λ told. left_by c.args.words _
           (called g.S.Source.told g.K.Sink.told input old new before after (g.F.Pages.reads c.args.folder.now) (g.F.Pages.reads c.run_explain.new.folder))
           c.run_explain.result is (record { files = e.files told; reads = λ source. e.reads source told });
       lasting = λ told. commit_equal old new (e.files told);
-      damage = e.damage;
+      damage = record { never = e.whole; evident = status_since _ _ _ _ e.evident };
       causes = e.causes;
     }
 
@@ -182,7 +182,7 @@ pub returns-in-Count : goal.returns-in-Count
 returns-in-Count g c =
     let is = ap task_of c.in-Count.is in
     let reads = ap (λ (a : Task). reads_input a) is in
-    let e = c.run_count.ensures in
+    let e = c.run_count.ensures.looked in
     let input = g.S.Source.left c.args.input.now in
     let old = g.F.Pages.files c.args.folder.now in
     let new = g.F.Pages.files c.run_count.new.folder in
@@ -194,7 +194,7 @@ returns-in-Count g c =
       input = λ told. taken_by c.args.words _ input (g.S.Source.left c.run_count.new.input) c.run_count.result is (e.input told);
       unread = is_so (λ a. reads_input a) c.args.words _ is refl;
       large = λ w. ap (λ (a : Task). reads_whole a) is;
-      untouched = λ other. e.untouched;
+      untouched = λ other. c.run_count.ensures.untouched;
       canon = λ told state h a. canonical_still _ _ (e.files told);
       leaves = λ told. left_by c.args.words _
           (called g.S.Source.told g.K.Sink.told input old new before after (g.F.Pages.reads c.args.folder.now) (g.F.Pages.reads c.run_count.new.folder))
