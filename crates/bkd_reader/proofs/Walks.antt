@@ -1,13 +1,14 @@
 -- A walk below a node with children: what is found, counted, held and kept below each, told of the node. What is given of a child is what the walk
 -- of any node tells.
-use Rattle.std.proofs.Common.{◌≡◌, ◌≤◌, ℕ, ◌+◌, ◌*◌, Bool, List, ℤ, Result, Ok, Err, sym, ap, subst, arith}
+use Rattle.std.proofs.Common.{◌≡◌, ◌≤◌, ℕ, ◌+◌, Bool, true, List, ℤ, Result, Ok, Err, sym, subst, arith}
 use Rattle.std.specs.Prelude.{IsErrAnd}
 use Rattle.outer_io.specs.Files.{Files, bytes_of}
 use Rattle.outer_io.specs.declared.file_name.FileName.TheVariants.{Segment}
 use Rattle.point_codec.specs.Points.{Item, Region}
 use Rattle.live_bits.specs.LiveSet.{LiveSet}
 use Rattle.inner_pack.specs.Places.{Spot}
-use Rattle.inner_pack.specs.Trees.{IndexTree, HasCells, leaf_count}
+use Rattle.point_codec.specs.Cells.{left_of, right_of}
+use Rattle.inner_pack.specs.Trees.{IndexTree, HasCells, cell_of, leaf_count}
 use Rattle.inner_pack.specs.Bodies.{right_begin}
 use Rattle.inner_pack.specs.Nodes.{AreChildren, IsAt}
 use Rattle.inner_pack.specs.declared.node.NodeAt.{NodeAt}
@@ -19,13 +20,13 @@ use Rattle.page_cache.proofs.Unread.{reads_then}
 use Rattle.segment_file.specs.Heads.{Head}
 use Rattle.segment_file.specs.Damages.{IsLeafDamage}
 use Rattle.segment_file.specs.Segments.{HoldsTree}
-use Rattle.segment_file.proofs.Subtrees.{some_leaf}
 use Rattle.bkd_reader.specs.Below.{IsRoot}
-use Rattle.bkd_reader.specs.Counts.{tested_entries, touched_leaves}
+use Rattle.bkd_reader.specs.Counts.{asked_cells, tested_entries, touched_leaves}
 use Rattle.bkd_reader.specs.Hits.{AreHits, Appends}
 use Rattle.bkd_reader.specs.Unread.{AreKept, IsTouched}
 use Rattle.bkd_reader.proofs.Sums.{tested_both, touched_both}
 use Rattle.bkd_reader.proofs.Trees.{children_hits, handed_on, held, left_damage, left_root, right_damage, right_root}
+use Rattle.bkd_reader.proofs.Uncrossed.{asked_split}
 use Rattle.bkd_reader.proofs.Unread.{children_kept, kept_on, touched_as}
 
 -- the same of each root
@@ -137,15 +138,33 @@ module _ {D : ℕ} (left right : NodeAt D) (first : ℕ) (s : Spot) (path : Regi
 -- ---- for how many cells the walk asks
 
 module _ {D : ℕ} (left right : NodeAt D) (first : ℕ) (s : Spot) (path : Region) (t : IndexTree) (k : AreChildren left right first s path t) where
-  pub left_compares : (a b : ℕ) → EachPlace left (λ _ _ u. b + 1 ≤ a + 2 * leaf_count u) → b + 2 ≤ a + 2 * leaf_count t
-  left_compares a b on_left = let x = on_left first s _ k.l k.left_is in let some = some_leaf k.r in let all = ap leaf_count k.is in omega (arith, x, some, all)
+  abbrev pub AskedOf : NodeAt D → (Region → Bool) → ℕ → ℕ → Type 0
+  AskedOf node crosses a b = (n : ℕ) (i : Spot) (p : Region) (u : IndexTree) → IsAt node n i p u → b ≤ a + asked_cells crosses p u
 
-  pub both_compares : (a b d : ℕ) → EachPlace left (λ _ _ u. b + 1 ≤ a + 2 * leaf_count u) → EachPlace right (λ _ _ u. d + 1 ≤ b + 2 * leaf_count u)
-      → d + 2 ≤ a + 2 * leaf_count t
-  both_compares a b d on_left on_right =
-      let x = on_left first s _ k.l k.left_is in
-      let y = on_right (first + leaf_count k.l) (right_begin s k.l k.r) _ k.r k.right_is in
-      let all = ap leaf_count k.is in
+  asked_both : (crosses : Region → Bool) (cell : Region) → cell ≡ cell_of path t → crosses cell ≡ true
+      → asked_cells crosses path t
+      ≡ 1 + (asked_cells crosses (left_of path k.dimension k.value) k.l + asked_cells crosses (right_of path k.dimension k.value) k.r)
+  asked_both crosses cell is crossed =
+      subst (λ u. crosses (cell_of path u) ≡ true
+      → asked_cells crosses path u
+      ≡ 1 + (asked_cells crosses (left_of path k.dimension k.value) k.l + asked_cells crosses (right_of path k.dimension k.value) k.r))
+      (sym k.is) (asked_split crosses path k.dimension k.value k.l k.r) (subst (λ r. crosses r ≡ true) is crossed)
+
+  -- a node that is crossed is asked for before its children
+  pub left_compares : (crosses of_left : Region → Bool) (a b : ℕ) → of_left ≡ crosses → (cell : Region) → cell ≡ cell_of path t → crosses cell ≡ true
+      → AskedOf left of_left a b → b + 1 ≤ a + asked_cells crosses path t
+  left_compares crosses of_left a b e cell is crossed on_left =
+      let x = subst (λ f. b ≤ a + asked_cells f (left_of path k.dimension k.value) k.l) e (on_left first s _ k.l k.left_is) in
+      let all = asked_both crosses cell is crossed in
+      omega (arith, x, all)
+
+  pub both_compares : (crosses of_left of_right : Region → Bool) (a b d : ℕ) → of_left ≡ crosses → of_right ≡ crosses → (cell : Region) → cell ≡ cell_of path t
+      → crosses cell ≡ true → AskedOf left of_left a b → AskedOf right of_right b d → d + 1 ≤ a + asked_cells crosses path t
+  both_compares crosses of_left of_right a b d e f cell is crossed on_left on_right =
+      let x = subst (λ g. b ≤ a + asked_cells g (left_of path k.dimension k.value) k.l) e (on_left first s _ k.l k.left_is) in
+      let y = subst (λ g. d ≤ b + asked_cells g (right_of path k.dimension k.value) k.r) f
+      (on_right (first + leaf_count k.l) (right_begin s k.l k.r) _ k.r k.right_is) in
+      let all = asked_both crosses cell is crossed in
       omega (arith, x, y, all)
 
 -- ---- what a fault of a child says

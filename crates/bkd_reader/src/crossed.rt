@@ -30,8 +30,8 @@ use page_cache::{PageCache, PageFault};
 use segment_file::{SegmentHead, bad_leaf, leaf_in, load_leaf};
 use std::alloc::{AllocError, Global};
 
-/// Appends the numbers of the live entries of a leaf that the shape has. It is asked for some of the entries. All of
-/// them, live or dead, count as tested.
+/// Appends the numbers of the live entries of a leaf that the shape has. It is asked for some of the entries, before
+/// their numbers are looked at, since mostly it has few of them. All, live or dead, count as tested.
 pub fn test_leaf<const D: usize, S: Shape<D>, F: Pages>(
     alloc: Global,
     head: &SegmentHead<D>,
@@ -95,11 +95,11 @@ fn push_tested<const D: usize, S: Shape<D>>(
 {
     let (from, end) = within_reach(leaf, shape);
     for i in from..end {
-        let doc = leaf.doc(i);
-        if !live.is_live(doc) {
+        if !shape.contains(&leaf.point(i)) {
             continue;
         }
-        if !shape.contains(&leaf.point(i)) {
+        let doc = leaf.doc(i);
+        if !live.is_live(doc) {
             continue;
         }
         hits.push(doc)?;

@@ -6,7 +6,7 @@ ghost use Rattle.outer_io.specs.declared.file_name.FileName.TheVariants.{Segment
 ghost use Rattle.point_codec.specs.Points.{Item, Region};
 ghost use Rattle.cell_relate.specs.Relations.{AllAnswer, KeepsShape};
 ghost use Rattle.inner_pack.specs.Places.{Spot, front};
-ghost use Rattle.inner_pack.specs.Trees.{IndexTree, leaf_count, cell_of};
+ghost use Rattle.inner_pack.specs.Trees.{IndexTree, cell_of};
 ghost use Rattle.inner_pack.specs.Bodies.{HasTree};
 ghost use Rattle.inner_pack.specs.Nodes.{IsAt};
 ghost use Rattle.page_cache.specs.Cache.{Agrees};
@@ -16,7 +16,7 @@ ghost use Rattle.segment_file.specs.Heads.{count_of};
 ghost use Rattle.segment_file.specs.Segments.{HoldsTree, IsSegment};
 ghost use Rattle.segment_file.specs.Damages.{IsLeafDamage, IsLeafDamageOf};
 ghost use Rattle.bkd_reader.specs.Below.{IsRoot};
-ghost use Rattle.bkd_reader.specs.Counts.{tested_entries, touched_leaves, IsCost};
+ghost use Rattle.bkd_reader.specs.Counts.{asked_cells, tested_entries, touched_leaves, IsCost};
 ghost use Rattle.bkd_reader.specs.Hits.{AreHits, Appends, Begins, hits_in};
 ghost use Rattle.bkd_reader.specs.Unread.{AreKept, IsAny, IsTouched, ReadsLeaves};
 
@@ -43,9 +43,10 @@ pub struct Cost {
 /// Appends the numbers of the live entries of the segment that the shape has, in the order of the leaves, and answers
 /// what the walk counts.
 ///
-/// A number stands there once for each of its entries that the shape has. Only entries of leaves whose own cell the
-/// shape crosses are tested, only leaves whose own cell is not outside are read, and where their pages are all kept
-/// nothing is read. No page is looked at that the answer doesn't need: a damage elsewhere in the segment is not met.
+/// A number stands there once for each of its entries that the shape has. No cell is asked for below one that isn't
+/// crossed, only entries of leaves whose own cell the shape crosses are tested, only leaves whose own cell is not
+/// outside are read, and where their pages are all kept nothing is read. No page is looked at that the answer doesn't
+/// need: a damage elsewhere in the segment is not met.
 /// After an error the hits begin with what they held, and may have more behind it.
 pub fn intersect<const D: usize, S: Shape<D>, F: Pages>(
     alloc: Global,
@@ -71,7 +72,7 @@ pub fn intersect<const D: usize, S: Shape<D>, F: Pages>(
     ensures tests { (root : Region) (t : IndexTree) → HasTree D head.now.index root t
         → S.tests shape.new ≤ S.tests shape.old + tested_entries (S.crosses shape.old) (count_of head.now) 0 t }
     ensures compares { (root : Region) (t : IndexTree) → HasTree D head.now.index root t
-        → S.compares shape.new ≤ S.compares shape.old + 2 * leaf_count t }
+        → S.compares shape.new ≤ S.compares shape.old + asked_cells (S.crosses shape.old) root t }
     ensures reads { (root : Region) (t : IndexTree) → HasTree D head.now.index root t
         → ReadsLeaves head.now (S.has shape.old) (S.crosses shape.old) front t (F.reads folder.old)
         (F.reads folder.new) cache.old cache.new result }
@@ -122,7 +123,7 @@ fn visit<const D: usize, S: Shape<D>, F: Pages>(
     ensures tests { (first : ℕ) (s : Spot) (path : Region) (t : IndexTree) → IsRoot node.now first s path t
         → S.tests shape.new ≤ S.tests shape.old + tested_entries (S.crosses shape.old) (count_of head.now) first t }
     ensures compares { (first : ℕ) (s : Spot) (path : Region) (t : IndexTree) → IsAt node.now first s path t
-        → S.compares shape.new + 1 ≤ S.compares shape.old + 2 * leaf_count t }
+        → S.compares shape.new ≤ S.compares shape.old + asked_cells (S.crosses shape.old) path t }
     ensures reads { (first : ℕ) (s : Spot) (path : Region) (t : IndexTree) → IsRoot node.now first s path t
         → F.reads folder.new ≤ F.reads folder.old + touched_leaves (S.has shape.old) (S.crosses shape.old) t }
     ensures kept { (first : ℕ) (s : Spot) (path : Region) (t : IndexTree) → IsRoot node.now first s path t

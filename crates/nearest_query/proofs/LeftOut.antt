@@ -5,7 +5,7 @@ use Rattle.std.proofs.Math.Nat.{mul-le-mul}
 use Rattle.std.proofs.lemmas.Int.{ints}
 use Rattle.std.proofs.lemmas.List.{get_or-map, get_or-take, get_or-drop, length-take-le, length-drop, take-take}
 use Rattle.std.proofs.lemmas.List.Sums.{sum_by-cons, sum_by_more, sum_by-take-drop}
-use Rattle.std.proofs.lemmas.List.Elements.{All-contains, All-head, All-tail, All-weaker}
+use Rattle.std.proofs.lemmas.List.Elements.{All-cons, All-contains, All-head, All-nil, All-tail, All-weaker}
 use Rattle.std.specs.Prelude.{IsSomeAnd}
 use Rattle.std.specs.List.{sum_by, All}
 use Rattle.point_codec.specs.Points.{Item, dist2, square}
@@ -61,6 +61,12 @@ far_added at live c d near (x ∷ xs) far seen best =
           let t = was.totals f in
           omega (arith, a, b, t);
     }
+
+-- one that is that far, live or dead
+pub one_far : (at : List ℤ) (live : LiveSet) (c : Candidates) (d : ℕ) (x : Item) → d ≡ dist2 x.at at → AreNearer d c
+    → (seen : List Near) → AreBest seen c → AreAdded seen (nears_of at (live_items live (x ∷ []))) c
+one_far at live c d x is near seen best =
+    far_added at live c d near (x ∷ []) (All-cons (λ y. d ≤ dist2 y.at at) x [] (omega (arith, is)) (All-nil (λ y. d ≤ dist2 y.at at))) seen best
 
 -- ---- one after another
 

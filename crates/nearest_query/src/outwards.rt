@@ -1,9 +1,9 @@
 //! The entries of a leaf, offered outwards from a point's place in the dimension in which they ascend.
 
-ghost use Rattle.std.specs.Prelude.{◌≡◌, ◌<◌, List, ◌∷◌, length, Some, IsSomeAnd, IsTrue, OnOk, take, drop, slice_get, ◌-ℤ◌};
+ghost use Rattle.std.specs.Prelude.{◌≡◌, ◌<◌, List, [], ◌∷◌, length, Some, IsTrue, OnOk, take, drop, slice_get, ◌-ℤ◌};
 ghost use Rattle.point_codec.specs.Points.{Item, square};
 ghost use Rattle.point_codec.specs.declared.entries.Near.{Near};
-ghost use Rattle.documents.specs.NearestEntries.{near_of, nears_of};
+ghost use Rattle.documents.specs.NearestEntries.{nears_of};
 ghost use Rattle.nearest_query.specs.Best.{AreBest, AreAdded, AreNearer};
 ghost use Rattle.nearest_query.specs.Parted.{AreParted, gap2};
 ghost use Rattle.nearest_query.specs.Segments.{live_items};
@@ -14,8 +14,8 @@ use live_bits::LiveBits;
 use point_codec::{Near, Point};
 use std::alloc::AllocError;
 
-/// Offers the live entries from the place on, up to the first of them that is so far away in dimension `d` that neither
-/// it nor one behind it can be among the nearest. A dead entry is passed over.
+/// Offers the live entries from the place on, up to the first entry that is so far away in dimension `d` that neither
+/// it nor one behind it can be among the nearest.
 pub fn offer_above<const D: usize>(
     view: &LeafView<'_, D>,
     live: &LiveBits,
@@ -30,14 +30,10 @@ pub fn offer_above<const D: usize>(
         → OnOk result (AreAdded seen (nears_of at.now.c (live_items live.now (drop place view.now))) found.new) }
 {
     for i in place..view.count() {
-        let doc = view.doc(i);
-        if !live.is_live(doc) {
-            continue;
-        }
         if is_beyond(view, at, d, i, found) {
             return Ok(());
         }
-        offer_entry(view, at, i, doc, found)?;
+        offer_entry(view, live, at, i, found)?;
     }
     Ok(())
 }
@@ -57,14 +53,10 @@ pub fn offer_below<const D: usize>(
         → OnOk result (AreAdded seen (nears_of at.now.c (live_items live.now (take place view.now))) found.new) }
 {
     for i in (0..place).rev() {
-        let doc = view.doc(i);
-        if !live.is_live(doc) {
-            continue;
-        }
         if is_beyond(view, at, d, i, found) {
             return Ok(());
         }
-        offer_entry(view, at, i, doc, found)?;
+        offer_entry(view, live, at, i, found)?;
     }
     Ok(())
 }
@@ -94,22 +86,26 @@ fn squared_gap(a: &i32, b: &i32) -> u64
     apart * apart
 }
 
-/// Offers entry `i`, of which this is the document's number.
+/// Offers entry `i` where it is live. Mostly it is too far away, and its number isn't looked at.
 fn offer_entry<const D: usize>(
     view: &LeafView<'_, D>,
+    live: &LiveBits,
     at: &Point<D>,
     i: u16,
-    doc: u32,
     found: &mut Candidates,
 ) -> Result<(), AllocError>
-    requires within { i < length view.now }
-    requires number { IsSomeAnd (slice_get view.now i) (λ x. doc ≡ x.doc) }
+    requires { i < length view.now }
     ensures room { found.new.many.room ≡ found.old.many.room }
     ensures found { (x : Item) → slice_get view.now i ≡ Some x → (seen : List Near) → AreBest seen found.old
-        → OnOk result (AreBest (near_of at.now.c x ∷ seen) found.new) }
+        → OnOk result (AreAdded seen (nears_of at.now.c (live_items live.now (x ∷ []))) found.new) }
 {
-    found.offer(Near {
-        dist2: view.point(i).dist2(at),
-        doc,
-    })
+    let dist2 = view.point(i).dist2(at);
+    if found.ends_before(dist2) {
+        return Ok(());
+    }
+    let doc = view.doc(i);
+    if !live.is_live(doc) {
+        return Ok(());
+    }
+    found.offer(Near { dist2, doc })
 }

@@ -60,7 +60,8 @@ pub(crate) fn count_leaf<const D: usize, S: Sorting<D>, F: Pages>(
     Ok(())
 }
 
-/// Counts the leaf's live entries, each at its place. Those beyond the box where the leaf ascends are not looked at.
+/// Counts the leaf's live entries, each at its place. Those beyond the box where the leaf ascends are not looked at,
+/// and of those outside of it no number.
 fn count_live<const D: usize, S: Sorting<D>>(
     leaf: &LeafView<'_, D>,
     sorting: &S,
@@ -73,12 +74,12 @@ fn count_live<const D: usize, S: Sorting<D>>(
     let (low, high) = sorting.reach(d);
     let (from, end) = leaf.between(d, &low, &high);
     for i in from..end {
-        if !live.is_live(leaf.doc(i)) {
-            continue;
-        }
         let Some(place) = sorting.place_of(&leaf.point(i)) else {
             continue;
         };
+        if !live.is_live(leaf.doc(i)) {
+            continue;
+        }
         add(table, place, 1);
     }
 }

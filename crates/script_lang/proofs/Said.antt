@@ -1,13 +1,15 @@
 -- A text that grows by the text of one element after the other.
-use Rattle.std.proofs.Common.{◌≡◌, ℕ, ◌+◌, ◌<◌, List, [], ◌∷◌, ◌++◌, length, take, drop, ◌-◌, get_or, refl, ap, sym, ◌∙◌, append_assoc, subst}
+use Rattle.std.proofs.Common.{◌≡◌, ℕ, suc, ◌+◌, ◌<◌, ◌≤◌, ◌^◌, List, [], ◌∷◌, ◌++◌, length, take, drop, drop-cons}
+use Rattle.std.proofs.Common.{set, ◌-◌, get_or, ap, sym, ◌∙◌, append_assoc, subst, Fits}
+use Rattle.std.proofs.Common.{w32, rules, arith}
 use Rattle.std.specs.List.{flat_map}
 use Rattle.std.specs.Prelude.{codes, decimal, OnOk, Result}
-use Rattle.std.proofs.Math.Seq.{drop-append_seam}
 use Rattle.script_lang.specs.Replies.{text_line, found_text, found_of, refusal_text, polygon_text}
 use Rattle.polygon_query.specs.declared.geo_json.GeoFault.{GeoFault}
 use Rattle.polygon_query.specs.declared.geo_json.GeoFault.TheVariants as geo
 use Rattle.point_codec.specs.declared.entries.Near.{Near}
-use Rattle.std.proofs.lemmas.List.{take_more, take_rest, drop-drop, append-nil, get_or-map, length-map}
+use Rattle.std.proofs.lemmas.List.{take_more, append-nil, drop-set, get_or-map, length-map}
+use Rattle.std.proofs.lemmas.Fmt.{length-decimal-le}
 use Rattle.std.proofs.lemmas.Grind.{flat_map-append}
 
 -- the text of one element more
@@ -18,27 +20,25 @@ said_more text xs i x old now new inside so_far more =
     more ∙ rw (so_far, take_more xs i x inside, flat_map-append text (take i xs) (get_or xs i x ∷ []), append-nil (text (get_or xs i x)))
     (append_assoc old (flat_map text (take i xs)) (text (get_or xs i x)))
 
--- a number written before a byte 10, from start on, and that byte stays
-pub line_ends : (n start : ℕ) (before after : List ℕ) → start + length (decimal n) ≡ 10 → drop start after ≡ decimal n ++ drop 10 before
-    → drop 10 before ≡ 10 ∷ [] → drop 10 after ≡ 10 ∷ []
-line_ends n start before after ends written stays =
-    let from_start : drop 10 after ≡ drop (length (decimal n)) (drop start after) =
-    ap (λ k. drop k after) (sym ends) ∙ sym (drop-drop (length (decimal n)) start after) in
-    from_start ∙ rw (written, stays) (drop-append_seam (decimal n) (10 ∷ []))
+-- a number of 32 bits has at most ten digits
+pub ten_digits : (n m : ℕ) → n ≡ m → Fits w32 m → length (decimal n) ≤ 10
+ten_digits n m is fits = let small : m < 2 ^ 32 = search rules in length-decimal-le 10 n (omega arith) (omega arith) (omega arith)
 
-pub line_said : (n start : ℕ) (before after : List ℕ) → drop start after ≡ decimal n ++ drop 10 before
-    → drop 10 before ≡ 10 ∷ [] → drop start after ≡ text_line (decimal n)
-line_said n start before after written stays = rw (written, stays) refl
-
--- the text of one number more
-pub number_said : (docs : List ℕ) (i n start size : ℕ) (old now new before after : List ℕ) → i < length docs → n ≡ get_or docs i 0 → length after ≡ size
-    → now ≡ old ++ flat_map (λ doc. text_line (decimal doc)) (take i docs)
-    → drop start after ≡ decimal n ++ drop 10 before → drop 10 before ≡ 10 ∷ []
-    → new ≡ now ++ take (size - start) (drop start after)
-    → new ≡ old ++ flat_map (λ doc. text_line (decimal doc)) (take (i + 1) docs)
-number_said docs i n start size old now new before after inside is long so_far written stays more =
-    said_more (λ doc. text_line (decimal doc)) docs i 0 old now new inside so_far
-    (more ∙ rw (← long, take_rest after start, line_said n start before after written stays, is) refl)
+-- the line of number i - 1 written before those of the numbers from i on
+pub line_before : (docs before : List ℕ) (i at n : ℕ) (after : List ℕ) → 0 < i → i ≤ length docs → 0 < at → at ≤ length before
+    → n ≡ get_or docs (i - 1) 0 → after ≡ decimal n ++ drop (at - 1) (set before (at - 1) 10)
+    → drop at before ≡ flat_map (λ doc. text_line (decimal doc)) (drop i docs)
+    → after ≡ flat_map (λ doc. text_line (decimal doc)) (drop (i - 1) docs)
+line_before docs before i at n after some within place long is written so_far =
+    let next : suc (i - 1) ≡ i = omega arith in
+    let behind : at - 1 + 1 ≡ at = omega arith in
+    written
+    ∙ ap (λ (xs : List ℕ). decimal n ++ xs)
+    (drop-set before (at - 1) 10 (omega arith) ∙ ap (λ (k : ℕ). 10 ∷ drop k before) behind ∙ ap (λ (xs : List ℕ). 10 ∷ xs) so_far)
+    ∙ sym (append_assoc (decimal n) (10 ∷ []) (flat_map (λ doc. text_line (decimal doc)) (drop i docs)))
+    ∙ ap (λ (k : ℕ). text_line (decimal k) ++ flat_map (λ doc. text_line (decimal doc)) (drop i docs)) is
+    ∙ ap (λ (k : ℕ). text_line (decimal (get_or docs (i - 1) 0)) ++ flat_map (λ doc. text_line (decimal doc)) (drop k docs)) (sym next)
+    ∙ ap (flat_map (λ doc. text_line (decimal doc))) (sym (drop-cons docs (i - 1) 0 (omega arith)))
 
 joined : (a b : List ℕ) → a ++ (codes " " ++ (b ++ (codes "\n" ++ []))) ≡ text_line (a ++ codes " " ++ b)
 joined a b = simp append_assoc

@@ -1,14 +1,21 @@
 //! The texts that answer lines. After want of memory the text is as before.
 
-ghost use Rattle.std.specs.Prelude.{◌≡◌, ◌++◌, ◌≢◌, OnOk, OnErr, length, take};
+ghost use Rattle.std.specs.Prelude.{◌≡◌, ◌≤◌, ◌*◌, ◌++◌, ◌≢◌, OnOk, OnErr, decimal, drop, length, take};
 ghost use Rattle.std.specs.List.{flat_map};
 ghost use Rattle.script_lang.specs.Replies.{ok_text, doc_text, deleted_text, hits_text, near_text, line_fault_text};
 ghost use Rattle.script_lang.specs.Replies.{refused_text, refusal_text, polygon_text, found_of};
+ghost use Rattle.script_lang.specs.Replies.{text_line};
 
 use crate::faults::{LineFault, Memory, Refusal};
 use itoa::{Buffer, write_digits};
 use point_codec::Near;
 use polygon_query::GeoFault;
+
+/// How many bytes of text are put together before they are appended.
+const BLOCK: usize = 1024;
+
+/// As many numbers as stand in a block, whatever they are: each has at most ten digits, and a byte 10 behind them.
+const IN_BLOCK: usize = 93;
 
 /// Appends `ok`, the answer to a command that gives nothing back.
 #[tactic(auto, unfolding(crate::specs::Replies::ok_text))]
@@ -63,13 +70,30 @@ fn append_hits(out: &mut Vec<u8>, docs: &[u32]) -> Result<(), Memory>
         out,
         &[b"hits ", digits.format(docs.len()).as_bytes(), b"\n"],
     )?;
-    // each number is written before the byte 10 that stays at the end
-    let mut line = [b'\n'; 11];
-    for doc in docs {
-        let start = write_digits(u64::from(*doc), &mut line, 10);
-        out.extend_from_slice(&line[start..])?;
+    let mut block = [0; BLOCK];
+    let mut rest = docs;
+    while !rest.is_empty() {
+        let (front, behind) = rest.split_at(IN_BLOCK.min(rest.len()));
+        let start = put_lines(&mut block, front);
+        out.extend_from_slice(&block[start..])?;
+        rest = behind;
     }
     Ok(())
+}
+
+/// Writes each number on a line of its own, so that the last line ends where the block does, and answers where the
+/// first begins. Digits are written from the last to the first, and so are the numbers: none is moved.
+fn put_lines(block: &mut [u8], docs: &[u32]) -> usize
+    requires { 11 * length docs.now ≤ length block.old }
+    ensures within { result ≤ length block.old }
+    ensures lines { drop result block.new ≡ flat_map (λ doc. text_line (decimal doc)) docs.now }
+{
+    let mut at = block.len();
+    for i in (0..docs.len()).rev() {
+        block[at - 1] = b'\n';
+        at = write_digits(u64::from(docs[i]), block, at - 1);
+    }
+    at
 }
 
 /// Appends how many documents were found, and each one's number and squared distance on a line of its own.

@@ -8,6 +8,7 @@ pub mod Counting
 pub mod Stepwise
 pub mod Hits
 pub mod Marked
+pub mod Levels
 pub mod Numbered
 pub mod Listing
 pub mod Costing

@@ -8,6 +8,7 @@
 mod answers;
 mod gathering;
 mod laws;
+mod marks;
 mod nearby;
 mod ordering;
 mod pairs;

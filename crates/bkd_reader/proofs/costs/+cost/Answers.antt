@@ -1,14 +1,14 @@
-use Rattle.std.proofs.Common.{rules, ◌≡◌, ◌+◌, ◌≤◌, true, false, refl, sym, subst, ◌∙◌, arith}
+use Rattle.std.proofs.Common.{rules, ◌≡◌, ◌+◌, true, false, refl, sym, subst, ◌∙◌, arith}
 use Rattle.cell_relate.specs.Relations.{AllAnswer, IsUncrossed}
-use Rattle.point_codec.specs.Cells.{left_of, right_of}
 use Rattle.inner_pack.specs.Trees.{cell_of, leaf_count}
 use Rattle.inner_pack.specs.Bodies.{right_begin}
 use Rattle.segment_file.specs.Heads.{count_of}
-use Rattle.bkd_reader.specs.Counts.{asked_cells, tested_entries, touched_leaves}
+use Rattle.bkd_reader.specs.Counts.{tested_entries, touched_leaves}
 use Rattle.bkd_reader.proofs.Cells.{crossed_tested, crossed_touched, touched_all}
 use Rattle.bkd_reader.proofs.Trees.{count_at, left_root, right_root}
 use Rattle.bkd_reader.proofs.Sums.{tested_both, touched_both}
-use Rattle.bkd_reader.proofs.Uncrossed.{asked_some, asked_split, untested, untouched}
+use Rattle.bkd_reader.proofs.Uncrossed.{asked_some, untested, untouched}
+use Rattle.bkd_reader.proofs.Walks.{both_compares}
 use Rattle.bkd_reader.proofs.costs.+cost.Goals as goal
 use Rattle.segment_file.proofs.Subtrees.{only_leaf}
 
@@ -79,26 +79,11 @@ returns-in-Some-clause-touched g t c = λ first s path t' root.
 
 pub returns-in-Some-clause-compares : goal.returns-in-Some-clause-compares
 returns-in-Some-clause-compares g t c = λ first s path t' is.
-    let k = c.in-Some.ensures.some first s path t' is in
-    let crosses = g.S.Shape.crosses c.args.shape.now in
-    let left = subst
-    (λ f. g.S.Shape.compares c.cost-left_tested.new.shape
-    ≤ g.S.Shape.compares c.compare.new.self + asked_cells f (left_of path k.dimension k.value) k.l)
-    c.compare.ensures.crosses
-    (c.cost-left_tested.ensures.compares first s (left_of path k.dimension k.value) k.l k.left_is) in
-    let right = subst
-    (λ f. g.S.Shape.compares c.cost-right_tested.new.shape
-    ≤ g.S.Shape.compares c.cost-left_tested.new.shape + asked_cells f (right_of path k.dimension k.value) k.r)
-    (c.cost-left_tested.ensures.crosses ∙ c.compare.ensures.crosses)
-    (c.cost-right_tested.ensures.compares (first + leaf_count k.l) (right_begin s k.l k.r) (right_of path k.dimension k.value) k.r k.right_is) in
-    let crossed = subst (λ r. crosses r ≡ true) (c.cell.ensures first s path t' is) c.in-Crosses.ensures.answer in
-    let both = subst
-    (λ u. crosses (cell_of path u) ≡ true
-    → asked_cells crosses path u
-    ≡ 1 + (asked_cells crosses (left_of path k.dimension k.value) k.l + asked_cells crosses (right_of path k.dimension k.value) k.r))
-    (sym k.is) (asked_split crosses path k.dimension k.value k.l k.r) crossed in
+    let all = both_compares c.in-Some.left c.in-Some.right first s path t' (c.in-Some.ensures.some first s path t' is) (g.S.Shape.crosses c.args.shape.now)
+    _ _ _ _ _ c.compare.ensures.crosses (c.cost-left_tested.ensures.crosses ∙ c.compare.ensures.crosses) _ (c.cell.ensures first s path t' is)
+    c.in-Crosses.ensures.answer c.cost-left_tested.ensures.compares c.cost-right_tested.ensures.compares in
     let one = c.compare.ensures.compares in
-    omega (arith, left, right, both, one)
+    omega (arith, all, one)
 
 -- ---- a leaf whose own cell is crossed
 

@@ -16,23 +16,6 @@ loop-i-init g c = record {
   crosses = refl;
 }
 
-pub loop-i-preserved-then-not-is_live : goal.loop-i-preserved-then-not-is_live
-loop-i-preserved-then-not-is_live g c =
-    let within : c.loop-i.i < length c.args.leaf.now = omega (arith, c.loop-i-test.true, c.within_reach-from.ensures.within) in
-    let doc = read_item (λ x. c.doc-doc.result ≡ x.doc) c.args.leaf.now c.loop-i.i within c.doc-doc.ensures in
-    let was = c.loop-i.invariant in
-    record {
-      hits = was.hits
-          ∙ ap (λ z. c.args.hits.now.items ++ z)
-          (sym (dead_more (g.S.Shape.has c.args.shape.now) c.args.live.now c.args.leaf.now c.loop-i.i c.doc-doc.result within doc
-          (sym c.is_live.ensures ∙ c.if-not-is_live.true)));
-      within = omega (arith, within);
-      tests = let few = was.tests in omega (arith, few);
-      compares = was.compares;
-      has = was.has;
-      crosses = was.crosses;
-    }
-
 pub loop-i-preserved-then-not-contains : goal.loop-i-preserved-then-not-contains
 loop-i-preserved-then-not-contains g c =
     let within : c.loop-i.i < length c.args.leaf.now = omega (arith, c.loop-i-test.true, c.within_reach-from.ensures.within) in
@@ -43,6 +26,23 @@ loop-i-preserved-then-not-contains g c =
     record {
       hits = was.hits
           ∙ ap (λ z. c.args.hits.now.items ++ z) (sym (outside_more (g.S.Shape.has c.args.shape.now) c.args.live.now c.args.leaf.now c.loop-i.i within out));
+      within = omega (arith, within);
+      tests = let few = was.tests in let one = c.contains.ensures.tests in omega (arith, few, one);
+      compares = c.contains.ensures.compares ∙ was.compares;
+      has = c.contains.ensures.has ∙ was.has;
+      crosses = c.contains.ensures.crosses ∙ was.crosses;
+    }
+
+pub loop-i-preserved-then-not-is_live : goal.loop-i-preserved-then-not-is_live
+loop-i-preserved-then-not-is_live g c =
+    let within : c.loop-i.i < length c.args.leaf.now = omega (arith, c.loop-i-test.true, c.within_reach-from.ensures.within) in
+    let doc = read_item (λ x. c.doc-doc.result ≡ x.doc) c.args.leaf.now c.loop-i.i within c.doc-doc.ensures in
+    let was = c.loop-i.invariant in
+    record {
+      hits = was.hits
+          ∙ ap (λ z. c.args.hits.now.items ++ z)
+          (sym (dead_more (g.S.Shape.has c.args.shape.now) c.args.live.now c.args.leaf.now c.loop-i.i c.doc-doc.result within doc
+          (sym c.is_live.ensures ∙ c.if-not-is_live.true)));
       within = omega (arith, within);
       tests = let few = was.tests in let one = c.contains.ensures.tests in omega (arith, few, one);
       compares = c.contains.ensures.compares ∙ was.compares;

@@ -12,7 +12,6 @@ use Rattle.inner_pack.specs.Nodes.{IsAt}
 use Rattle.page_cache.specs.Cache.{Agrees}
 use Rattle.page_cache.proofs.Unread.{reads_failed}
 use Rattle.segment_file.specs.Heads.{count_of}
-use Rattle.segment_file.proofs.Subtrees.{some_leaf}
 use Rattle.bkd_reader.specs.Below.{IsRoot}
 use Rattle.bkd_reader.specs.Counts.{touched_leaves}
 use Rattle.bkd_reader.specs.declared.walk.Cost.{Cost}
@@ -21,6 +20,7 @@ use Rattle.bkd_reader.proofs.Cells.{touched_all}
 use Rattle.bkd_reader.proofs.HitLemmas.{begins_on}
 use Rattle.bkd_reader.proofs.LeafNodes.{leaf_kept, leaf_tested, leaf_tests, leaf_touched, none_found, none_tested, none_touched}
 use Rattle.bkd_reader.proofs.Trees.{handed_on, count_at, held}
+use Rattle.bkd_reader.proofs.Uncrossed.{asked_some}
 use Rattle.bkd_reader.proofs.Unread.{any_kept}
 use Rattle.bkd_reader.proofs.Walks.{both_compares, both_hits, both_kept, both_reads, both_tested, both_tests, both_touched, held_right}
 use Rattle.bkd_reader.proofs.Walks.{left_compares, left_kept, left_reads, left_shown, left_tests, right_shown}
@@ -36,7 +36,7 @@ returns-in-Outside-clause-hits g t c = λ told agrees first s path t' root.
 
 pub returns-in-Outside-clause-compares : goal.returns-in-Outside-clause-compares
 returns-in-Outside-clause-compares g t c = λ first s path t' is.
-    let some = some_leaf t' in
+    let some = asked_some (g.S.Shape.crosses c.args.shape.now) path t' in
     let one = c.compare.ensures.compares in omega (arith, some, one)
 
 pub returns-in-Outside-clause-tested : goal.returns-in-Outside-clause-tested
@@ -69,7 +69,7 @@ returns-in-Inside-clause-hits g t c = λ told agrees first s path t' root.
 
 pub returns-in-Inside-clause-compares : goal.returns-in-Inside-clause-compares
 returns-in-Inside-clause-compares g t c = λ first s path t' is.
-    let some = some_leaf t' in
+    let some = asked_some (g.S.Shape.crosses c.args.shape.now) path t' in
     let one = c.compare.ensures.compares in omega (arith, some, one)
 
 pub returns-in-Inside-clause-reads : goal.returns-in-Inside-clause-reads
@@ -106,7 +106,8 @@ returns-in_err-front-in-Some-clause-tests g t c = λ first s path t' root.
 pub returns-in_err-front-in-Some-clause-compares : goal.returns-in_err-front-in-Some-clause-compares
 returns-in_err-front-in-Some-clause-compares g t c = λ first s path t' is.
     let left =
-    left_compares c.in-Some.left c.in-Some.right first s path t' (c.in-Some.ensures.some first s path t' is) _ _ c.in_err-front-in-Some.ensures.compares in
+    left_compares c.in-Some.left c.in-Some.right first s path t' (c.in-Some.ensures.some first s path t' is) (g.S.Shape.crosses c.args.shape.now) _ _ _
+    c.compare.ensures.crosses _ (c.cell.ensures first s path t' is) c.in-Crosses.ensures.answer c.in_err-front-in-Some.ensures.compares in
     let one = c.compare.ensures.compares in omega (arith, left, one)
 
 pub returns-in_err-front-in-Some-clause-reads : goal.returns-in_err-front-in-Some-clause-reads
@@ -145,8 +146,9 @@ returns-in_err-back-in-Some-clause-tests g t c = λ first s path t' root.
 
 pub returns-in_err-back-in-Some-clause-compares : goal.returns-in_err-back-in-Some-clause-compares
 returns-in_err-back-in-Some-clause-compares g t c = λ first s path t' is.
-    let all = both_compares c.in-Some.left c.in-Some.right first s path t' (c.in-Some.ensures.some first s path t' is) _ _ _ c.visit.ensures.compares
-    c.visit-in-Some.ensures.compares in
+    let all = both_compares c.in-Some.left c.in-Some.right first s path t' (c.in-Some.ensures.some first s path t' is) (g.S.Shape.crosses c.args.shape.now)
+    _ _ _ _ _ c.compare.ensures.crosses (c.visit.ensures.crosses ∙ c.compare.ensures.crosses) _ (c.cell.ensures first s path t' is)
+    c.in-Crosses.ensures.answer c.visit.ensures.compares c.visit-in-Some.ensures.compares in
     let one = c.compare.ensures.compares in omega (arith, all, one)
 
 pub returns-in_err-back-in-Some-clause-reads : goal.returns-in_err-back-in-Some-clause-reads
@@ -168,8 +170,9 @@ returns-in_ok-back-in-Some-clause-tests g t c = λ first s path t' root.
 
 pub returns-in_ok-back-in-Some-clause-compares : goal.returns-in_ok-back-in-Some-clause-compares
 returns-in_ok-back-in-Some-clause-compares g t c = λ first s path t' is.
-    let all = both_compares c.in-Some.left c.in-Some.right first s path t' (c.in-Some.ensures.some first s path t' is) _ _ _ c.visit.ensures.compares
-    c.visit-in-Some.ensures.compares in
+    let all = both_compares c.in-Some.left c.in-Some.right first s path t' (c.in-Some.ensures.some first s path t' is) (g.S.Shape.crosses c.args.shape.now)
+    _ _ _ _ _ c.compare.ensures.crosses (c.visit.ensures.crosses ∙ c.compare.ensures.crosses) _ (c.cell.ensures first s path t' is)
+    c.in-Crosses.ensures.answer c.visit.ensures.compares c.visit-in-Some.ensures.compares in
     let one = c.compare.ensures.compares in omega (arith, all, one)
 
 pub returns-in_ok-back-in-Some-clause-reads : goal.returns-in_ok-back-in-Some-clause-reads
@@ -255,7 +258,7 @@ returns-in-None-clause-tests g t c = λ first s path t' root.
 
 pub returns-in-None-clause-compares : goal.returns-in-None-clause-compares
 returns-in-None-clause-compares g t c = λ first s path t' is.
-    let some = some_leaf t' in
+    let some = asked_some (g.S.Shape.crosses c.args.shape.now) path t' in
     let one = c.compare.ensures.compares in
     let same = c.test_leaf.ensures.compares in
     omega (arith, some, one, same)

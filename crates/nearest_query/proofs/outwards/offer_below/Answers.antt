@@ -1,15 +1,14 @@
-use Rattle.std.proofs.Common.{◌≡◌, ◌<◌, ◌+◌, ◌-◌, ◌∙◌, [], length, true, false, take, drop, get_or, Some, refl, sym, ap, subst, arith}
+use Rattle.std.proofs.Common.{◌≡◌, ◌<◌, ◌+◌, ◌-◌, ◌∙◌, [], length, take, drop, get_or, Some, refl, ap, subst, arith}
 use Rattle.std.proofs.lemmas.List.{drop_all, length-take-le}
 use Rattle.std.proofs.lemmas.Option.{slice_get-get_or, get_or_from_slice_get}
 use Rattle.std.specs.Prelude.{slice_get}
 use Rattle.point_codec.specs.Points.{Item}
-use Rattle.live_bits.specs.LiveSet.{is_live}
-use Rattle.documents.specs.NearestEntries.{near_of, nears_of}
+use Rattle.documents.specs.NearestEntries.{nears_of}
 use Rattle.nearest_query.specs.Best.{AreAdded}
 use Rattle.nearest_query.specs.Parted.{gap2}
 use Rattle.nearest_query.specs.Segments.{live_items}
 use Rattle.nearest_query.proofs.Added.{added_none, added_same, no_item}
-use Rattle.nearest_query.proofs.LeftOut.{added_both, one_dead, one_live, said_of, far_added, far_below, down_more, down_rest}
+use Rattle.nearest_query.proofs.LeftOut.{added_both, far_added, far_below, down_more, down_rest}
 use Rattle.nearest_query.proofs.outwards.offer_below.Goals as goal
 
 pub loop-i-init : goal.loop-i-init
@@ -19,28 +18,6 @@ loop-i-init g c = record {
       (ap (λ xs. nears_of c.args.at.now.c (live_items c.args.live.now xs))
       (drop_all c.args.place (take c.args.place c.args.view.now) (omega (arith, length-take-le c.args.place c.args.view.now c.requires.within))));
 }
-
-pub loop-i-preserved-then-not-is_live : goal.loop-i-preserved-then-not-is_live
-loop-i-preserved-then-not-is_live g c =
-    let at = c.args.at.now.c in
-    let live = c.args.live.now in
-    let xs = c.args.view.now in
-    let i = c.loop-i.i - 1 in
-    let x : Item = get_or xs i no_item in
-    let next : c.loop-i.i ≡ i + 1 = omega (arith, c.loop-i-test.true) in
-    let to : i < c.args.place = omega (arith, next, c.loop-i.auto.i) in
-    let within : i < length xs = omega (arith, to, c.requires.within) in
-    let is : slice_get xs i ≡ Some x = slice_get-get_or xs i no_item within in
-    let doc = said_of (λ y. c.doc-doc.result ≡ y.doc) _ x is c.doc-doc.ensures in
-    let dead : is_live live x.doc ≡ false = ap (is_live live) (sym doc) ∙ sym c.is_live.ensures ∙ c.if-not-is_live.true in
-    record {
-      room = c.loop-i.invariant.room;
-      found = λ seen best.
-          let was = subst (λ n. AreAdded seen (nears_of at (live_items live (drop n (take c.args.place xs)))) c.loop-i.found) next
-          (c.loop-i.invariant.found seen best) in
-          added_both seen _ _ _ c.loop-i.found c.loop-i.found was (one_dead at live x was.after c.loop-i.found dead was.best)
-          (λ f. down_more at live f xs c.args.place i x to within (get_or_from_slice_get xs i x x is));
-    }
 
 pub loop-i-preserved : goal.loop-i-preserved
 loop-i-preserved g c =
@@ -53,15 +30,13 @@ loop-i-preserved g c =
     let to : i < c.args.place = omega (arith, next, c.loop-i.auto.i) in
     let within : i < length xs = omega (arith, to, c.requires.within) in
     let is : slice_get xs i ≡ Some x = slice_get-get_or xs i no_item within in
-    let doc = said_of (λ y. c.doc-doc.result ≡ y.doc) _ x is c.doc-doc.ensures in
-    let alive : is_live live x.doc ≡ true = ap (is_live live) (sym doc) ∙ sym c.is_live.ensures ∙ c.if-not-is_live.false in
     record {
       room = c.in_ok-offer_entry.ensures.room ∙ c.loop-i.invariant.room;
       found = λ seen best.
           let was = subst (λ n. AreAdded seen (nears_of at (live_items live (drop n (take c.args.place xs)))) c.loop-i.found) next
           (c.loop-i.invariant.found seen best) in
           added_both seen _ _ _ c.loop-i.found c.offer_entry.new.found was
-          (one_live at live x (near_of at x) was.after c.offer_entry.new.found alive refl (c.in_ok-offer_entry.ensures.found x is was.after was.best))
+          (c.in_ok-offer_entry.ensures.found x is was.after was.best)
           (λ f. down_more at live f xs c.args.place i x to within (get_or_from_slice_get xs i x x is));
     }
 

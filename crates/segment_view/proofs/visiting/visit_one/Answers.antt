@@ -58,7 +58,8 @@ returns-clause-compares g c =
     (λ root t has.
     let e = tree_count g.row.D c.args.head.now.index root t has in
     let m = c.intersect.ensures.compares root t has in
-    omega (arith, e, m))
+    let most = asked_most (g.S.Shape.crosses c.args.shape.now) root t in
+    omega (arith, e, m, most))
 
 pub returns-clause-reads : goal.returns-clause-reads
 returns-clause-reads g c = λ n all.
