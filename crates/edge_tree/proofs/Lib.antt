@@ -1,9 +1,10 @@
 pub mod Boxes
+pub mod Gathering
+pub mod Levels
 pub mod Passing
-pub mod Near
 pub mod Parts
 pub mod Same
 pub mod Sound
+pub mod Turns
 pub mod Walk
-pub mod Ways
 pub mod Whole

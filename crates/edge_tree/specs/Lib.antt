@@ -1,4 +1,4 @@
 pub mod Outlines
 pub mod Nodes
 pub mod Trees
-pub mod Ways
+pub mod Levels

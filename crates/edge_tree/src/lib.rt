@@ -7,11 +7,11 @@
 //! edges. No query takes memory.
 #![tactic(auto)]
 
+pub mod level;
 pub mod locator;
 pub mod nodes;
 pub mod outline;
 pub mod runs;
-pub mod stretch;
 pub mod tree;
 
 pub use locator::Locator;

@@ -1,74 +1,78 @@
 //! Points of one cell after another, told by the edges that meet the cell.
 
-ghost use Rattle.std.specs.Prelude.{◌≡◌, true, List, ℤ, IsTrue, IsFalse, IfOk};
+ghost use Rattle.std.specs.Prelude.{◌≡◌, ◌∷◌, [], true, List, ℤ, map, IsFalse, IfOk};
 ghost use Rattle.point_codec.specs.Points.{in_box};
 ghost use Rattle.point_codec.specs.Seen.{region_of};
 ghost use Rattle.ring_parity.specs.Rings.{all_edges, any_meets, is_within};
+ghost use Rattle.ring_parity.specs.Seen.{ends_of};
+ghost use Rattle.edge_tree.specs.Levels.{AreLevels};
 
-use crate::stretch::{Stretch, all_passed};
+use crate::level::{Level, gather, innermost, turned};
+use crate::nodes::location_in;
 use crate::tree::EdgeTree;
 use point_codec::{Cell, Point};
-use ring_parity::Rings;
+use ring_parity::{Edge, Rings};
 use std::alloc::{AllocError, Global};
 use std::marker::Model;
 
-/// A tree of edges with the last cell that was asked for and that some edge meets.
+/// How many levels there are at most.
+const MOST_LEVELS: usize = 64;
+
+/// A tree of edges, with levels: cells within cells that were asked for, and the edges near each.
 ///
-/// A walk over an index asks for a cell, and then for its points. The first of them takes the edges that meet the
-/// cell from the tree, and whether the cell's least corner counts for an odd number of all: each point is told by the
-/// way to it from there, which only those edges can pass.
+/// A walk over an index asks for a cell, then for cells within it, and then for the points of these. Each cell takes
+/// its edges from those of the level round it, and with them whether the others turn its points an odd number of times.
+/// So a point is told by the few edges near it. The lowest level has all edges, and the plane as its cell; what no
+/// other level has is asked of the tree.
 #[derive(Drop)]
 pub struct Locator {
     tree: EdgeTree,
-    cell: Cell<2>,
-    /// What is kept of the cell is there.
-    is_known: bool,
-    /// The cell's least corner counts for an odd number of the edges.
-    odd: bool,
-    near: Vec<Stretch>,
+    /// The edges of each level, behind those of the levels below it.
+    listed: Vec<Edge>,
+    levels: Vec<Level>,
 }
 
 impl Model for Locator {
-    ghost use Rattle.std.specs.Prelude.{List, IsTrue};
-    ghost use Rattle.point_codec.specs.Seen.{region_of};
+    ghost use Rattle.std.specs.Prelude.{List, vec_capacity};
     ghost use Rattle.ring_parity.specs.Edges.{EdgeEnds};
-    ghost use Rattle.edge_tree.specs.Ways.{IsKnown};
+    ghost use Rattle.edge_tree.specs.Levels.{IsLocator};
 
     ghost Value = { List EdgeEnds };
 
     ghost view = { λ l. l.tree };
 
-    ghost invariant = { λ l. IsTrue l.is_known → IsKnown l.tree (region_of l.cell) l.odd l.near.items };
+    ghost invariant = { λ l. IsLocator l.tree l.listed.items l.levels.items (vec_capacity l.listed)
+        (vec_capacity l.levels) };
 }
 
 impl Locator {
-    /// The edges of these rings. It takes memory for all that it will keep of a cell.
+    /// The edges of these rings. It takes all memory that any of its calls needs: eight times that of the edges.
     pub fn new(alloc: Global, r: &Rings) -> Result<Locator, AllocError>
         ensures { IfOk result (λ l. l ≡ all_edges r.now) }
     {
         let tree = EdgeTree::new(alloc, r)?;
-        let near = Vec::with_capacity(alloc, tree.size())?;
-        let corner = Point { c: [0, 0] };
+        let edges = tree.edges();
+        let mut listed = Vec::with_capacity(alloc, edges.len().saturating_mul(8))?;
+        for edge in edges {
+            listed.push_reserved(*edge);
+        }
+        let mut levels = Vec::with_capacity(alloc, MOST_LEVELS)?;
+        levels.push_reserved(lowest(listed.as_slice(), &plane()));
         Ok(Locator {
             tree,
-            cell: Cell {
-                lo: corner,
-                hi: corner,
-            },
-            is_known: false,
-            odd: false,
-            near,
+            listed,
+            levels,
         })
     }
 
-    /// The tree of the edges, without what is known of a cell.
+    /// The tree of the edges.
     pub fn tree(&self) -> &EdgeTree
         ensures { result.now ≡ self.now }
     {
         &self.tree
     }
 
-    /// Some edge does not miss the cell. The points of a cell that one meets are likely to be asked for next.
+    /// Some edge does not miss the cell. Cells within it and its points are likely to be asked for next.
     pub fn any_meets(&mut self, c: &Cell<2>) -> bool
         ensures told { result ≡ any_meets self.old (region_of c.now) }
         ensures one_answer { IsFalse result → (p q : List ℤ) → in_box (region_of c.now) p ≡ true
@@ -76,42 +80,81 @@ impl Locator {
             → is_within self.old p ≡ is_within self.old q }
         ensures same { self.new ≡ self.old }
     {
-        let meets = self.tree.any_meets(c);
-        if meets {
-            self.is_known = false;
-            self.cell = *c;
+        if innermost(self.levels.as_slice(), &c.lo, &c.hi) > 1 || self.tree.is_cut_by(c) {
+            self.narrow(c)
+        } else {
+            self.tree.any_meets(c)
         }
-        meets
     }
 
     /// The point is in the polygon: on an edge, or counted by an odd number of them.
-    pub fn contains(&mut self, p: &Point<2>) -> bool
-        ensures told { result ≡ is_within self.old p.now.c }
-        ensures same { self.new ≡ self.old }
-    {
-        if !self.is_known {
-            self.look();
-        }
-        self.told(p)
-    }
-
-    /// Keeps what the points of the cell are told by.
-    fn look(&mut self)
-        ensures { self.new ≡ self.old }
-    {
-        self.is_known = false;
-        self.odd = self.tree.odd(&self.cell.lo);
-        self.is_known = self.tree.gather(&self.cell, &mut self.near).is_ok();
-    }
-
-    /// The same as `contains`, by what is kept where the point is in the cell.
-    fn told(&self, p: &Point<2>) -> bool
+    pub fn contains(&self, p: &Point<2>) -> bool
         ensures { result ≡ is_within self.now p.now.c }
     {
-        if !self.is_known || !self.cell.has(p) {
+        let held = innermost(self.levels.as_slice(), p, p);
+        if held < 2 {
             return self.tree.contains(p);
         }
-        let beside = all_passed(self.tree.edges(), self.near.as_slice(), &self.cell.lo, p);
-        beside.on || self.odd != beside.odd
+        let place = self.levels[held - 1].locate(self.listed.as_slice(), p);
+        place.on || place.odd
+    }
+
+    /// The same as `any_meets`, by the edges of the innermost level round the cell. Where fewer of them meet the cell
+    /// it becomes a level on top of that one, where there is room.
+    fn narrow(&mut self, c: &Cell<2>) -> bool
+        ensures told { result ≡ any_meets self.old (region_of c.now) }
+        ensures same { self.new ≡ self.old }
+    {
+        let held = innermost(self.levels.as_slice(), &c.lo, &c.hi);
+        if held == 0 {
+            return self.tree.any_meets(c);
+        }
+        let outer = self.levels[held - 1];
+        self.levels.truncate(held);
+        self.listed.truncate(outer.end);
+        let room = self.listed.capacity() - outer.end;
+        let most = room.min(fewer(outer.end - outer.first));
+        let found = gather(&mut self.listed, outer.first, outer.end, c, most);
+        if !found.whole || held == MOST_LEVELS {
+            self.listed.truncate(outer.end);
+            return found.meets;
+        }
+        let end = self.listed.len();
+        let corner = outer.locate(self.listed.as_slice(), &c.lo);
+        let beside = turned(&self.listed[outer.end..end], &c.lo, &c.lo);
+        self.levels.push_reserved(Level {
+            cell: *c,
+            first: outer.end,
+            end,
+            odd: corner.odd != beside.odd,
+        });
+        found.meets
+    }
+}
+
+/// The most edges of a level on top of one of so many: seven eighths, so that there is room for all.
+fn fewer(edges: usize) -> usize {
+    edges - edges / 8
+}
+
+/// The cell of all points.
+fn plane() -> Cell<2> {
+    Cell {
+        lo: Point { c: [i32::MIN; 2] },
+        hi: Point { c: [i32::MAX; 2] },
+    }
+}
+
+/// The level of all edges, for this cell.
+fn lowest(edges: &[Edge], plane: &Cell<2>) -> Level
+    ensures { AreLevels (map ends_of edges.now) edges.now (result ∷ []) }
+{
+    let corner = location_in(edges, &plane.lo);
+    let beside = turned(edges, &plane.lo, &plane.lo);
+    Level {
+        cell: *plane,
+        first: 0,
+        end: edges.len(),
+        odd: corner.odd != beside.odd,
     }
 }

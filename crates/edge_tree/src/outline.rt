@@ -2,12 +2,11 @@
 
 ghost use Rattle.std.specs.Prelude.{◌≡◌, ℤ, false, List, [], ◌∷◌, ◌++◌, IfSome, not, int_lt};
 ghost use Rattle.std.specs.Bool.{beq};
-ghost use Rattle.ring_parity.specs.Edges.{EdgeEnds, x_of, y_of};
+ghost use Rattle.ring_parity.specs.Edges.{EdgeEnds, x_of};
 ghost use Rattle.ring_parity.specs.Seen.{ends_of};
 ghost use Rattle.edge_tree.specs.Outlines.{IsBoxed, are_apart, is_apart, is_off_ray, climbs, Outlines, IsLocation};
-ghost use Rattle.edge_tree.specs.Ways.{is_off_way};
 
-use point_codec::Point;
+use point_codec::{Cell, Point};
 use ring_parity::Edge;
 
 /// A box with sides along the axes.
@@ -60,18 +59,12 @@ impl Bounds {
         self.east < p.c[0] || are_apart(&self.south, &self.north, &p.c[1], &p.c[1])
     }
 
-    /// The box is above `q` or east of it, or below `q` and east of `p`.
-    pub fn is_off_way(&self, p: &Point<2>, q: &Point<2>) -> bool
-        ensures { result ≡ is_off_way self.now p.now.c q.now.c }
-    {
-        q.c[1] < self.south || q.c[0] < self.west || self.is_below(q) && self.is_east_of(p)
-    }
-
-    /// The box is below the point.
-    fn is_below(&self, p: &Point<2>) -> bool
-        ensures { result ≡ int_lt self.now.north (y_of p.now.c) }
-    {
-        self.north < p.c[1]
+    /// The box lies in the cell.
+    pub fn is_within(&self, c: &Cell<2>) -> bool {
+        c.lo.c[0] <= self.west
+            && c.lo.c[1] <= self.south
+            && self.east <= c.hi.c[0]
+            && self.north <= c.hi.c[1]
     }
 
     /// The box is east of the point.

@@ -1,17 +1,15 @@
 //! The tree of a polygon's edges and its queries.
 
-ghost use Rattle.std.specs.Prelude.{◌≡◌, ◌++◌, true, List, ℤ, All, IsFalse, IfOk, IfSome, OnOk, map};
+ghost use Rattle.std.specs.Prelude.{◌≡◌, ◌++◌, true, List, ℤ, IsFalse, IfOk, IfSome, map};
 ghost use Rattle.point_codec.specs.Points.{in_box};
 ghost use Rattle.point_codec.specs.Seen.{coordinates_of, region_of};
 ghost use Rattle.ring_parity.specs.Rings.{edges_of, all_edges, is_on_any, is_odd, any_meets, is_within, AreClosed};
 ghost use Rattle.ring_parity.specs.Seen.{ends_of};
 ghost use Rattle.edge_tree.specs.Outlines.{IsLocation, HasPosition};
-ghost use Rattle.edge_tree.specs.Ways.{IsStretch, all_on, AreNear};
 
 use crate::nodes::{Location, Node, location_in, meets_run, nodes_over};
 use crate::outline::Bounds;
 use crate::runs::runs_over;
-use crate::stretch::Stretch;
 use point_codec::{Cell, Point};
 use ring_parity::{Edge, Rings};
 use std::alloc::{AllocError, Global};
@@ -57,11 +55,6 @@ impl EdgeTree {
         ensures closed { AreClosed self.now }
     {
         self.edges.as_slice()
-    }
-
-    /// How many nodes the tree has, and so the most stretches that `gather` finds.
-    pub(crate) fn size(&self) -> usize {
-        self.nodes.len()
     }
 
     /// The point is on an edge, an end counted.
@@ -149,29 +142,12 @@ impl EdgeTree {
         false
     }
 
-    /// Puts the leaves some edge of which does not miss the cell in place of what the list held.
-    pub(crate) fn gather(&self, c: &Cell<2>, near: &mut Vec<Stretch>) -> Result<(), AllocError>
-        ensures each { All (IsStretch self.now) near.new.items }
-        ensures near { OnOk result (AreNear (region_of c.now) (all_on self.now near.new.items) self.now) }
-    {
-        near.clear();
-        let mut at = self.nodes.len();
-        while at > 0 {
-            let node = &self.nodes[at - 1];
-            if node.outline.bounds.is_apart(&c.lo, &c.hi) {
-                at = node.before;
-            } else {
-                if meets_run(&self.edges[node.first..node.end], c) {
-                    near.push(Stretch {
-                        bounds: node.outline.bounds,
-                        first: node.first,
-                        end: node.end,
-                    })?;
-                }
-                at -= 1;
-            }
+    /// Whether the cell has a part of the box round all edges, and not the whole of it.
+    pub(crate) fn is_cut_by(&self, c: &Cell<2>) -> bool {
+        match self.bounds() {
+            Some(bounds) => !bounds.is_apart(&c.lo, &c.hi) && !bounds.is_within(c),
+            None => true,
         }
-        Ok(())
     }
 }
 

@@ -107,7 +107,7 @@ fn relation_of(edges: &mut Locator, c: &Cell<2>) -> Relation
 {
     if edges.any_meets(c) {
         Relation::Crosses
-    } else if edges.tree().contains(&c.lo) {
+    } else if edges.contains(&c.lo) {
         Relation::Inside
     } else {
         Relation::Outside

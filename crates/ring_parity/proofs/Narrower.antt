@@ -124,10 +124,13 @@ narrower e outer inner l (is_north a b) =
 narrower e outer inner l (is_left_of c) = left_missed e inner (corners_narrower (x_of e.0) (y_of e.0) (x_of e.1) (y_of e.1) outer inner l c)
 narrower e outer inner l (is_right_of c) = right_missed e inner (corners_narrower (x_of e.1) (y_of e.1) (x_of e.0) (y_of e.0) outer inner l c)
 
+pub missed_within : (e : EdgeEnds) (outer inner : Region) → within inner outer ≡ true → all_le inner.lo inner.hi ≡ true → misses e outer ≡ true
+    → misses e inner ≡ true
+missed_within e outer inner h ordered m = narrower e outer inner (lies_in outer inner h ordered) (misses_by e outer m)
+
 -- a cell within one that no edge meets is met by none
 pub none_meets_within : (edges : List EdgeEnds) (outer inner : Region) → within inner outer ≡ true → all_le inner.lo inner.hi ≡ true
     → any_meets edges outer ≡ false → any_meets edges inner ≡ false
 none_meets_within edges outer inner h ordered none =
-    let l = lies_in outer inner h ordered in
     list_any_none (λ e. not (misses e inner)) edges
-    (λ k d lt. ap not (narrower (get_or edges k d) outer inner l (misses_by (get_or edges k d) outer (none_meets edges outer none k d lt))))
+    (λ k d lt. ap not (missed_within (get_or edges k d) outer inner h ordered (none_meets edges outer none k d lt)))

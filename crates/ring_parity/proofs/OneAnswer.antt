@@ -48,7 +48,7 @@ pub data Misses (e : EdgeEnds) (cell : Region) : Type 0 where
   is_left_of : CornersLeft (x_of e.0) (y_of e.0) (x_of e.1) (y_of e.1) (x_of cell.lo) (y_of cell.lo) (x_of cell.hi) (y_of cell.hi) → Misses e cell
   is_right_of : CornersLeft (x_of e.1) (y_of e.1) (x_of e.0) (y_of e.0) (x_of cell.lo) (y_of cell.lo) (x_of cell.hi) (y_of cell.hi) → Misses e cell
 
-beyond : (a b lo hi : ℤ) → are_beyond a b lo hi ≡ true → ((a <ℤ lo) × (b <ℤ lo)) ⊎ ((hi <ℤ a) × (hi <ℤ b))
+pub beyond : (a b lo hi : ℤ) → are_beyond a b lo hi ≡ true → ((a <ℤ lo) × (b <ℤ lo)) ⊎ ((hi <ℤ a) × (hi <ℤ b))
 beyond a b lo hi h =
     ⊎_elim
     (λ (l : (int_lt a lo && int_lt b lo) ≡ true).

@@ -2,10 +2,11 @@
 
 ghost use Rattle.std.specs.Prelude.{◌≡◌, ◌≤◌, ◌^◌, ◌-ℤ◌, ◌*ℤ◌, pos, int_lt, ◌&&◌, ◌||◌, unsigned_abs};
 ghost use Rattle.std.specs.List.{list_all};
+ghost use Rattle.std.specs.Bool.{beq};
 ghost use Rattle.std.specs.Ordering.{int_eq};
 ghost use Rattle.point_codec.specs.Seen.{region_of};
-ghost use Rattle.ring_parity.specs.Edges.{side, on, counts, misses, is_left, is_right, are_beyond, is_disjoint};
-ghost use Rattle.ring_parity.specs.Edges.{corners};
+ghost use Rattle.ring_parity.specs.Edges.{side, on, counts, misses, is_above, is_left, is_right, are_beyond};
+ghost use Rattle.ring_parity.specs.Edges.{corners, is_disjoint};
 ghost use Rattle.ring_parity.specs.Seen.{ends_of};
 
 use point_codec::{Cell, Point};
@@ -98,6 +99,39 @@ pub fn counts(e: &Edge, p: &Point<2>) -> bool
         e.b.c[1] <= p.c[1] && is_right(e, p)
     } else {
         e.b.c[1] > p.c[1] && is_left(e, p)
+    }
+}
+
+/// Both ends of the edge are above the point, or none is.
+fn is_level(e: &Edge, p: &Point<2>) -> bool
+    ensures { result ≡ beq (is_above e.now.a.c p.now.c) (is_above e.now.b.c p.now.c) }
+{
+    (e.a.c[1] > p.c[1]) == (e.b.c[1] > p.c[1])
+}
+
+/// How a point lies beside one edge.
+#[derive(Clone, Copy, Debug)]
+pub struct Incidence {
+    /// The point is on the edge, an end counted.
+    pub on: bool,
+    /// The edge counts for the point in the even-odd rule.
+    pub counts: bool,
+}
+
+/// The same as `on_edge` and `counts`, at the cost of one of them.
+pub fn incidence_of(e: &Edge, p: &Point<2>) -> Incidence
+    ensures on { result.on ≡ on (ends_of e.now) p.now.c }
+    ensures counts { result.counts ≡ counts (ends_of e.now) p.now.c }
+{
+    if is_level(e, p) {
+        return Incidence {
+            on: on_edge(e, p),
+            counts: false,
+        };
+    }
+    Incidence {
+        on: is_in_line(e, p),
+        counts: counts(e, p),
     }
 }
 

@@ -9,5 +9,5 @@
 pub mod edges;
 pub mod rings;
 
-pub use edges::{Edge, counts, misses, on_edge};
+pub use edges::{Edge, Incidence, counts, incidence_of, misses, on_edge};
 pub use rings::{Ring, RingFault, Rings, any_meets, odd, on_any};
