@@ -20,8 +20,6 @@ mod checked_folders;
 #[cfg(test)]
 mod checking;
 #[cfg(test)]
-mod commands;
-#[cfg(test)]
 mod counting;
 #[cfg(test)]
 mod drawn_counts;
@@ -41,3 +39,5 @@ mod load_faults;
 mod loading;
 #[cfg(test)]
 mod other_words;
+#[cfg(test)]
+mod worked_commands;

@@ -59,6 +59,9 @@ impl LineReader {
             (S.left source.new) line.new.items result }
         ensures ahead { length (waiting self.new) ≤ 2 ^ 16 }
         ensures kept { length line.new.items ≤ 2 ^ 22 + 2 }
+        // no line is left only where the source has ended, and behind its end it is not asked again
+        ensures ended { IfOk result (λ is_more. is_more ≡ false → self.new.has_ended ≡ true) }
+        ensures behind { self.old.has_ended ≡ true → source.new ≡ source.old }
         ensures cause { HasReadCause (S.faults source.old) (S.faults source.new) result }
     {
         line.clear();
@@ -80,6 +83,8 @@ impl LineReader {
         ensures holds { IsTrue S.told → KnowsEnd self.old (S.left source.old)
             → IfOk result (HoldsBytes self.new (waiting self.old ++ S.left source.old) (S.left source.new)) }
         ensures some { IfOk result (λ is_more. is_more ≡ true → self.new.at < self.new.end) }
+        ensures ended { IfOk result (λ is_more. is_more ≡ false → self.new.has_ended ≡ true) }
+        ensures behind { self.old.has_ended ≡ true → (source.new ≡ source.old) × (self.new.has_ended ≡ true) }
         ensures cause { HasCause (S.faults source.old) (S.faults source.new) result }
     {
         if self.at < self.end {

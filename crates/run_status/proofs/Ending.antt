@@ -119,14 +119,6 @@ sink_shows P (Err stop.FolderFault) only = tt
 sink_shows P (Err stop.Memory) only = tt
 sink_shows {T} P (Err (stop.Damaged d)) only = let e : IsErrOf {T = T} (Err (stop.Damaged d)) stop.SinkFault = only in absurd cc
 
--- all holds of a damage that isn't
-pub none_shows : {T : Type 0} (P : Damage → Type 0) (result : Result T Stop) → OnStopDamage result (λ _. ⊥) → OnStopDamage result P
-none_shows P (Ok x) h = tt
-none_shows P (Err stop.SinkFault) h = tt
-none_shows P (Err stop.FolderFault) h = tt
-none_shows P (Err stop.Memory) h = tt
-none_shows P (Err (stop.Damaged d)) h = absurd h
-
 pub stop_shows : (T : Type 0) (P : Damage → Type 0) (fault : PageFault) → FaultShows P fault → OnStopDamage {T = T} (Err (stop_of fault)) P
 stop_shows T P page.Failed h = tt
 stop_shows T P page.Memory h = tt

@@ -1,13 +1,12 @@
 -- How what is told of lines is joined to what was told of those before them.
-use Rattle.std.proofs.Common.{◌≡◌, ◌≤◌, ◌+◌, ◌==◌, ℕ, suc, Bool, true, false, cond, List, [], ◌∷◌, ◌++◌, length, Result, Ok, Err, IfOk, OnErr, IsErrOf, refl}
+use Rattle.std.proofs.Common.{◌≡◌, ◌≤◌, ◌+◌, ◌==◌, ℕ, suc, Bool, true, false, cond, List, [], ◌∷◌, ◌++◌, length, Result, Ok, Err, refl}
 use Rattle.std.proofs.Common.{sym, ap, ◌∙◌, subst, append_assoc, append-nil, add_assoc, add-zero, zero-add, length-append, arith}
 use Rattle.std.proofs.lemmas.Bool.Decides.{nat_tests}
 use Rattle.outer_io.specs.Parts.{WritesPart}
 use Rattle.page_cache.specs.declared.faults.PageFault.{PageFault}
 use Rattle.page_cache.specs.declared.faults.PageFault.TheVariants as page
 use Rattle.page_cache.specs.Evidence.{FaultShows}
-use Rattle.run_status.specs.Sent.{IsSent}
-use Rattle.run_status.specs.Told.{EndsLines, EndsTold, IsTold, SendsLine, Stage, Tellings, TellsAll, TellsLines, TellsPart, TellsSome, Teller, Told}
+use Rattle.run_status.specs.Told.{EndsLines, EndsTold, SendsLine, Stage, Tellings, TellsAll, TellsLines, TellsPart, TellsSome, Teller, Told}
 use Rattle.run_status.specs.Told.{followed_by, silence}
 use Rattle.run_status.specs.Ends.{IsDamaged}
 use Rattle.run_status.specs.Stops.{status_of, stop_of}
@@ -162,34 +161,6 @@ pub stage_sent : (told : Type 0) (T : Teller) (a b c : Stage) (x : List ℕ) (is
     → SendsLine told T b.line x b.written c.written (Ok is_refused) → Tellings told T a c
 stage_sent told T a b c x is_refused p rest line refused all =
     stage_on told T a b c x all.of_lines p rest line (single T b.line x all.of_lines all.all) (refused ∙ ap (λ n. b.refused + n) (sym all.count)) all.text
-
--- it was sent, or a part of it
-pub sent_line : (told : Type 0) (T : Teller) (line : ℕ) (bytes before text old new : List ℕ) (is_refused : Bool) → before ≡ []
-    → IsTold (T line bytes) before text is_refused → (r : Result Bool Stop)
-    → IfOk r (λ b. b ≡ is_refused) → OnErr r (IsErrOf r stop.SinkFault) → (told → IsSent text old new r) → SendsLine told T line bytes old new r
-sent_line told T line bytes before text old new is_refused empty is (Ok b) known only sent =
-    subst (λ q. SendsLine told T line bytes old new (Ok q)) (sym known) (record {
-      of_lines = is.told;
-      all = one_line T line bytes is.told is.tells;
-      text = λ t. sent t ∙ ap (λ bs. old ++ bs) (is.text ∙ ap (λ bs. bs ++ is.told.text) empty);
-      count = is.refused;
-    })
-sent_line told T line bytes before text old new is_refused empty is (Err stop.SinkFault) known only sent =
-    (is.told, is.tells, λ t. subst (WritesPart old new) (is.text ∙ ap (λ bs. bs ++ is.told.text) empty) (sent t))
-sent_line told T line bytes before text old new is_refused empty is (Err stop.FolderFault) known only sent =
-    let e : IsErrOf {T = Bool} (Err stop.FolderFault) stop.SinkFault = only in absurd cc
-sent_line told T line bytes before text old new is_refused empty is (Err stop.Memory) known only sent =
-    let e : IsErrOf {T = Bool} (Err stop.Memory) stop.SinkFault = only in absurd cc
-sent_line told T line bytes before text old new is_refused empty is (Err (stop.Damaged d)) known only sent =
-    let e : IsErrOf {T = Bool} (Err (stop.Damaged d)) stop.SinkFault = only in absurd cc
-
--- nothing was sent of it
-pub left_line : (told : Type 0) (T : Teller) (line : ℕ) (bytes old new : List ℕ) (fault : PageFault) → FaultShows (λ _. ⊥) fault → (r : Result Bool Stop)
-    → r ≡ Err (stop_of fault) → new ≡ old
-    → SendsLine told T line bytes old new r
-left_line told T line bytes old new page.Failed whole r is same = subst (SendsLine told T line bytes old new) (sym is) (λ t. same)
-left_line told T line bytes old new page.Memory whole r is same = subst (SendsLine told T line bytes old new) (sym is) (λ t. same)
-left_line told T line bytes old new (page.Damaged d) whole r is same = absurd whole
 
 -- where nothing was written, no line was told
 pub none_told : (told : Type 0) (T : Teller) (line : ℕ) (lines : List (List ℕ)) (old new : List ℕ) → new ≡ old → TellsSome told T line lines old new

@@ -5,7 +5,6 @@ pub mod Lined
 pub mod SoFar
 pub mod Opened
 pub mod Calling
-pub mod Scoped
 pub mod Asking
 pub mod AskingLines
 pub mod Deciding

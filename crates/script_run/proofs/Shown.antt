@@ -13,7 +13,7 @@ use Rattle.index_core.specs.Carried.{AreOfListed, Carries, IsEvidentOver, IsFile
 use Rattle.index_core.specs.KeptLive.{FindsKept}
 use Rattle.script_run.specs.Origins.{KnowsFolder}
 use Rattle.index_core.proofs.Carrying.{file_carried}
-use Rattle.index_opening.proofs.Evident.{evident_files, evident_less, evident_named}
+use Rattle.index_opening.proofs.Evident.{evident_files, evident_named}
 use Rattle.index_core.specs.Sessions.{Guards, IsSetTraced, SessionData}
 use Rattle.run_status.specs.Ends.{OnStatusDamage, OnStopDamage}
 use Rattle.run_status.specs.Stops.{status_of, stop_of}
@@ -72,14 +72,6 @@ pub fault_wider : (P : FileName → Type 0) (S T : Type 0) (files : Files) (faul
 fault_wider P S T files page.Failed less h = tt
 fault_wider P S T files page.Memory less h = tt
 fault_wider P S T files (page.Damaged d) less h = evident_named (λ file. ⊥) P (IsOfEntries files) S T files d less (λ t file none. absurd none) h
-
-pub stop_less : {X : Type 0} (S T : Type 0) (files : Files) (result : Result X Stop) → (T → S) → OnStopDamage result (IsEvident S files)
-    → OnStopDamage result (IsEvident T files)
-stop_less S T files (Ok x) less h = tt
-stop_less S T files (Err stop.SinkFault) less h = tt
-stop_less S T files (Err stop.FolderFault) less h = tt
-stop_less S T files (Err stop.Memory) less h = tt
-stop_less S T files (Err (stop.Damaged d)) less h = evident_less S T files d less h
 
 -- where other files may be needed
 pub stop_named : {X : Type 0} (O P : FileName → Type 0) (S T : Type 0) (files : Files) (result : Result X Stop) → (T → S)

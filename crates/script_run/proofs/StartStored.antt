@@ -13,7 +13,7 @@ use Rattle.script_run.specs.Origins.{IsFrom}
 use Rattle.script_run.specs.declared.origin.Origin.TheVariants as origin
 use Rattle.script_run.proofs.Leading.{levels_still}
 use Rattle.script_run.proofs.Opened.{some_stored}
-use Rattle.script_run.proofs.Scoped.{commit_few, opening_is}
+use Rattle.explain_queries.proofs.Scoped.{commit_few, opening_is}
 use Rattle.script_run.specs.declared.language.Language.{Language}
 use Rattle.script_run.proofs.Starting.{canonical_still}
 use Rattle.stored_index.proofs.Whole.{no_index}

@@ -39,7 +39,7 @@ use Rattle.script_run.specs.declared.origin.Origin.TheVariants as origin
 use Rattle.script_run.proofs.Asking.{query_stays}
 use Rattle.script_run.proofs.AskingLines.{all_first, all_rest, state_rest, touches_parts}
 use Rattle.script_run.proofs.Leading.{levels_still}
-use Rattle.script_run.proofs.Scoped.{heads_zip, none_scope, scope_holds}
+use Rattle.explain_queries.proofs.Scoped.{heads_zip, none_scope, scope_holds}
 use Rattle.script_run.specs.Languages.{answer, meaning}
 use Rattle.script_run.specs.Script.{state_after}
 use Rattle.script_run.specs.declared.language.Language.{Language}

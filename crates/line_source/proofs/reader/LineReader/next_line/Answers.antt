@@ -1,4 +1,4 @@
-use Rattle.std.proofs.Common.{◌≡◌, ◌++◌, Bool, true, false, subst, rules, arith}
+use Rattle.std.proofs.Common.{◌≡◌, ◌++◌, ◌∙◌, Bool, true, false, subst, rules, arith}
 use Rattle.line_source.specs.Reader.{HoldsBytes, TakesPart, waiting}
 use Rattle.line_source.proofs.Cuts.{reading_ends, reading_last, reading_on, waits_some}
 use Rattle.line_source.proofs.reader.LineReader.next_line.Goals as goal
@@ -37,5 +37,10 @@ pieces-preserved g c =
           (c.in_ok-extend_line.ensures.takes c.pieces.invariant.reading.seen c.pieces.invariant.reading.bytes_are))
           (waits_some c.hold.new.self (c.in_ok-hold.ensures.some some));
       kept = c.extend_line.ensures.kept;
+      behind = λ e.
+          let before = c.pieces.invariant.behind e in
+          let held = c.in_ok-hold.ensures.behind before.1 in
+          let taken = c.in_ok-extend_line.ensures.takes c.pieces.invariant.reading.seen c.pieces.invariant.reading.bytes_are in
+          (held.0 ∙ before.0, taken.ended ∙ held.1);
       faults = omega (arith, c.in_ok-hold.ensures.cause.on_ok, c.pieces.invariant.faults);
     }
