@@ -1,12 +1,16 @@
 #!/usr/bin/python3
-"""Measures the client beside the program alone, and prints ratios of one run.
+"""Measures the client beside the program alone; measure_peers.py does it beside others. Prints lines of one run.
 
-usage: measure.py add [COUNT]      a million points by add_many, beside the program's own time for the same script
+usage: measure.py own [COUNT]      opening, one box beside the bare pipe, add_many beside the program, many numbers
        measure.py shards [COUNT]   ten million points over four folders of a local cluster, and queries over them
        measure.py read [COUNT]     a million points read from the files by bkd.formats and exported
-BKD names the program where it is not that of the checkout.
+Times are by the clock, the least of several spells that take turns. BKD names the program where it is not the usual
+one.
 """
+import contextlib
 import os
+import random
+import resource
 import subprocess
 import sys
 import tempfile
@@ -15,13 +19,13 @@ import time
 import numpy
 
 import bkd
-from bkd import formats, shards
+from bkd import formats
 
 WORKERS = 4
 
 
-def drawn(count, seed=1):
-    return numpy.random.default_rng(seed).integers(-100_000, 100_001, size=(count, 2), dtype=numpy.int32)
+def drawn(count, seed=1, span=100_000):
+    return numpy.random.default_rng(seed).integers(-span, span + 1, size=(count, 2), dtype=numpy.int32)
 
 
 class Clock:
@@ -35,34 +39,100 @@ class Clock:
         self.seconds = time.perf_counter() - self.begun
 
 
-def add(count):
-    points = drawn(count)
+def seconds(work):
+    with Clock() as clock:
+        work()
+    return clock.seconds
+
+
+# ---- its own
+
+def own(count):
     program = bkd.find()
     with tempfile.TemporaryDirectory() as top:
-        script = os.path.join(top, "script")
-        with open(script, "w") as file:
-            file.write("create 2\n" + "".join("add %d %d\n" % (x, y) for x, y in points.tolist()))
-        alone, ours = [], []
-        # in turns, so that both meet the same spells of the machine
-        for turn in range(3):
-            folder = os.path.join(top, f"alone {turn}")
-            os.mkdir(folder)
-            with open(script) as source, open(os.path.join(top, "answers"), "w") as sink, Clock() as clock:
-                subprocess.run([*program.words, folder, "run"], stdin=source, stdout=sink, check=True)
-            alone.append(clock.seconds)
-            with Clock() as clock, bkd.open(os.path.join(top, f"ours {turn}"), program=program, arrays=True) as index:
-                numbers = index.add_many(points)
-            ours.append(clock.seconds)
-            assert len(numbers) == count
-    way = "a session" if index.stays else "runs"
-    print(f"add: {count} points by add_many of an array, over {way}")
-    print(f"  the program alone {min(alone):6.2f} s, the client {min(ours):6.2f} s, ratio {min(ours) / min(alone):.2f}")
+        opening(program, top)
+        one_box(program, top)
+        numbers(program, top)
+        adding(program, top, count)
+
+
+def opening(program, top):
+    folder = os.path.join(top, "opened")
+    bkd.open(folder, create=True, program=program).close()
+
+    def once():
+        with bkd.open(folder, program=program):
+            pass
+
+    print(f"open and close: {min(seconds(once) for _ in range(20)) * 1e3:.1f} ms")
+
+
+@contextlib.contextmanager
+def bare(program, folder):
+    """The program's session over bare pipes."""
+    pipe = subprocess.PIPE
+    with subprocess.Popen([*program.words, folder, "session"], stdin=pipe, stdout=pipe, bufsize=0) as process:
+        yield process.stdin.fileno(), process.stdout.fileno()
+        process.kill()
+
+
+def one_box(program, top):
+    """In short spells that take turns, so that both meet the same spells of the machine."""
+    folder = os.path.join(top, "boxes")
+    with bkd.open(folder, create=True, program=program) as index:
+        index.add_many(drawn(100_000, span=1_000_000))
+    with bkd.open(folder, program=program, read=True) as index, bare(program, folder) as (into, out):
+        draw, spells = random.Random(3), []
+        for _ in range(300):
+            corners = [(draw.randint(-10**6, 10**6), draw.randint(-10**6, 10**6)) for _ in range(20)]
+            boxes = [((x, y), (x + 30_000, y + 30_000)) for x, y in corners]
+            lines = [b"box %d %d %d %d\n" % (*low, *high) for low, high in boxes]
+            spells.append((seconds(lambda: [(os.write(into, line), os.read(out, 1 << 16)) for line in lines]),
+                           seconds(lambda: [index.box(*box) for box in boxes])))
+    pipe, ours = (min(spell[i] for spell in spells) / 20 * 1e6 for i in (0, 1))
+    print(f"a box with about 22 in it: {ours:.0f} µs; the program over the bare pipe {pipe:.0f} µs, "
+          f"ratio {ours / pipe:.2f}")
+
+
+def numbers(program, top):
+    """A box that holds two million documents, as lists and as arrays, beside numpy's reading of the same text."""
+    folder = os.path.join(top, "numbers")
+    count = 2_000_000
+    with bkd.open(folder, create=True, program=program) as index:
+        index.add_many(drawn(count))
+    text = "".join(f"{i}\n" for i in range(count)).encode()
+    alone = min(seconds(lambda: numpy.fromstring(text, dtype=numpy.uint32, sep="\n")) for _ in range(3))
+    for arrays in (True, False):
+        with bkd.open(folder, program=program, arrays=arrays, read=True) as index:
+            taken = min(seconds(lambda: index.box((-200_000,) * 2, (200_000,) * 2)) for _ in range(3))
+        print(f"{count:,} numbers as {'an array' if arrays else 'a list'}: {taken:.2f} s "
+              f"(numpy reads their text in {alone:.2f} s)")
+
+
+def adding(program, top, count):
+    points = drawn(count)
+    script = os.path.join(top, "script")
+    with open(script, "w") as file:
+        file.write("create 2\n" + "".join("add %d %d\n" % (x, y) for x, y in points.tolist()))
+    alone, ours = [], []
+    for turn in range(3):
+        folder = os.path.join(top, f"alone {turn}")
+        os.mkdir(folder)
+        with open(script) as source, open(os.path.join(top, "answers"), "w") as sink, Clock() as clock:
+            subprocess.run([*program.words, folder, "run"], stdin=source, stdout=sink, check=True)
+        alone.append(clock.seconds)
+        with Clock() as clock, bkd.open(os.path.join(top, f"ours {turn}"), create=True, program=program) as index:
+            assert len(index.add_many(points)) == count
+        ours.append(clock.seconds)
+    peak = resource.getrusage(resource.RUSAGE_SELF).ru_maxrss / 1024
+    print(f"add_many of {count:,} points: {min(ours):.2f} s; the program alone, the same script: {min(alone):.2f} s, "
+          f"ratio {min(ours) / min(alone):.2f}; {peak:.0f} MB at most in this process")
 
 
 def read(count):
     points = drawn(count)
     with tempfile.TemporaryDirectory() as top:
-        with bkd.open(top) as index:
+        with bkd.open(top, create=True) as index:
             index.add_many(points)
         with Clock() as opened:
             stored = formats.open_stored(top)
@@ -77,37 +147,52 @@ def read(count):
 
 def shard(count):
     from distributed import Client, LocalCluster
+
+    from bkd import shards
     os.environ["PYTHONPATH"] = os.path.dirname(os.path.abspath(__file__))
     points = drawn(count)
+    print(f"shards: {count} points by cells, {WORKERS} workers on this machine with {os.cpu_count()} processors")
     with tempfile.TemporaryDirectory() as top, \
-            LocalCluster(n_workers=WORKERS, threads_per_worker=1,
-                         dashboard_address=None) as cluster, Client(cluster) as client:
-        path = os.path.join(top, "layout.json")
-        shards.create(path, [os.path.join(top, str(i)) for i in range(4)], by="cells")
-        with shards.open(path, client, program=bkd.find().words) as index:
-            with Clock() as added:
-                index.add_many(points)
-            centres = drawn(1000, 7).tolist()
-            boxes = [shards.box((x - 500, y - 500), (x + 500, y + 500)) for x, y in centres]
-            near = [shards.nearest(10, at) for at in centres]
-            with Clock() as boxed:
-                hits = sum(map(len, index.ask(boxes)))
-            with Clock() as neared:
-                index.ask(near)
-            with Clock() as alone:
-                index.box((0, 0), (1000, 1000))
-            inside = ((points[:, 0] >= 0) & (points[:, 0] <= 1000) & (points[:, 1] >= 0) & (points[:, 1] <= 1000)).sum()
-            assert len(index.box((0, 0), (1000, 1000))) == inside
-    print(f"shards: {count} points over four folders, by cells, {WORKERS} workers on this machine "
-          f"with {os.cpu_count()} processors")
-    print(f"  added and committed {added.seconds:6.1f} s")
-    print(f"  a thousand boxes at once {boxed.seconds:6.2f} s ({hits} hits), "
-          f"a thousand times the ten nearest {neared.seconds:6.2f} s")
-    print(f"  one box alone {alone.seconds * 1000:6.1f} ms")
+            LocalCluster(n_workers=WORKERS, threads_per_worker=1, dashboard_address=None) as cluster, \
+            Client(cluster, direct_to_workers=True) as client:
+        with Clock() as plain, bkd.open(os.path.join(top, "plain"), create=True, arrays=True) as index:
+            index.add_many(points)
+        print(f"  a plain index: added and committed {plain.seconds:6.1f} s")
+        with bkd.open(os.path.join(top, "plain"), arrays=True) as index:
+            asked(index, "a session")
+        for folders in (1, WORKERS, 2 * WORKERS):
+            path = os.path.join(top, f"{folders}.json")
+            shards.create(path, [os.path.join(top, f"{folders}-{i}") for i in range(folders)], by="cells")
+            with shards.open(path, client, program=bkd.find().words) as index:
+                with Clock() as added:
+                    index.add_many(points)
+                print(f"  {folders} folders: added and committed {added.seconds:6.1f} s")
+                asked(index, f"{folders} folders")
+
+
+def asked(index, name):
+    """Tells what a thousand boxes at once, a thousand times the ten nearest, and one box alone take: the least of five
+    times."""
+    from bkd import requests, shards
+    kinds = shards if hasattr(index, "layout") else requests
+    centres = drawn(1000, 7).tolist()
+    boxes = [kinds.box((x - 500, y - 500), (x + 500, y + 500)) for x, y in centres]
+    near = [kinds.nearest(10, at) for at in centres]
+    takes = {"a thousand boxes at once": lambda: sum(map(len, index.ask(boxes))),
+             "a thousand times the ten nearest": lambda: len(index.ask(near)),
+             "one box alone": lambda: len(index.box((0, 0), (1000, 1000)))}
+    for what, work in takes.items():
+        spent = []
+        for _ in range(5 if what[0] == "a" else 100):
+            with Clock() as clock:
+                found = work()
+            spent.append(clock.seconds)
+        middle = sorted(spent)[len(spent) // 2]
+        print(f"    {name}: {what} {min(spent) * 1000:8.1f} ms, in the middle {middle * 1000:8.1f} ms ({found})")
 
 
 if __name__ == "__main__":
-    kinds = {"add": (add, 1_000_000), "read": (read, 1_000_000), "shards": (shard, 10_000_000)}
+    kinds = {"own": (own, 1_000_000), "read": (read, 1_000_000), "shards": (shard, 10_000_000)}
     if len(sys.argv) not in (2, 3) or sys.argv[1] not in kinds:
         sys.exit(__doc__)
     work, usual = kinds[sys.argv[1]]

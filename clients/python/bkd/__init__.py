@@ -1,31 +1,37 @@
 """A client of the program `bkd`, an index of documents that have points of 1 to 8 whole numbers of 32 bits.
 
     import bkd
-    with bkd.open("places") as index:
-        berlin = index.add((13404954, 52520008))
-        index.box((0, 45000000), (15000000, 55000000))
-        index.nearest(1, (12000000, 42000000))
+    with bkd.open("places", create=True, decimals=6) as index:
+        berlin = index.add((13.404954, 52.520008))
+        index.box((0, 45), (15, 55))
+        index.nearest(1, (12, 42))
 
 The client talks with the program over its streams; nothing of it is proved, and it is tested against the program.
-`bkd.geo` scales decimal degrees, `bkd.export` and `bkd.clean` read the index's files, `bkd.shards` spreads an index
-over folders, `bkd.plot` draws, `python -m bkd.view FOLDER` shows an index in a page.
+`bkd.geo` scales decimal degrees, `bkd.export` and `bkd.clean` read the index's files, `bkd.frames` has an index beside
+a data frame, `bkd.shards` spreads an index over folders, `bkd.plot` draws, `python -m bkd.view FOLDER` shows an index
+in a page, and `bkd shell FOLDER` is a terminal to work in.
 """
-from . import geo, requests
+from . import geo, ranges, requests
 from .answers import Explained
 from .cleaning import clean
-from .commands import Checked, batch, check, explain, generate, load
+from .commands import Checked, Info, batch, check, explain, generate, info, load
 from .damage import Damage
 from .errors import (BadAnswer, Closed, Damaged, Died, Error, Fault, FolderFault, Hung, Locked, NoIndex, NotFound,
-                     OutOfMemory, Refused, SinkFault, SourceFault, TooLarge, Unsupported, WorkerLost)
+                     OtherKind, OutOfMemory, ReadOnly, Reentered, Refused, SinkFault, SourceFault, TooLarge,
+                     Uncommitted, Unsupported, WorkerLost)
 from .exporting import export, export_csv
-from .index import Index, Snapshot, open
+from .index import Index
+from .opening import open
 from .program import Program, find
+from .queries import Snapshot
 from .ranges import Ranges, open_ranges
+from .scale import Scale
+from .version import __version__
 
 __all__ = [
     "BadAnswer", "Checked", "Closed", "Damage", "Damaged", "Died", "Error", "Explained", "Fault", "FolderFault", "Hung",
-    "Index", "Locked", "NoIndex", "NotFound", "OutOfMemory", "Program", "Ranges", "Refused", "SinkFault", "Snapshot",
-    "SourceFault", "TooLarge", "Unsupported", "WorkerLost", "batch", "check", "clean", "explain", "export",
-    "export_csv", "find",
-    "generate", "geo", "load", "open", "open_ranges", "requests",
+    "Index", "Info", "Locked", "NoIndex", "NotFound", "OtherKind", "OutOfMemory", "Program", "Ranges", "ReadOnly",
+    "Reentered", "Refused", "Scale", "SinkFault", "Snapshot", "SourceFault", "TooLarge", "Uncommitted", "Unsupported",
+    "WorkerLost", "__version__", "batch", "check", "clean", "explain", "export", "export_csv", "find", "generate",
+    "geo", "info", "load", "open", "open_ranges", "ranges", "requests",
 ]

@@ -6,15 +6,17 @@ where it reads lines, take and give nothing, before it is killed and `Hung` rais
 """
 from __future__ import annotations
 
-import dataclasses
 import os
 import re
 from collections.abc import Iterable, Sequence
 from dataclasses import dataclass
-from typing import Any
+from typing import IO, Any
 
+from . import options
 from .answers import BUCKETS, HITS, NEAR, POINTS, TESTED, TOUCHED, Answer
-from .errors import BadAnswer, Refused
+from .errors import BadAnswer, NoIndex, Refused
+from .formats.commit import Commit, read_commit
+from .formats.pages import COMMIT_FILE, FileName
 from .program import Program, find
 from .requests import Point, Request, coordinates
 from .talk import Asking
@@ -35,16 +37,17 @@ class Checked:
     segments: int
 
 
-def load(folder: Folder, columns: Sequence[str], table: bytes | str, forks: int = 1, *, program: Which = None,
-         timeout: float | None = None) -> tuple[int, int]:
+def load(folder: Folder, columns: Sequence[str], table: bytes | str | IO[bytes], forks: int = 1, *,
+         program: Which = None, timeout: float | None = None) -> tuple[int, int]:
     """Adds a document for each record of a CSV table, its points the columns of these 1 to 8 names, and commits.
 
     Answers how many were loaded and the next number. All of the table is loaded, or nothing is and `Refused` says why.
-    The folder is made where it isn't there.
+    `table` is its text, or a file that the program then reads by itself, from where the file stands. The folder is made
+    where it isn't there.
     """
+    words = ["load", "--columns", options.columns(columns), "--forks", str(options.forks(forks))]
     os.makedirs(folder, exist_ok=True)
     source = table.encode() if isinstance(table, str) else table
-    words = ["load", "--columns", ",".join(columns), "--forks", str(forks)]
     text = _told(find(program), folder, words, timeout, source)
     found = re.fullmatch(r"loaded (\d+)\nnext (\d+)\n", text)
     if found is None:
@@ -58,8 +61,8 @@ def generate(folder: Folder, docs: int, seed: int, forks: int = 1, *, program: W
 
     Answers `docs`, `live`, `box hits` and `nearest sum`.
     """
+    words = ["generate", "--docs", str(docs), "--seed", str(seed), "--forks", str(options.forks(forks))]
     os.makedirs(folder, exist_ok=True)
-    words = ["generate", "--docs", str(docs), "--seed", str(seed), "--forks", str(forks)]
     text = _told(find(program), folder, words, timeout)
     found = re.fullmatch(r"docs (\d+) live (\d+)\nbox hits (\d+)\nnearest sum (\d+)\n", text)
     if found is None:
@@ -67,10 +70,10 @@ def generate(folder: Folder, docs: int, seed: int, forks: int = 1, *, program: W
     return dict(zip(("docs", "live", "box hits", "nearest sum"), map(int, found.groups())))
 
 
-def _told(program: Program, folder: Folder, words: Sequence[str], timeout: float | None, source: bytes = b"",
-          held: int | None = None) -> str:
+def _told(program: Program, folder: Folder, words: Sequence[str], timeout: float | None,
+          source: bytes | IO[bytes] = b"", held: int | None = None) -> str:
     """The text of a command that is refused as a whole or not at all."""
-    status, text = program.output(os.fspath(folder), words, source, timeout, held)
+    status, text = program.output(os.fspath(folder), words, source, options.timeout(timeout), held)
     if status == 2:
         raise Refused(" ".join(words), text.strip(), 1)
     return text
@@ -88,10 +91,51 @@ def check(folder: Folder, *, program: Which = None, timeout: float | None = None
     return Checked(*map(int, found.groups()))
 
 
+@dataclass(frozen=True, slots=True)
+class Info:
+    """What is stored, as opening it finds: dimensions, leaf size, next number, points given, live documents, segments,
+    and the bytes of the files that the commit lists and of the commit itself."""
+
+    dims: int
+    leaf: int
+    next: int
+    points: int
+    live: int
+    segments: int
+    bytes: int
+
+
+def info(folder: Folder, *, program: Which = None, timeout: float | None = None, held: int | None = None) -> Info:
+    """What is stored, by the program's `info`, or by the commit's file where the program hasn't that command.
+
+    Raises `NoIndex`.
+    """
+    path, found = os.fspath(folder), find(program)
+    if "info" not in found.commands:
+        return _info_of(path, read_commit(path))
+    text = _told(found, path, ["info"], timeout, held=held)
+    if text == "no index\n":
+        raise NoIndex(f"{path} holds no index")
+    said = re.fullmatch(r"dims (\d+) leaf (\d+) next (\d+) points (\d+) live (\d+) segments (\d+) bytes (\d+)\n", text)
+    if said is None:
+        raise BadAnswer(f"info answered {text[:100]!r}")
+    return Info(*map(int, said.groups()))
+
+
+def _info_of(path: str, commit: Commit | None) -> Info:
+    if commit is None:
+        raise NoIndex(f"{path} holds no index")
+    names = [COMMIT_FILE, *(FileName.segment(one.segment) for one in commit.listed),
+             *(FileName.live(one.segment, one.generation) for one in commit.listed)]
+    size = sum(os.path.getsize(os.path.join(path, name.text)) for name in names)
+    live = sum(one.live for one in commit.listed)
+    return Info(commit.dims, commit.leaf, commit.next, commit.given, live, len(commit.listed), size)
+
+
 def _asked(folder: Folder, words: Sequence[str], requests: Iterable[Request], program: Which, timeout: float | None,
            held: int | None) -> list[Any]:
     talk = Asking(requests)
-    find(program).run(os.fspath(folder), words, talk, timeout, held)
+    find(program).run(os.fspath(folder), words, talk, options.timeout(timeout), held)
     return talk.values
 
 
@@ -101,8 +145,8 @@ def explain(folder: Folder, queries: Iterable[Request], cache: int = 1024, *, pr
 
     `cache` is how many pages are kept, 1 to 65,536.
     """
-    asked = (dataclasses.replace(query, answer=_EXPLAINED.get(query.answer.word, query.answer)) for query in queries)
-    return _asked(folder, ["explain", "--cache", str(cache)], asked, program, timeout, held)
+    asked = (query._replace(answer=_EXPLAINED.get(query.answer.word, query.answer)) for query in queries)
+    return _asked(folder, ["explain", "--cache", str(options.cache(cache))], asked, program, timeout, held)
 
 
 def batch(folder: Folder, queries: Iterable[Request], forks: int = 1, merge: bool = False, *, program: Which = None,
@@ -113,7 +157,7 @@ def batch(folder: Folder, queries: Iterable[Request], forks: int = 1, merge: boo
     With `merge` the segments are merged beside the answering, and that is committed. The place of a query that is
     refused has its `Refused`.
     """
-    words = ["batch", "--forks", str(forks)] + (["--merge"] if merge else [])
+    words = ["batch", "--forks", str(options.forks(forks))] + (["--merge"] if merge else [])
     return _asked(folder, words, queries, program, timeout, held)
 
 
@@ -135,4 +179,4 @@ def _spelled(lo: Point, hi: Point) -> str:
 def count(folder: Folder, asked: Iterable[Request], cache: int = 1024, *, program: Which = None,
           timeout: float | None = None, held: int | None = None) -> list[Any]:
     """The answers to `points_in` (a number) and `grid_over` (triples x, y, points), or the `Refused` in their place."""
-    return _asked(folder, ["count", "--cache", str(cache)], asked, program, timeout, held)
+    return _asked(folder, ["count", "--cache", str(options.cache(cache))], asked, program, timeout, held)

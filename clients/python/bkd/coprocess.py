@@ -1,221 +1,227 @@
-"""A program over three pipes. Nothing waits on one pipe alone, so full pipes block neither side, whatever the size."""
+"""A program that stays and is called, by any thread, whatever interrupts a call.
+
+Nothing that was sent or read is forgotten where an exception comes at any moment (an interrupt from the keyboard, a
+signal's): how much was written, and what was read, is kept by one call of C each, in which Python runs no handler.
+The next call first has the interrupted one brought to its end.
+"""
 from __future__ import annotations
 
-import contextlib
 import os
-import selectors
-import subprocess
-from collections.abc import Sequence
-from types import TracebackType
-from typing import Any
+import select
+import threading
+import weakref
+from collections.abc import Callable, Sequence
+from threading import get_ident
+from typing import Any, TypeVar
 
-from .errors import BadAnswer, Died, Error, Hung, fault_of
-from .talk import Talk
+from .answers import PART, value_in
+from .errors import BadAnswer, Closed, Died, Error, Reentered, fault_of
+from .pipes import READ, Pipes
+from .processes import started as started  # (whoever starts a program beside takes it from here)
+from .requests import Request
+from .sending import MARKER, Sending, Silence, ends_with
+from .talk import Asking, Talk
 
-_READ = 1 << 16
-_KEPT = 1 << 16
+# so many bytes are written whole, or not at all
+_ATOMIC = select.PIPE_BUF
+_T = TypeVar("_T")
 
 
-def inherited(held: int | None) -> dict[str, Any]:
-    """How a process is started that inherits the folder's lock; the launcher is told that it needn't take it."""
-    return {} if held is None else {"pass_fds": (held,), "env": os.environ | {"BKD_HELD": "1"}}
+class Coprocess(Pipes):
+    """A running program that is called. Any thread may; each call is done whole before the next."""
 
+    def __init__(self, words: Sequence[str], timeout: float | None, held: int | None, guarded: bool = False) -> None:
+        super().__init__(words, timeout, held, guarded)
+        self._lock = threading.Lock()
+        self._owner = 0
+        self._unsettled: Talk | None = None
+        _running.add(self)
 
-class Coprocess:
-    """A running program.
+    # ---- calls
 
-    `timeout` is for how many seconds it may take and give nothing while it is waited for, None for ever. `held` is the
-    folder's lock, which it inherits, so that the lock lasts as long as the program does.
-    """
+    def _whole(self, work: Callable[..., _T], *words: Any) -> _T:
+        """Does one call while no other thread does; what an interrupted call left undone is brought to its end first.
 
-    def __init__(self, words: Sequence[str], timeout: float | None, held: int | None) -> None:
-        pipe = subprocess.PIPE
-        self._process = subprocess.Popen(words, stdin=pipe, stdout=pipe, stderr=pipe, bufsize=0, **inherited(held))
-        assert self._process.stdin and self._process.stdout and self._process.stderr
-        self._in, self._out, self._err = self._process.stdin, self._process.stdout, self._process.stderr
-        for stream in (self._in, self._out, self._err):
-            os.set_blocking(stream.fileno(), False)
-        self._timeout = timeout
-        self._said = b""
-        self.lines = 0
-        self.last: str | None = None
-
-    @property
-    def status(self) -> int | None:
-        """The exit status, None while the program runs."""
-        return self._process.poll()
-
-    @property
-    def said(self) -> str:
-        """The end of what the program wrote on standard error."""
-        return self._said.decode(errors="replace")
-
-    def exchange(self, talk: Talk, ends: bool = False) -> None:
-        """Sends all that the talk has and gives it what the program writes, until every line is answered.
-
-        With `ends` the program's input is closed behind the last piece, and it is waited for. Where the program ends
-        before all is answered the error of its status is raised. An exception of the talk's own pieces is raised when
-        the lines before it are answered; every other exception kills the program.
+        After an error of this package the program is over.
         """
-        try:
-            with _Exchange(self, talk, ends) as pump:
-                pump.run()
-            self._note(talk)
-            if talk.waiting or (ends and self._wait() not in (0, 2)):
-                raise self._ended(talk)
-        except BaseException:
-            self.kill()
-            raise
-        if ends:
-            self.kill()
-        if pump.stopped_by is not None:
-            raise pump.stopped_by
+        if self._lock.locked() and self._owner == get_ident():
+            raise Reentered("the index is in the middle of a call, which this one would cut in two")
+        with self._lock:
+            if self._is_over or not (self._is_fed or work == self._close):
+                raise Closed("the index was closed, its program has ended, or it was opened before a fork")
+            self._owner = get_ident()
+            try:
+                if self._unsettled is not None and self._is_fed:
+                    self._settle(self._unsettled)
+                return work(*words)
+            except Error:
+                self._reap()
+                raise
+            finally:
+                self._owner = 0
+
+    def exchange(self, talk: Talk) -> None:
+        """Sends all that the talk has, and gives it what the program writes, until every line is answered.
+
+        Where the program ends before all is answered the error of its status is raised, and it is over. An exception
+        of the talk's own pieces is raised when the lines before it are answered. After any other one, as of an
+        interrupt, the next call first brings this one to its end.
+        """
+        stopped_by = self._whole(self._exchange, talk)
+        if stopped_by is not None:
+            raise stopped_by
+
+    def single(self, request: Request) -> Any:
+        """The value of one request, or its `Refused`: as an exchange of it alone, and quicker."""
+        text = request.line.encode() + b"\n"
+        if len(text) <= _ATOMIC:
+            return self._whole(self._single, request, text)
+        talk = Asking((request,))
+        self.exchange(talk)
+        return talk.values[0]
+
+    def settle(self) -> None:
+        """Brings an interrupted call to its end; every line that was sent is answered then."""
+        self._whole(lambda: None)
+
+    def hello(self) -> None:
+        """Waits until the program has read a line; raises what keeps it from that."""
+        self._whole(self._settle, Silence())
 
     def close(self) -> None:
         """Closes the input, waits for the program to end, and raises the error of its status, if any."""
-        try:
-            with contextlib.suppress(BrokenPipeError):
-                self._in.close()
-            silence = _Silence()
-            with _Exchange(self, silence, True) as pump:
-                pump.run()
-            if self._wait() not in (0, 2):
-                raise fault_of(self._wait(), self.said, self.lines, self.last)
-            if silence.heard:
-                raise BadAnswer(f"wrote {silence.heard[:100]!r} without being asked")
-        finally:
-            self.kill()
+        self._whole(self._close)
 
     def kill(self) -> None:
         """Ends the program at once where it still runs, reaps it, and closes its pipes."""
-        if self._process.poll() is None:
-            self._process.kill()
-        self._process.wait()
-        for stream in (self._in, self._out, self._err):
-            with contextlib.suppress(OSError):
-                stream.close()
-
-    def hung(self) -> Error:
-        return Hung(f"the program neither took nor gave anything for {self._timeout} seconds", self.lines, self.last)
-
-    def _note(self, talk: Talk) -> None:
-        """Remembers how many lines are done, and the last of them."""
-        if talk.done:
-            self.last = talk.line(talk.done - 1)
-        self.lines += talk.done
-
-    def _ended(self, talk: Talk) -> Error:
-        status = self._wait()
-        if status in (0, 2):
-            return Died(f"the program ended and left {talk.waiting} lines unanswered", self.lines, self.last)
-        return fault_of(status, self.said, self.lines, self.last)
-
-    def _wait(self) -> int:
-        """The exit status, when the program has ended and all that it said is read."""
-        try:
-            status = self._process.wait(self._timeout)
-        except subprocess.TimeoutExpired:
-            raise self.hung() from None
-        with contextlib.suppress(BlockingIOError):
-            while not self._err.closed and (data := os.read(self._err.fileno(), _READ)):
-                self._said = (self._said + data)[-_KEPT:]
-        return status
-
-
-class _Silence:
-    """A talk without lines: only the end is waited for, and nothing is to be heard."""
-
-    done = waiting = 0
-
-    def __init__(self) -> None:
-        self.heard = b""
-
-    def piece(self) -> bytes:
-        return b""
-
-    def take(self, data: bytes) -> None:
-        self.heard = self.heard or data
-
-    def line(self, place: int) -> str | None:
-        return None
-
-
-class _Exchange:
-    """One talk over the pipes of a program, by a selector that lives as long as the talk."""
-
-    def __init__(self, program: Coprocess, talk: Talk, ends: bool) -> None:
-        self._program = program
-        self._talk = talk
-        self._ends = ends
-        self._left = memoryview(b"")
-        self._sending = not program._in.closed
-        self._reading = True
-        self._selector = selectors.DefaultSelector()
-        self.stopped_by: Exception | None = None
-
-    def __enter__(self) -> _Exchange:
-        if self._sending:
-            self._selector.register(self._program._in, selectors.EVENT_WRITE)
-        self._selector.register(self._program._out, selectors.EVENT_READ)
-        self._selector.register(self._program._err, selectors.EVENT_READ)
-        return self
-
-    def __exit__(self, kind: type[BaseException] | None, error: BaseException | None, at: TracebackType | None) -> None:
-        self._selector.close()
-
-    def run(self) -> None:
-        while self._is_open():
-            ready = self._selector.select(self._program._timeout)
-            if not ready:
-                self._program._note(self._talk)
-                raise self._program.hung()
-            for key, _ in ready:
-                if key.fileobj is self._program._in:
-                    self._send()
-                elif key.fileobj is self._program._out:
-                    self._receive()
-                else:
-                    self._listen()
-
-    def _is_open(self) -> bool:
-        if not self._reading:
-            return False
-        return self._sending or bool(self._talk.waiting) or self._ends
-
-    def _send(self) -> None:
-        if not self._left:
-            try:
-                self._left = memoryview(self._talk.piece())
-            except Exception as error:  # of the caller's own iterable: what was sent is answered first
-                self.stopped_by = error
-        if not self._left:
-            self._stop_sending()
+        if self._is_over:
             return
+        self._process.kill()
+        if self._lock.locked() and self._owner == get_ident():
+            return  # the call that this one comes in the middle of sees that the program has ended
+        with self._lock:
+            self._reap()
+
+    # ---- what calls are made of
+
+    def _exchange(self, talk: Talk) -> Exception | None:
+        """Sends and receives; answers the exception of the talk's pieces, if there was one."""
+        first, answered = self._sending.last, 0
+        talk.begin(first + 1)
+        self._unsettled = talk
+        stopped_by, is_more = None, True
+        while True:
+            if is_more and not self._sending.rest():
+                try:
+                    text, count = talk.piece()
+                except Exception as error:  # of the caller's own iterable: what was sent is answered first
+                    stopped_by, text, count = error, b"", 0
+                is_more = bool(text)
+                if is_more:
+                    self._sending = Sending(text, self._sending.last + count)
+            is_blocked = self._send()
+            if is_more and not is_blocked and self._is_fed:
+                continue
+            if not is_blocked and answered == self._sending.last - first:
+                break
+            if not self._receive(talk, is_blocked):
+                raise self._ended(talk, first)
+            answered = talk.look()
+        self._note(talk, answered)
+        self._unsettled = None
+        return stopped_by
+
+    def _single(self, request: Request, text: bytes) -> Any:
+        """Writes a line at once, which the pipe has room for, since all before it are answered."""
+        first = self._sending.last
+        silence = self._unsettled = Silence()
+        sending = self._sending = Sending(text, first + 1)
+        inbox = silence.inbox
+        value = PART
         try:
-            self._left = self._left[os.write(self._program._in.fileno(), self._left):]
-        except BlockingIOError:
+            sending.written.extend(map(os.write, (self._in,), (text,)))
+            if self._answer.poll(self._milliseconds):
+                inbox.extend(map(os.read, (self._out,), (READ,)))
+                value = value_in(request.answer, inbox[0])
+        except BrokenPipeError:
+            self._is_fed = False
+        if value is PART:
+            value = self._rest_of(request, inbox, first)
+        self.last = request.line
+        self.done += 1
+        self._unsettled = None
+        return value
+
+    def _rest_of(self, request: Request, inbox: list[bytes], first: int) -> Any:
+        """The value of a request that was sent, of whose answer this came in so far."""
+        talk = Asking((request,), first + 1)
+        talk.piece()
+        talk.inbox = inbox
+        while talk.look() == 0:
+            self._unsettled = talk
+            if (inbox and not inbox[-1]) or not self._receive(talk):
+                raise self._ended(talk, first)
+        return talk.values[0]
+
+    def _settle(self, talk: Talk) -> None:
+        """Behind an interrupted call: sends the rest of its piece and a marker, and reads until that is answered."""
+        self._unsettled = talk
+        talk.cut(self._sending.last)
+        for text, count in ((b"", 0), (MARKER, 1)):
+            if count:
+                self._sending = Sending(text, self._sending.last + count)
+            while self._send():
+                self._receive_or_end(talk, True)
+        while not ends_with(talk.inbox, b"line %d: " % self._sending.last):
+            self._receive_or_end(talk)
+        self.done = self._sending.last
+        self._unsettled = None
+
+    def _receive_or_end(self, talk: Talk, to_send: bool = False) -> None:
+        if not self._receive(talk, to_send):
+            raise self._ended(Silence(), self._sending.last - 1)
+
+    def _close(self) -> None:
+        self._end_guard()
+        self._end_input()
+        silence = Silence()
+        while self._receive(silence):
             pass
-        except BrokenPipeError:  # the program has ended, and its status says why
-            self._stop_sending()
-            self._ends = True
+        if self._wait() not in (0, 2):
+            raise fault_of(self._wait(), self.said, self.done, self.last)
+        if any(silence.inbox):
+            raise BadAnswer(f"wrote {b''.join(silence.inbox)[:100]!r} without being asked")
+        self._reap()
 
-    def _stop_sending(self) -> None:
-        self._sending = False
-        self._selector.unregister(self._program._in)
-        if self._ends:
-            with contextlib.suppress(BrokenPipeError):
-                self._program._in.close()
+    def _note(self, talk: Talk, done: int) -> None:
+        """Remembers how many lines are done, and the last of them."""
+        if done and (line := talk.line(done - 1)) is not None:
+            self.last = line
+        self.done += done
 
-    def _receive(self) -> None:
-        data = os.read(self._program._out.fileno(), _READ)
-        if data:
-            self._talk.take(data)
-        else:
-            self._reading = False
+    def _ended(self, talk: Talk, first: int) -> Error:
+        """The error of a program that ended before all lines from the first on were answered."""
+        status = self._wait()
+        done = talk.look()
+        self._note(talk, done)
+        if status in (0, 2):
+            left = self._sending.last - first - done
+            return Died(f"the program ended and left {left} lines unanswered", self.done, self.last)
+        return fault_of(status, self.said, self.done, self.last)
 
-    def _listen(self) -> None:
-        data = os.read(self._program._err.fileno(), _READ)
-        if data:
-            self._program._said = (self._program._said + data)[-_KEPT:]
-        else:
-            self._selector.unregister(self._program._err)
+    def forked(self) -> None:
+        """In a process that comes of a fork, where another thread may have had the turn."""
+        self._lock = threading.Lock()
+        self.let_go()
+
+
+_running: weakref.WeakSet[Coprocess] = weakref.WeakSet()
+
+
+def _after_fork() -> None:
+    for one in list(_running):
+        one.forked()
+    _running.clear()
+
+
+os.register_at_fork(after_in_child=_after_fork)

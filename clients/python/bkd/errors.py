@@ -1,10 +1,17 @@
 """What can go wrong. All of it is `bkd.Error`."""
 from __future__ import annotations
 
+import re
 from collections.abc import Sequence
 from typing import Any
 
 from .damage import Damage
+
+# how the program's notes begin, and the form of those that name a file
+_NOTE = "bkd: "
+_OF_FILE = re.compile(r"[a-z ]+ (?P<file>(?:seg|live|commit)[-.][-.0-9a-z]+): .+")
+# what they say where another run has the folder, or had it meanwhile
+_OTHERS = re.compile("another run works in|held by another run|another run has committed")
 
 
 class Error(Exception):
@@ -29,11 +36,27 @@ class Unsupported(Error):
 
 
 class Locked(Error):
-    """Another process works on the folder."""
+    """Another run works on the folder, or this process has it open already; the text says which."""
 
 
 class Closed(Error):
-    """The index was closed, or its program has ended."""
+    """The index was closed, its program has ended, or another process opened it before a fork."""
+
+
+class ReadOnly(Error):
+    """The index was opened with `read=True`, and what was asked would change it."""
+
+
+class Uncommitted(Error):
+    """What was asked looks at what is stored, and something isn't committed."""
+
+
+class Reentered(Error):
+    """An index was used by what it is taking its documents from, within its own call."""
+
+
+class OtherKind(Error):
+    """The folder holds points where ranges were wanted, or ranges where points were, or another scale."""
 
 
 class WorkerLost(Error):
@@ -56,37 +79,42 @@ class Refused(Error):
     """The program refused a line, which then changed nothing.
 
     `line` is the line, `reason` the program's text, `number` the line's number, counted from 1 since the program
-    started. Of a call of many lines `others` are the further refusals and `answers` the answers of all other lines,
-    which were done.
+    started, and `cause` what the program notes of it besides, or None. Of a call of many lines `others` are the
+    further refusals and `answers` the answers of all other lines, which were done.
     """
 
     def __init__(self, line: str, reason: str, number: int, others: Sequence[Refused] = (),
-                 answers: Sequence[int] = ()) -> None:
+                 answers: Sequence[int] = (), cause: str | None = None) -> None:
         shown = line if len(line) <= 200 else line[:200] + " .."
         more = f" (and {len(others)} more lines)" if others else ""
-        super().__init__(f"{reason}: {shown}{more}")
+        super().__init__(f"{reason}: {shown}{more}" + (f": {cause}" if cause else ""))
         self.line = line
         self.reason = reason
         self.number = number
         self.others = tuple(others)
         self.answers = answers
+        self.cause = cause
 
 
 class Fault(Error):
     """The program ended before it had done all lines, or a command failed as a whole.
 
     `done` counts the lines that were done since the program started, and `last` is the last of them. Both are None
-    where no lines were given. What the folder holds afterwards is what the last commit stored.
+    where no lines were given. `cause` is what the program noted of it, and `file` the file that this names; None where
+    it noted nothing. What the folder holds afterwards is what the last commit stored.
     """
 
-    def __init__(self, text: str, done: int | None = None, last: str | None = None) -> None:
-        told = text
+    def __init__(self, text: str, done: int | None = None, last: str | None = None, cause: str | None = None) -> None:
+        told = text + (f": {cause}" if cause else "")
         if done is not None:
             told += f"; {done} lines were done" + (f", the last of them: {last[:200]}" if last is not None else "")
         super().__init__(told)
         self.text = text
         self.done = done
         self.last = last
+        self.cause = cause
+        found = _OF_FILE.fullmatch(cause or "")
+        self.file = found["file"] if found else None
 
 
 class SourceFault(Fault):
@@ -120,8 +148,9 @@ class Hung(Fault):
 class Damaged(Fault):
     """The folder's files are damaged; `damage` tells where. `file`, `page` and `kind` are those of the damage."""
 
-    def __init__(self, damage: Damage, done: int | None = None, last: str | None = None) -> None:
-        super().__init__(f"damaged: {damage}", done, last)
+    def __init__(self, damage: Damage, done: int | None = None, last: str | None = None,
+                 cause: str | None = None) -> None:
+        super().__init__(f"damaged: {damage}", done, last, cause)
         self.damage = damage
         self.file = damage.file
         self.page = damage.page
@@ -133,14 +162,27 @@ _FAULTS: dict[int, type[Fault]] = {
 }
 
 
+def cause_of(said: str) -> str | None:
+    """The notes right before the last line of what a program said on standard error; None where there are none."""
+    notes: list[str] = []
+    for line in reversed(said.strip().splitlines()[:-1]):
+        if not line.startswith(_NOTE):
+            break
+        notes.insert(0, line.removeprefix(_NOTE))
+    return "; ".join(notes) or None
+
+
 def fault_of(status: int, said: str, done: int | None = None, last: str | None = None) -> Error:
     """The error for a program that ended with this status and said this on standard error."""
     line = said.strip().splitlines()[-1] if said.strip() else ""
+    cause = cause_of(said)
     if status == 1 and line.startswith("usage: "):
-        return Unsupported(f"the program doesn't know these words: {line}")
+        return Unsupported(f"the program doesn't know these words: {cause or line}")
+    if status == 4 and cause and _OTHERS.search(cause):
+        return Locked(cause)
     if status == 6 and line.startswith("damaged: ") and (damage := Damage.read(line.removeprefix("damaged: "))):
-        return Damaged(damage, done, last)
+        return Damaged(damage, done, last, cause)
     if status in _FAULTS:
-        return _FAULTS[status](line or _FAULTS[status].__name__, done, last)
+        return _FAULTS[status](line or _FAULTS[status].__name__, done, last, cause)
     how = f"was killed by signal {-status}" if status < 0 else f"ended with status {status}"
-    return Died(f"the program {how}" + (f": {line}" if line else ""), done, last)
+    return Died(f"the program {how}" + (f": {line}" if line else ""), done, last, cause)

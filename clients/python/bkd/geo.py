@@ -1,56 +1,44 @@
-"""Decimal degrees as whole numbers at 10^-7 of a degree, and back.
+"""Decimal degrees as whole numbers at 10^-7 of a degree, and back; and the globe.
 
-The whole numbers of 32 bits signed reach from -214.7483648 to 214.7483647 degrees. Without a word on rounding only what
-is a whole number of 10^-7 is taken, and all else raises ValueError; `rounding` is `"nearest"` (ties to even),
-`"down"` or `"up"`, and what is given is then rounded once, from what it stands for: a float stands for the shortest
-decimal that reads as it, as text shows it. Distances of an index of such points are in these units squared, on the
-plane of longitude and latitude, not on the globe.
+The whole numbers of 32 bits signed reach from -214.7483648 to 214.7483647 degrees. What is said of rounding in
+`bkd.scale` holds here. Distances of an index of such points are in these units squared, on the plane of longitude and
+latitude; on the globe they are what `great_circle` says, in metres.
 """
 from __future__ import annotations
 
-import decimal
-from collections.abc import Callable, Iterable, Sequence
+import math
 from decimal import Decimal
-from fractions import Fraction
-from math import ceil, floor
 from typing import Any
 
-UNIT = 10_000_000
-LEAST, GREATEST = -(1 << 31), (1 << 31) - 1
-Degrees = float | int | str | Decimal | Fraction
-_ROUNDINGS: dict[str, Callable[[Fraction], int]] = {"nearest": round, "down": floor, "up": ceil}
+from . import requests
+from .scale import GREATEST, LEAST, Scale, Value, polygons_of
+
+DECIMALS = 7
+SCALE = Scale(DECIMALS)
+UNIT = SCALE.unit
+# the mean radius of the Earth by the International Union of Geodesy and Geophysics, in metres
+RADIUS = 6_371_008.8
+Degrees = Value
+DegreesBox = tuple[float, float, float, float]
+WholeBox = tuple[tuple[int, int], tuple[int, int]]
+
+__all__ = ["DECIMALS", "GREATEST", "LEAST", "RADIUS", "SCALE", "UNIT", "box", "boxes", "cap", "degrees",
+           "exact_degrees", "great_circle", "point", "points", "polygon", "polygons", "whole", "within"]
 
 
 def whole(degrees: Degrees, rounding: str | None = None) -> int:
     """The whole number of 10^-7 degrees that this is. What can't be held raises ValueError."""
-    try:
-        exact = Fraction(repr(degrees) if type(degrees) is float else degrees) * UNIT
-    except (ValueError, OverflowError, TypeError):
-        try:
-            exact = Fraction(repr(float(degrees))) * UNIT  # of numpy's floats and the like
-        except (ValueError, OverflowError, TypeError):
-            raise ValueError(f"no degrees: {degrees!r}") from None
-    if rounding is None:
-        if exact.denominator != 1:
-            raise ValueError(f"not a whole number of 10^-7 degrees: {degrees!r}")
-        number = exact.numerator
-    elif rounding in _ROUNDINGS:
-        number = _ROUNDINGS[rounding](exact)
-    else:
-        raise ValueError(f"no rounding: {rounding!r}")
-    if not LEAST <= number <= GREATEST:
-        raise ValueError(f"beyond 32 bits: {degrees!r}")
-    return number
+    return SCALE.whole(degrees, rounding)
 
 
 def degrees(number: int) -> float:
     """The float next to a whole number of 10^-7 degrees; `whole` gives the number again."""
-    return number / UNIT
+    return SCALE.value(number)
 
 
 def exact_degrees(number: int) -> Decimal:
     """The degrees of a whole number, exactly."""
-    return Decimal(number).scaleb(-7, decimal.Context(prec=12))
+    return SCALE.exact(number)
 
 
 def point(lon: Degrees, lat: Degrees, rounding: str | None = None) -> tuple[int, int]:
@@ -58,46 +46,82 @@ def point(lon: Degrees, lat: Degrees, rounding: str | None = None) -> tuple[int,
     return whole(lon, rounding), whole(lat, rounding)
 
 
-def box(west: Degrees, south: Degrees, east: Degrees, north: Degrees) -> tuple[tuple[int, int], tuple[int, int]]:
+def box(west: Degrees, south: Degrees, east: Degrees, north: Degrees) -> WholeBox:
     """The corners `lo`, `hi` of a box: the whole numbers in it,
     so its lower sides are rounded up and its upper ones down."""
     return (whole(west, "up"), whole(south, "up")), (whole(east, "down"), whole(north, "down"))
 
 
+def boxes(west: Degrees, south: Degrees, east: Degrees, north: Degrees) -> list[WholeBox]:
+    """The same as one box, or as two where the box goes over the date line: where `west` is greater than `east`."""
+    if whole(west, "nearest") <= whole(east, "nearest"):
+        return [box(west, south, east, north)]
+    return [box(west, south, 180, north), box(-180, south, east, north)]
+
+
+def within(index: Any, west: Degrees, south: Degrees, east: Degrees, north: Degrees) -> list[int]:
+    """The documents of an index of points by this module that have a point in a box, over the date line too."""
+    found = index.ask([requests.box(low, high) for low, high in boxes(west, south, east, north)])
+    return found[0] if len(found) == 1 else sorted(set().union(*found))
+
+
 def points(table: Any, rounding: str | None = None) -> Any:
     """An array of degrees, of any shape and a float type of 64 bits, as an array of int32 of that shape;
     wants numpy."""
-    import numpy
-    given = numpy.asarray(table, dtype=numpy.float64)
-    if not numpy.isfinite(given).all() or (abs(given) > 215).any():
-        raise ValueError("some degrees can't be held in 32 bits")
-    numbers = numpy.rint(given * UNIT)
-    # a float stands for a whole number of 10^-7 exactly where it is the float next to that number's degrees
-    for place in numpy.argwhere(numbers / UNIT != given):
-        numbers[tuple(place)] = whole(float(given[tuple(place)]), rounding)
-    if (numbers < LEAST).any() or (numbers > GREATEST).any():
-        raise ValueError("some degrees can't be held in 32 bits")
-    return numbers.astype(numpy.int32)
+    return SCALE.array(table, rounding)
 
 
 def polygon(shape: Any, rounding: str | None = None) -> dict[str, Any]:
-    """A GeoJSON polygon of degrees as one of whole numbers: a dict, a list of rings, or what has `__geo_interface__`.
+    """The one polygon in a shape of degrees as a GeoJSON polygon of whole numbers; see `polygons`.
 
-    A Feature stands for its geometry. Another type, or a position that isn't two numbers, raises ValueError.
+    A shape with none or several raises ValueError.
     """
-    found = getattr(shape, "__geo_interface__", shape)
-    if isinstance(found, dict) and found.get("type") == "Feature":
-        found = found.get("geometry")
-    if isinstance(found, dict):
-        if found.get("type") != "Polygon":
-            raise ValueError(f"not a polygon: {found.get('type')!r}")
-        found = found.get("coordinates")
-    if not isinstance(found, Iterable) or isinstance(found, str):
-        raise ValueError("a polygon without coordinates")
-    return {"type": "Polygon", "coordinates": [[_position(p, rounding) for p in ring] for ring in found]}
+    found = polygons(shape, rounding)
+    if len(found) != 1:
+        raise ValueError(f"a shape of {len(found)} polygons")
+    return found[0]
 
 
-def _position(position: Sequence[Degrees], rounding: str | None) -> list[int]:
-    if len(position) != 2:
-        raise ValueError(f"a position of {len(position)} numbers")
-    return list(point(position[0], position[1], rounding))
+def polygons(shape: Any, rounding: str | None = None) -> list[dict[str, Any]]:
+    """The polygons in a shape of degrees as GeoJSON polygons of whole numbers.
+
+    A shape is a GeoJSON Polygon, MultiPolygon, Feature, FeatureCollection or GeometryCollection as a dict, what has
+    `__geo_interface__`, or a list of rings. Another type, or a position that isn't two numbers (or three: heights are
+    left out), raises ValueError.
+    """
+    return [SCALE.polygon(rings, rounding) for rings in polygons_of(shape)]
+
+
+def great_circle(lon: Any, lat: Any, to_lon: Any, to_lat: Any) -> Any:
+    """The way over the globe, in metres, between places in degrees; numbers or arrays of them, which want numpy.
+
+    Half a chord's square by the haversine formula, on a sphere of the mean radius.
+    """
+    if all(isinstance(value, (int, float)) for value in (lon, lat, to_lon, to_lat)):
+        half = _haversine(math, lon, lat, to_lon, to_lat)
+        return 2 * RADIUS * math.asin(min(1.0, math.sqrt(half)))
+    import numpy
+    half = _haversine(numpy, lon, lat, to_lon, to_lat)
+    return 2 * RADIUS * numpy.arcsin(numpy.minimum(1.0, numpy.sqrt(half)))
+
+
+def _haversine(by: Any, lon: Any, lat: Any, to_lon: Any, to_lat: Any) -> Any:
+    across = by.sin(by.radians(to_lon - lon) / 2) ** 2
+    up = by.sin(by.radians(to_lat - lat) / 2) ** 2
+    return up + by.cos(by.radians(lat)) * by.cos(by.radians(to_lat)) * across
+
+
+def cap(lon: float, lat: float, metres: float) -> list[DegreesBox]:
+    """One or two boxes (west, south, east, north) that hold all places so near; a little larger than they must be."""
+    angle = math.degrees(metres / RADIUS) * (1 + 1e-9) + 1e-9
+    south, north = max(-90.0, lat - angle), min(90.0, lat + angle)
+    if lat - angle <= -90 or lat + angle >= 90:
+        return [(-180.0, south, 180.0, north)]
+    side = math.sin(math.radians(angle)) / math.cos(math.radians(lat))
+    wide = math.degrees(math.asin(min(1.0, side))) * (1 + 1e-9) + 1e-9
+    west, east = lon - wide, lon + wide
+    if west < -180:
+        return [(west + 360, south, 180.0, north), (-180.0, south, east, north)]
+    if east > 180:
+        return [(west, south, 180.0, north), (-180.0, south, east - 360, north)]
+    return [(west, south, east, north)]

@@ -2,23 +2,32 @@
 from __future__ import annotations
 
 import contextlib
+import functools
+import io
 import os
 import re
-import shutil
+import select
 import subprocess
 import sys
+import tempfile
 from collections.abc import Iterator, Sequence
 from functools import cached_property
 from pathlib import Path
+from typing import IO
 
 from . import lock
-from .coprocess import Coprocess, inherited
-from .errors import Hung, NotFound, Unsupported, fault_of
+from .coprocess import Coprocess
+from .errors import Died, Error, Hung, Locked, NotFound, Unsupported, fault_of
+from .processes import started
 from .talk import Talk
 
 # what only reads shares the folder's lock; everything else has it alone
-_READERS = frozenset({"explain", "check", "count", "batch"})
+_READERS = frozenset({"explain", "check", "count", "batch", "export", "info"})
 _USAGE = re.compile(r"usage: bkd FOLDER ([a-z|]+)")
+_PACKAGE = Path(__file__).resolve().parent
+_CHECKOUT = _PACKAGE.parents[2]
+_SECONDS = 60.0
+_READ = 1 << 16
 
 
 class Program:
@@ -39,11 +48,11 @@ class Program:
         said = ""
         none = subprocess.DEVNULL
         try:
-            with subprocess.Popen(self.words, stdin=none, stdout=none, stderr=subprocess.PIPE) as run:
+            with started(self.words, None, stdin=none, stdout=none, stderr=subprocess.PIPE) as run:
                 assert run.stderr
                 for line in run.stderr:
                     said += line.decode(errors="replace")
-                    if line.startswith(b"bkd: "):
+                    if line.startswith(b"bkd: building"):
                         print(line.decode(errors="replace"), end="", file=sys.stderr, flush=True)
         except OSError as error:
             raise NotFound(f"{self.words[0]}: {error.strerror}") from error
@@ -52,75 +61,223 @@ class Program:
             raise NotFound(f"{' '.join(self.words)} is not bkd: it prints no list of commands")
         return frozenset(found[1].split("|"))
 
+    @cached_property
+    def locks(self) -> bool:
+        """Whether the program locks its folder by itself: whether it takes the option `--wait`."""
+        with tempfile.TemporaryDirectory() as folder:
+            words = [*self.words, folder, "check", "--wait", "0"]
+            none = subprocess.DEVNULL
+            with self._told(), started(words, None, stdin=none, stdout=none, stderr=none) as run:
+                try:
+                    return run.wait(_SECONDS) == 0
+                except subprocess.TimeoutExpired:
+                    raise Hung(f"{' '.join(words)} didn't end within {_SECONDS:.0f} seconds") from None
+                finally:
+                    run.kill()
+
     def require(self, command: str) -> None:
         """Raises `Unsupported` where the program's list doesn't have this command."""
         if command not in self.commands:
             raise Unsupported(f"{' '.join(self.words)} has no command {command}; "
                               f"it has {', '.join(sorted(self.commands))}")
 
-    def start(self, folder: str, words: Sequence[str], timeout: float | None, held: int | None = None) -> Coprocess:
-        """Starts a command, whose name is the first word. `held` is the folder's lock, which the program inherits."""
+    def start(self, folder: str, words: Sequence[str], timeout: float | None, held: int | None = None,
+              guarded: bool = False) -> Coprocess:
+        """Starts a command that stays, whose name is the first word. `held` is the folder's lock, which it inherits."""
         self.require(words[0])
+        with self._told():
+            return Coprocess([*self.words, folder, *words], timeout, held, guarded)
+
+    @contextlib.contextmanager
+    def _told(self) -> Iterator[None]:
+        """Tells of a program that can't be started."""
         try:
-            return Coprocess([*self.words, folder, *words], timeout, held)
+            yield
         except OSError as error:
             raise NotFound(f"{self.words[0]}: {error.strerror}") from error
 
     def run(self, folder: str, words: Sequence[str], talk: Talk, timeout: float | None,
             held: int | None = None) -> None:
-        """Runs a command over a talk to its end. Without `held` it takes the folder's lock."""
-        self.require(words[0])
-        with _locked(folder, words, held) as kept:
-            self.start(folder, words, timeout, kept).exchange(talk, ends=True)
+        """Runs a command over all that a talk has to send. Without `held` the folder is locked meanwhile.
 
-    def output(self, folder: str, words: Sequence[str], source: bytes = b"", timeout: float | None = None,
-               held: int | None = None) -> tuple[int, str]:
-        """The status and the whole text of a command over this input. Statuses but 0 and 2 raise their error.
-
-        A program that hasn't ended after `timeout` seconds is killed and told as `Hung`.
+        Nothing is started where the talk's pieces raise. What is sent is complete before the program reads it, so that
+        a caller who is killed leaves all of it or nothing.
         """
+        with scratch() as source:
+            due = _spell(talk, source)
+            with self._started(folder, words, held, source) as run:
+                for data in run.pieces(timeout):
+                    talk.inbox.append(data)
+                    talk.look()
+                status, done = run.status(timeout), talk.look()
+                last = talk.line(done - 1) if done else None
+                if status not in (0, 2):
+                    raise run.fault(folder, status, done, last)
+                if done < due:
+                    raise Died(f"the program ended and left {due - done} lines unanswered", done, last)
+
+    def output(self, folder: str, words: Sequence[str], source: bytes | IO[bytes] = b"",
+               timeout: float | None = None, held: int | None = None) -> tuple[int, str]:
+        """The status and the whole text of a command over this input, a text or a file that the program reads.
+
+        Statuses but 0 and 2 raise their error.
+        """
+        with contextlib.ExitStack() as stack:
+            if isinstance(source, bytes):
+                file = stack.enter_context(scratch())
+                file.write(source)
+                file.seek(0)
+            else:
+                file = source
+            run = stack.enter_context(self._started(folder, words, held, file))
+            text = b"".join(run.pieces(timeout))
+            status = run.status(timeout)
+            if status not in (0, 2):
+                raise run.fault(folder, status)
+            return status, text.decode(errors="replace")
+
+    def lines(self, folder: str, words: Sequence[str], held: int | None = None) -> Iterator[bytes]:
+        """The lines that a command writes, as they come; a status but 0 raises its error, at the end."""
+        with scratch() as source, self._started(folder, words, held, source) as run:
+            assert run.process.stdout
+            with io.BufferedReader(run.process.stdout, _READ) as lines:  # type: ignore[arg-type]
+                yield from lines
+            if (status := run.status(None)) != 0:
+                raise run.fault(folder, status)
+
+    @contextlib.contextmanager
+    def _started(self, folder: str, words: Sequence[str], held: int | None, source: IO[bytes]) -> Iterator[_Run]:
+        """A command that runs once over a file, under the folder's lock; it is ended where this is left."""
         self.require(words[0])
+        with self._locked(folder, words, held) as (more, kept), scratch() as said:
+            with self._told():
+                process = started([*self.words, folder, *words, *more], kept, stdin=source, stdout=subprocess.PIPE,
+                                  stderr=said)
+            with process:
+                try:
+                    yield _Run(process, said)
+                finally:
+                    process.kill()
+
+    @contextlib.contextmanager
+    def _locked(self, folder: str, words: Sequence[str], held: int | None) -> Iterator[tuple[list[str], int | None]]:
+        """The further words, and the descriptor, by which a command works under the folder's lock."""
+        if held is not None or self.locks:
+            yield self.held_words(held), held
+            return
+        shared = words[0] in _READERS and "--merge" not in words
+        with lock.locked(folder, shared) as taken:
+            yield [], taken
+
+    def held_words(self, held: int | None) -> list[str]:
+        """The words by which a program works in a folder whose lock its caller has."""
+        return ["--no-lock"] if held is not None and self.locks else []
+
+
+class _Run:
+    """A command that runs once, with the file that has what it says on standard error."""
+
+    def __init__(self, process: subprocess.Popen[bytes], said: IO[bytes]) -> None:
+        self.process = process
+        self._said = said
+
+    def pieces(self, timeout: float | None) -> Iterator[bytes]:
+        """What it writes, as it comes; `Hung` where nothing comes for so many seconds."""
+        assert self.process.stdout
+        out, poll = self.process.stdout.fileno(), select.poll()
+        poll.register(out, select.POLLIN)
+        while poll.poll(None if timeout is None else timeout * 1000):
+            data = os.read(out, _READ)
+            if not data:
+                return
+            yield data
+        raise Hung(f"the program gave nothing for {timeout} seconds")
+
+    def status(self, timeout: float | None) -> int:
+        """The status, when it has ended."""
         try:
-            with _locked(folder, words, held) as kept:
-                done = subprocess.run([*self.words, folder, *words], input=source, capture_output=True,
-                                      timeout=timeout, check=False, **inherited(kept))
-        except OSError as error:
-            raise NotFound(f"{self.words[0]}: {error.strerror}") from error
+            return self.process.wait(timeout)
         except subprocess.TimeoutExpired:
             raise Hung(f"the program didn't end within {timeout} seconds") from None
-        if done.returncode not in (0, 2):
-            raise fault_of(done.returncode, done.stderr.decode(errors="replace"))
-        return done.returncode, done.stdout.decode(errors="replace")
+
+    def fault(self, folder: str, status: int, done: int | None = None, last: str | None = None) -> Error:
+        """The error of a status over a folder, with what was said."""
+        self._said.seek(0)
+        found = fault_of(status, self._said.read().decode(errors="replace"), done, last)
+        return lock.told(folder) if isinstance(found, Locked) else found
 
 
-@contextlib.contextmanager
-def _locked(folder: str, words: Sequence[str], held: int | None) -> Iterator[int]:
-    """The folder's lock for a command, where it isn't held already."""
-    if held is not None:
-        yield held
-        return
-    with lock.locked(folder, words[0] in _READERS and "--merge" not in words) as taken:
-        yield taken
+def scratch() -> IO[bytes]:
+    """An empty file without a name, in memory where the system has such."""
+    try:
+        return os.fdopen(os.memfd_create("bkd"), "w+b")
+    except OSError:
+        return tempfile.TemporaryFile()
 
 
-def _path() -> str:
-    top = Path(__file__).resolve().parents[3]
-    for path in (os.environ.get("BKD"), top / "bkd", shutil.which("bkd")):
-        if path and os.path.isfile(path):
-            return str(path)
-    raise NotFound("no program bkd: name it, set BKD, or use the package in a checkout")
+def _spell(talk: Talk, file: IO[bytes]) -> int:
+    """Writes all that a talk has to send, and goes to the file's begin; answers how many lines that are."""
+    lines = 0
+    while True:
+        text, count = talk.piece()
+        if not text:
+            break
+        file.write(text)
+        lines += count
+    file.seek(0)
+    return lines
+
+
+def of_checkout() -> tuple[str, ...] | None:
+    """The program of the checkout that this package stands in: the one that its launcher would start.
+
+    Where none is of the checkout's sources that is the launcher, which has one built first.
+    """
+    launcher = _CHECKOUT / "bkd"
+    if not (launcher.is_file() and (_CHECKOUT / "crates.txt").is_file()):
+        return None
+    said = subprocess.run([_CHECKOUT / "release" / "checksum"], capture_output=True, text=True, check=False)
+    for program, of in ((_CHECKOUT / "crates" / "bkd" / "out" / "bkd", "crates/bkd/out/bkd.sha256"),
+                        (_CHECKOUT / "release" / "bkd", "release/sources.sha256")):
+        of_file = _CHECKOUT / of
+        if said.stdout and of_file.is_file() and of_file.read_text() == said.stdout and os.access(program, os.X_OK):
+            return (str(program),)
+    return (str(launcher),)
+
+
+@functools.cache
+def _usual(named: str | None) -> Program:
+    """The program that is taken where none is named to `find`; `named` is the environment's BKD."""
+    if named is not None:
+        if not os.path.isfile(named):
+            raise NotFound(f"the environment's BKD names no file: {named!r}")
+        return Program([os.path.abspath(named)])
+    packed = _PACKAGE / "bin" / "bkd"
+    if packed.is_file():
+        return Program([str(packed)])
+    words = of_checkout()
+    if words is not None:
+        return Program(words)
+    raise NotFound("no program bkd: the package has none and stands in no checkout; name it, or set BKD")
+
+
+@functools.cache
+def _named(path: str, changed: int) -> Program:
+    return Program([path])
 
 
 def find(program: str | os.PathLike[str] | Sequence[str] | Program | None = None) -> Program:
-    """The program of this path or these words; else that of the environment's BKD, else the launcher of the checkout.
+    """The program of this path or these words; else that of the environment's BKD, of the package, or of the checkout.
 
-    Raises `NotFound`.
+    It is looked for once, and asked once for its commands. Raises `NotFound`.
     """
     if isinstance(program, Program):
         return program
-    if isinstance(program, (str, os.PathLike)) or program is None:
-        path = _path() if program is None else os.fspath(program)
+    if program is None:
+        return _usual(os.environ.get("BKD"))
+    if isinstance(program, (str, os.PathLike)):
+        path = os.path.abspath(os.fspath(program))
         if not os.path.isfile(path):
             raise NotFound(f"no program {path}")
-        return Program([os.path.abspath(path)])
+        return _named(path, os.stat(path).st_mtime_ns)
     return Program(program)

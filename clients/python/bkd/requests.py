@@ -10,17 +10,17 @@ import json
 import operator
 import re
 from collections.abc import Iterable, Sequence
-from dataclasses import dataclass
-from typing import Any, SupportsIndex
+from itertools import chain
+from typing import Any, NamedTuple, SupportsIndex
 
 from .answers import DELETED, DOC, HITS, NEAR, OK, Answer
+from .scale import polygons_of
 
 Point = Sequence[SupportsIndex] | SupportsIndex
 _NAME = re.compile(r"[A-Za-z0-9_-]{1,32}", re.ASCII)
 
 
-@dataclass(frozen=True, slots=True)
-class Request:
+class Request(NamedTuple):
     """A line without its end, and the form of its answer."""
 
     line: str
@@ -29,6 +29,8 @@ class Request:
 
 def coordinates(point: Point) -> tuple[int, ...]:
     """The coordinates of a point. What is no whole number raises TypeError."""
+    if type(point) in (tuple, list):
+        return tuple(map(operator.index, point))  # type: ignore[arg-type]
     try:
         return (operator.index(point),)  # type: ignore[arg-type]
     except TypeError:
@@ -47,8 +49,8 @@ def points_of(document: Any) -> list[tuple[int, ...]]:
         return [coordinates(point) for point in document]
 
 
-def _words(points: Iterable[tuple[int, ...]]) -> str:
-    return "".join(f" {c}" for point in points for c in point)
+def _words(numbers: tuple[int, ...]) -> str:
+    return " %d" * len(numbers) % numbers
 
 
 def name_of(text: str) -> str:
@@ -69,7 +71,7 @@ def create(dims: int, leaf: int | None = None) -> Request:
 
 def add(document: Any) -> Request:
     """Adds a document; answered by its number."""
-    return Request("add" + _words(points_of(document)), DOC)
+    return Request("add" + _words(tuple(chain.from_iterable(points_of(document)))), DOC)
 
 
 def delete(number: SupportsIndex) -> Request:
@@ -79,13 +81,13 @@ def delete(number: SupportsIndex) -> Request:
 
 def delete_box(lo: Point, hi: Point) -> Request:
     """Deletes the documents that have a point in the box; answered by how many."""
-    return Request("delete box" + _words((coordinates(lo), coordinates(hi))), DELETED)
+    return Request("delete box" + _words(coordinates(lo) + coordinates(hi)), DELETED)
 
 
 def box(lo: Point, hi: Point, of: str | None = None) -> Request:
     """Asks for the documents that have a point from `lo` to `hi`, both among them; answered by their numbers,
     ascending."""
-    return Request(f"box{_viewed(of)}" + _words((coordinates(lo), coordinates(hi))), HITS)
+    return Request(f"box{_viewed(of)}" + _words(coordinates(lo) + coordinates(hi)), HITS)
 
 
 def polygon(shape: Any, of: str | None = None) -> Request:
@@ -96,7 +98,7 @@ def polygon(shape: Any, of: str | None = None) -> Request:
 def nearest(k: SupportsIndex, at: Point, of: str | None = None) -> Request:
     """Asks for the `k` nearest documents; answered by pairs of number and squared distance, ascending by distance,
     number."""
-    return Request(f"nearest{_viewed(of)} {operator.index(k)}" + _words((coordinates(at),)), NEAR)
+    return Request(f"nearest{_viewed(of)} {operator.index(k)}" + _words(coordinates(at)), NEAR)
 
 
 def snapshot(name: str) -> Request:
@@ -120,6 +122,17 @@ FLUSH, MERGE, MERGE_END, COMMIT, REOPEN = (Request(w, OK) for w in ("flush", "me
 def _plain(value: Any) -> Any:
     """Of what `json` doesn't know: arrays as lists, other whole numbers as int."""
     return value.tolist() if hasattr(value, "tolist") else operator.index(value)
+
+
+def polygons(shape: Any, of: str | None = None) -> list[Request]:
+    """A request for each polygon in a shape, which may be of many kinds: see `bkd.scale.polygons_of`.
+
+    What is no shape of polygons is one request, so that the program says what is wrong with it.
+    """
+    try:
+        return [polygon(rings, of) for rings in polygons_of(shape)]
+    except ValueError:
+        return [polygon(shape, of)]
 
 
 def geojson(shape: Any) -> str:

@@ -7,6 +7,7 @@ from itertools import chain, islice
 from typing import Any, SupportsIndex
 
 from . import requests
+from .scale import Scale
 
 _LINES = 8192
 
@@ -21,16 +22,34 @@ def _whole(array: Any) -> Any:
     return array
 
 
-def added(documents: Any, dims: int) -> Iterator[tuple[bytes, int]]:
+def scaled(document: Any, scale: Scale) -> list[tuple[int, ...]]:
+    """The points of a document of values at a scale, each rounded to the nearest."""
+    if isinstance(document, (str, bytes)):
+        raise TypeError(f"no document: {document!r}")
+    try:
+        return [scale.point(document, "nearest")]
+    except (TypeError, ValueError):
+        if not _has_points(document):
+            raise
+        return [scale.point(point, "nearest") for point in document]
+
+
+def _has_points(document: Any) -> bool:
+    """Whether a document is a sequence of points, and not a point."""
+    return hasattr(document, "__iter__") and any(hasattr(point, "__iter__") and not isinstance(point, (str, bytes))
+                                                 for point in document)
+
+
+def added(documents: Any, dims: int, scale: Scale | None = None) -> Iterator[tuple[bytes, int]]:
     """Lines that add documents, as pairs of a text and its number of lines.
 
     `documents` is an array of whole numbers of shape (n, dims), or (n,) where `dims` is 1, a document of one point
-    each; or any iterable of what `requests.add` takes.
+    each; or any iterable of what `requests.add` takes. At a scale they are values, rounded to the nearest.
     """
     if _is_array(documents):
-        yield from _added_rows(_whole(documents), dims)
+        yield from _added_rows(_whole(documents) if scale is None else scale.array(documents, "nearest"), dims)
         return
-    rest = iter(documents)
+    rest = iter(documents) if scale is None else (scaled(document, scale) for document in documents)
     while some := list(islice(rest, _LINES)):
         yield _added_points(some, dims) or _lines(requests.add(document).line for document in some), len(some)
 

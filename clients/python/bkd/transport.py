@@ -1,161 +1,222 @@
-"""The two ways to keep talking with the program: one `session` that stays, or a `run` for each batch of lines."""
+"""One `session` that stays: its program, its folder's lock, and what it knows of what was done."""
 from __future__ import annotations
 
-from collections.abc import Iterable, Iterator, Sequence
-from typing import Any, Protocol
+import threading
+from collections.abc import Callable, Iterable, Sequence
+from typing import Any
 
 from . import lock
-from .answers import Answer
+from .answers import DELETED, DOC, HITS, OK, Answer
 from .coprocess import Coprocess
-from .errors import Closed, Refused
+from .errors import Closed, Error, NoIndex, Refused
+from .formats.commit import read_commit
 from .program import Program
-from .requests import Request
+from .requests import COMMIT, REOPEN, Request, box
+from .scale import GREATEST, LEAST
 from .talk import Asking, Many, Talk
 
-# a run reads its whole input before it answers, so long inputs are cut into runs of about this many bytes
-RUN_BYTES = 1 << 26
-Pieces = Iterable[tuple[bytes, int]]
+_WRITING = ("create", "flush", "merge")
 
 
-class Transport(Protocol):
-    """A way to have lines done. `stays` says that snapshots and a begun merge last beyond a call."""
+def _all_hits(dims: int) -> Request:
+    """Asks how many documents there are."""
+    every = box((LEAST,) * dims, (GREATEST,) * dims)
+    return Request(every.line, Answer(HITS.word, True, lambda words, text: int(words[1])))
 
-    stays: bool
-    held: int | None
+
+# whether something may have been done that isn't committed, and how many documents are live
+_Book = tuple[bool, int | None]
+
+
+def _booked(book: _Book, done: Iterable[tuple[Request, Any]]) -> _Book:
+    """What is known when requests were done with these values."""
+    is_dirty, live = book
+    for request, value in done:
+        if isinstance(value, Refused) or request.answer not in (DOC, DELETED, OK):
+            continue
+        if request in (COMMIT, REOPEN):
+            is_dirty = False
+        elif request.answer is OK:
+            is_dirty |= request.line.startswith(_WRITING)
+        else:
+            change = 1 if request.answer is DOC else -value
+            is_dirty |= change != 0
+            live = _more(live, change)
+    return is_dirty, live
+
+
+def _more(live: int | None, change: int) -> int | None:
+    return None if live is None else live + change
+
+
+class Session:
+    """A program that answers line by line and stays. After a fault it is closed.
+
+    The folder's lock is held from the begin to the end; who only reads shares it. `wait` is for how many seconds a
+    folder is waited for that another run holds. `is_dirty` tells whether something may have been done that isn't
+    committed, `live` how many documents are live.
+    """
+
+    def __init__(self, program: Program, folder: str, options: Sequence[str], timeout: float | None,
+                 wait: float = 0.0, read: bool = False) -> None:
+        program.require("session")
+        self._program = program
+        self._folder = folder
+        self._words = ["session", *options]
+        self._timeout = timeout
+        self._read = read
+        self._turn = threading.RLock()
+        self._live: int | None = None
+        self.is_dirty = False
+        self._hold = lock.Hold(folder, read, wait)
+        try:
+            self._run = self._start()
+        except BaseException:
+            self._hold.release()
+            raise
+
+    def _start(self) -> Coprocess:
+        """Starts the program, and waits until it has opened the folder."""
+        held = self._hold.descriptor
+        words = self._words + self._program.held_words(held)
+        run = self._program.start(self._folder, words, self._timeout, held, guarded=not self._read)
+        try:
+            run.hello()
+        except BaseException:
+            run.kill()
+            raise
+        return run
+
+    @property
+    def is_open(self) -> bool:
+        """Whether lines can be answered."""
+        return self._run.is_open
+
+    @property
+    def pid(self) -> int:
+        """The program's process id."""
+        return self._run.pid
+
+    @property
+    def held(self) -> int:
+        """The lock's descriptor, under which a further program works on the folder."""
+        self.need_open()
+        return self._hold.descriptor
+
+    @property
+    def live(self) -> int:
+        """How many documents are live. It is counted along; after an interrupted call it is asked for."""
+        self.need_open()
+        with self._turn:
+            if self._live is None:
+                commit = read_commit(self._folder)
+                if commit is None:
+                    raise NoIndex(f"{self._folder} holds no index")
+                if self.is_dirty:
+                    self._live = self.query(_all_hits(commit.dims))
+                else:
+                    self._live = sum(one.live for one in commit.listed)
+            return self._live
+
+    def need_open(self) -> None:
+        """Raises `Closed` where no lines can be answered."""
+        if not self.is_open:
+            raise Closed("the index was closed, its program has ended, or it was opened before a fork")
+
+    # ---- lines
+
+    def query(self, request: Request) -> Any:
+        """The answer to a request that changes nothing, or its `Refused`."""
+        try:
+            return self._run.single(request)
+        except Error:
+            if not self._run.is_open:
+                self._hold.release()
+            raise
+
+    def change(self, request: Request) -> Any:
+        """The answer to a request that may change documents, or its `Refused`."""
+        self.need_open()
+        with self._turn:
+            before = self.is_dirty, self._live
+            self.is_dirty, self._live = True, None
+            value = self.query(request)
+            self.is_dirty, self._live = _booked(before, ((request, value),))
+        return value
 
     def ask(self, requests: Iterable[Request]) -> list[Any]:
         """The answers to requests in order, a `Refused` in the place of each that was refused."""
+        self.need_open()
+        talk = Asking(requests)
+        with self._turn:
+            self._change(talk, lambda book: _booked(book, talk.done()))
+        return talk.values
 
-    def many(self, pieces: Pieces, answer: Answer) -> tuple[list[int], list[Refused]]:
-        """The numbers that lines of one form are answered by, and the refusals.
-        Pieces are texts and their lines' counts."""
+    def over(self, talk: Many) -> None:
+        """Has many lines done."""
+        self.need_open()
+        with self._turn:
+            self._change(talk, lambda book: (True, _more(book[1], len(talk.numbers) - talk.deleted)))
+            talk.end()
 
-    def close(self) -> None:
-        """Ends what runs, which commits, and gives the lock back. A second call does nothing."""
+    def typed(self, talk: Talk) -> None:
+        """Has a line done as it was typed; it may have changed anything."""
+        with self._turn:
+            self.is_dirty, self._live = True, None
+            self._exchange(talk)
 
-    def abandon(self) -> None:
-        """Ends what runs at once, without a commit, and gives the lock back."""
+    def settle(self, talk: Many) -> None:
+        """Has every line answered that was sent, also where the call was interrupted."""
+        self._run.settle()
+        talk.look()
 
-
-class _Held:
-    """The folder's lock."""
-
-    def __init__(self, folder: str) -> None:
-        self.held: int | None = lock.take(folder)
-        self.is_open = True
-
-    def need_open(self) -> None:
-        if not self.is_open:
-            raise Closed("the index was closed, or its program has ended")
-
-    def release(self) -> None:
-        self.is_open = False
-        if self.held is not None:
-            lock.release(self.held)
-            self.held = None
-
-
-class Session(_Held):
-    """One program that answers line by line and stays. After a fault it is closed."""
-
-    stays = True
-
-    def __init__(self, program: Program, folder: str, options: Sequence[str], timeout: float | None,
-                 command: str = "session") -> None:
-        super().__init__(folder)
+    def _change(self, talk: Asking | Many, booked: Callable[[_Book], _Book]) -> None:
+        """Has something done that may change documents; where it is interrupted nobody knows what was done."""
+        before = self.is_dirty, self._live
+        self.is_dirty, self._live = True, None
         try:
-            self._program = program.start(folder, [command, *options], timeout, self.held)
+            self._exchange(talk)
+            self.is_dirty, self._live = booked(before)
         except BaseException:
-            self.release()
+            if not talk.may_change():
+                self.is_dirty, self._live = before
             raise
 
-    def _over(self, talk: Talk) -> None:
-        self.need_open()
+    def _exchange(self, talk: Talk) -> None:
         try:
-            self._program.exchange(talk)
+            self._run.exchange(talk)
         finally:
-            if self._program.status is not None:
-                self._program.kill()
-                self.release()
+            if not self._run.is_open:
+                self._hold.release()
 
-    def ask(self, requests: Iterable[Request]) -> list[Any]:
-        talk = Asking(requests, self._program.lines + 1)
-        self._over(talk)
-        return talk.values
-
-    def many(self, pieces: Pieces, answer: Answer) -> tuple[list[int], list[Refused]]:
-        talk = Many(pieces, answer, self._program.lines + 1)
-        self._over(talk)
-        return talk.values()
+    # ---- ends
 
     def close(self) -> None:
-        if self.is_open:
-            try:
-                self._program.close()
-            finally:
-                self.release()
+        """Ends the program, which commits where it may write, and gives the lock back. A second call does nothing."""
+        if not self.is_open:
+            return
+        if self._read:
+            self.abandon()
+            return
+        try:
+            self._run.close()
+        finally:
+            if not self._run.is_open:
+                self._hold.release()
 
     def abandon(self) -> None:
-        if self.is_open:
-            self._program.kill()
-            self.release()
+        """Ends the program at once, without a commit, and gives the lock back."""
+        self._run.kill()
+        self._hold.release()
 
-
-class Runs(_Held):
-    """A `run` for each call, which commits at its end. After a fault the next call runs over what was committed."""
-
-    stays = False
-
-    def __init__(self, program: Program, folder: str, options: Sequence[str], timeout: float | None,
-                 command: str = "run") -> None:
-        program.require(command)
-        super().__init__(folder)
-        self._program = program
-        self._folder = folder
-        self._words = [command, *options]
-        self._timeout = timeout
-
-    def _over(self, talk: Talk) -> None:
+    def restart(self) -> None:
+        """Ends the program at once, without a commit, and starts it anew over what is stored."""
         self.need_open()
-        self._program.run(self._folder, self._words, talk, self._timeout, self.held)
-
-    def ask(self, requests: Iterable[Request]) -> list[Any]:
-        talk = Asking(requests)
-        self._over(talk)
-        return talk.values
-
-    def many(self, pieces: Pieces, answer: Answer) -> tuple[list[int], list[Refused]]:
-        numbers: list[int] = []
-        refusals: list[Refused] = []
-        for part in _parts(iter(pieces)):
-            talk = Many(part, answer)
-            self._over(talk)
-            some, refused = talk.values()
-            numbers += some
-            refusals += refused
-        return numbers, refusals
-
-    def close(self) -> None:
-        if self.is_open:
-            self.release()
-
-    abandon = close
-
-
-def _parts(pieces: Iterator[tuple[bytes, int]]) -> Iterator[Iterator[tuple[bytes, int]]]:
-    """The pieces in parts of about `RUN_BYTES`, each to be taken whole before the next."""
-    for first in pieces:
-        def part(first: tuple[bytes, int] = first) -> Iterator[tuple[bytes, int]]:
-            size = len(first[0])
-            yield first
-            while size < RUN_BYTES and (piece := next(pieces, None)) is not None:
-                size += len(piece[0])
-                yield piece
-        yield part()
-
-
-def connect(program: Program, folder: str, options: Sequence[str], timeout: float | None) -> Session | Runs:
-    """A session where the program has the command, else runs."""
-    if "session" in program.commands:
-        return Session(program, folder, options, timeout)
-    return Runs(program, folder, options, timeout)
+        with self._turn:
+            self._run.kill()
+            try:
+                self._run = self._start()
+            except BaseException:
+                self._hold.release()
+                raise
+            self._live, self.is_dirty = None, False

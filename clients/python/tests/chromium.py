@@ -2,12 +2,20 @@
 from __future__ import annotations
 
 import base64
+import fcntl
 import json
 import os
 import select
 import shutil
 import subprocess
 import time
+
+
+def _far(descriptor):
+    """The same open file at a descriptor that no pipe of the browser's has."""
+    moved = fcntl.fcntl(descriptor, fcntl.F_DUPFD_CLOEXEC, 20)
+    os.close(descriptor)
+    return moved
 
 
 class Chromium:
@@ -17,7 +25,8 @@ class Chromium:
         self.program = shutil.which("chromium")
         ours_in, theirs_out = os.pipe()
         theirs_in, ours_out = os.pipe()
-        # the browser reads descriptor 3 and writes descriptor 4
+        # the browser reads descriptor 3 and writes descriptor 4, which its ends of the pipes mustn't be already
+        theirs_in, theirs_out = _far(theirs_in), _far(theirs_out)
         words = [self.program, "--headless", "--no-sandbox", "--disable-gpu", "--disable-dev-shm-usage",
                  "--no-first-run", "--remote-debugging-pipe", f"--user-data-dir={profile}",
                  f"--window-size={width},{height}", "about:blank"]
@@ -36,8 +45,31 @@ class Chromium:
         self.session = self.call("Target.attachToTarget", targetId=page, flatten=True)["sessionId"]
         self.call("Runtime.enable")
         self.call("Page.enable")
-        self.call("Emulation.setDeviceMetricsOverride", width=1280, height=800, deviceScaleFactor=1, mobile=False)
+        self.size(1280, 800)
         return self
+
+    def size(self, width, height, is_phone=False):
+        """Has the page this size, with touch or without."""
+        self.call("Emulation.setDeviceMetricsOverride", width=width, height=height, deviceScaleFactor=1,
+                  mobile=is_phone)
+        self.call("Emulation.setTouchEmulationEnabled", enabled=is_phone)
+
+    def scheme(self, name):
+        """Has the page light or dark."""
+        self.call("Emulation.setEmulatedMedia", features=[{"name": "prefers-color-scheme", "value": name}])
+
+    def key(self, name, **words):
+        """Presses a key, by its name or its letter."""
+        text = {"text": name} if len(name) == 1 else {"text": "\r"} if name == "Enter" else {}
+        self.call("Input.dispatchKeyEvent", type="keyDown", key=name, **text, **words)
+        self.call("Input.dispatchKeyEvent", type="keyUp", key=name, **words)
+
+    def touch(self, *steps):
+        """Touches with one or more fingers: each step has their places."""
+        for i, places in enumerate(steps):
+            points = [{"x": x, "y": y, "id": finger} for finger, (x, y) in enumerate(places)]
+            self.call("Input.dispatchTouchEvent", type="touchMove" if i else "touchStart", touchPoints=points)
+        self.call("Input.dispatchTouchEvent", type="touchEnd", touchPoints=[])
 
     def __exit__(self, *_):
         self.process.terminate()
@@ -88,7 +120,8 @@ class Chromium:
 
     def mouse(self, kind, x, y, clicks=1):
         button = "none" if kind == "mouseMoved" else "left"
-        self.call("Input.dispatchMouseEvent", type=kind, x=x, y=y, button=button, buttons=1, clickCount=clicks)
+        buttons = 0 if kind == "mouseReleased" else 1
+        self.call("Input.dispatchMouseEvent", type=kind, x=x, y=y, button=button, buttons=buttons, clickCount=clicks)
 
     def click(self, x, y, clicks=1):
         self.mouse("mousePressed", x, y, clicks)
@@ -100,6 +133,8 @@ class Chromium:
         self.mouse("mouseMoved", x2, y2)
         self.mouse("mouseReleased", x2, y2)
 
-    def screenshot(self, path):
+    def screenshot(self, path, is_whole=False):
+        """Writes a picture of what is seen, or of the whole page."""
+        told = self.call("Page.captureScreenshot", format="png", captureBeyondViewport=is_whole)
         with open(path, "wb") as file:
-            file.write(base64.b64decode(self.call("Page.captureScreenshot", format="png")["data"]))
+            file.write(base64.b64decode(told["data"]))

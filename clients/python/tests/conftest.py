@@ -29,7 +29,7 @@ settings.load_profile("same")
 
 STAND_IN = (sys.executable, "-S", str(HERE / "stand_in.py"))
 # what the stand-in can do
-EVERY = "run|load|explain|check|generate|session|ranges|count|batch"
+EVERY = "run|load|explain|check|generate|session|ranges|count|batch|export|info"
 BUILT = TOP / "crates" / "bkd" / "out" / "bkd"
 RELEASED = TOP / "release" / "bkd"
 # seconds for a test, for the end of one, and for all of them: what isn't reached by then fails
@@ -132,9 +132,9 @@ def stand_in(monkeypatch) -> bkd.Program:
 
 @pytest.fixture
 def filed(monkeypatch) -> bkd.Program:
-    """A program over runs, with files that hold what it answers."""
+    """A program with files that hold what it answers."""
     monkeypatch.setenv("STAND_IN_FILES", "1")
-    monkeypatch.setenv("STAND_IN_COMMANDS", "run|explain|check")
+    monkeypatch.setenv("STAND_IN_COMMANDS", "run|session|explain|check")
     return REAL or bkd.find(STAND_IN)
 
 
@@ -158,12 +158,7 @@ def has(request, monkeypatch):
     return found
 
 
-@pytest.fixture(params=["session", "run"])
-def program(request, monkeypatch) -> bkd.Program:
-    """A program that talks by `session`, and one that is run for each call."""
-    if request.param == "session":
-        return request.getfixturevalue("staying")
-    monkeypatch.setenv("STAND_IN_COMMANDS", "run|load|explain|check|generate")
-    found = bkd.Program(REAL.words if REAL else STAND_IN)
-    found.commands = found.commands - {"session"}
-    return found
+@pytest.fixture
+def program(staying) -> bkd.Program:
+    """The program, by its `session`."""
+    return staying

@@ -4,9 +4,10 @@ have.
 
 It keeps its documents in `model.json`, and writes a commit file that lists no segments, so that a client finds the
 dimensions; with STAND_IN_FILES there are segments too, which hold the documents. The environment tells how it differs:
-STAND_IN_COMMANDS is the list of its commands, STAND_IN_LOCKS says that it takes the folder's lock as the launcher does
-(but where BKD_HELD says that it is held), and STAND_IN_AT, as `LINE:WHAT`, tells what it does in place of that line:
-`die` (by SIGKILL), `hang`, `damaged`, `garbage`, or a status. STAND_IN_LAST is what a script says when all is done.
+STAND_IN_COMMANDS is the list of its commands, STAND_IN_LOCKS says that it takes the folder's lock by itself, unless
+`--no-lock` tells it that its caller has it, and STAND_IN_AT, as `LINE:WHAT`, tells what it does in place of that line:
+`die` (by SIGKILL), `hang`, `damaged`, `noted` (a folder fault and why), `garbage`, or a status. STAND_IN_LAST is what a
+script says when all is done.
 """
 from __future__ import annotations
 
@@ -70,6 +71,8 @@ def fail(what: str) -> None:
     elif what == "garbage":
         print("what?", flush=True)
         time.sleep(3600)
+    elif what == "noted":
+        end(4, "bkd: writing seg-0000000000000003.bkd: no space left on device\nfolder fault")
     elif what == "damaged":
         end(6, "damaged: seg-0000000000000000.bkd page 2 leaf at 352")
     end(int(what), STATUS.get(int(what), ""))
@@ -135,6 +138,8 @@ def explain(folder: str) -> None:
 
 
 def batch(folder: str) -> None:
+    if os.environ.get("STAND_IN_AT", "").endswith("noted"):
+        fail("noted")
     model = Model(load(folder))
     for raw in sys.stdin.buffer:
         sys.stdout.write(model.line(raw.removesuffix(b"\n")))
@@ -163,21 +168,52 @@ def ranges(folder: str) -> None:
     end(2 if model.count else 0, f"refused {model.count}" if model.count else "")
 
 
+def lock(folder: str, options: list[str]) -> None:
+    """Holds the folder until the program ends."""
+    if "--no-lock" in options:
+        return
+    try:
+        fcntl.flock(os.open(folder, os.O_RDONLY), fcntl.LOCK_EX | fcntl.LOCK_NB)
+    except BlockingIOError:
+        end(4, "bkd: another run works in the folder\nfolder fault")
+
+
+def export(folder: str) -> None:
+    state = load(folder)
+    if state is None:
+        print("no index", flush=True)
+        end(2, "refused 1")
+    print("doc," + ",".join(f"c{d + 1}" for d in range(state.dims)))
+    for number, points in state.docs.items():
+        for point in sorted(points):
+            print(number, *point, sep=",")
+    end(0)
+
+
+def info(folder: str) -> None:
+    state = load(folder)
+    if state is None:
+        print("no index")
+    else:
+        print(f"dims {state.dims} leaf {state.leaf} next {state.next} points {state.given} live {len(state.docs)} "
+              f"segments 0 bytes {os.path.getsize(os.path.join(folder, 'commit.bkd'))}")
+    end(0)
+
+
 def main() -> None:
     commands = os.environ.get("STAND_IN_COMMANDS", "run|load|explain|check|generate|session").split("|")
     does = {"session": lambda f: script(f, True), "run": lambda f: script(f, False),
-            "explain": explain, "check": check, "count": count, "batch": batch, "ranges": ranges}
+            "explain": explain, "check": check, "count": count, "batch": batch, "ranges": ranges, "export": export,
+            "info": info}
     if len(sys.argv) < 3 or sys.argv[2] not in commands or sys.argv[2] not in does:
         end(1, f"usage: bkd FOLDER {'|'.join(commands)} [options]")
     folder = sys.argv[1]
-    if os.environ.get("STAND_IN_LOCKS") and not os.environ.get("BKD_HELD"):
-        held = os.open(folder, os.O_RDONLY)
-        try:
-            fcntl.flock(held, fcntl.LOCK_EX | fcntl.LOCK_NB)
-        except BlockingIOError:
-            end(4, "folder fault")
     if not os.path.isdir(folder):
         end(4, "folder fault")
+    if os.environ.get("STAND_IN_LOCKS"):
+        lock(folder, sys.argv[3:])
+    elif {"--wait", "--no-lock"} & set(sys.argv):
+        end(1, f"usage: bkd FOLDER {'|'.join(commands)} [options]")
     does[sys.argv[2]](folder)
 
 

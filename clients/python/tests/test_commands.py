@@ -17,9 +17,15 @@ def test_load(real, tmp_path):
         with pytest.raises(bkd.Refused) as told:
             bkd.load(tmp_path, columns, text, program=real)
         assert told.value.reason == reason
-    with pytest.raises(bkd.Unsupported):
-        bkd.load(tmp_path, ["a,,b"], table, program=real)
-    with bkd.open(tmp_path, program=real) as index:
+    for wrong, error in ((["a,,b"], ValueError), ([], ValueError), (["a"] * 9, ValueError), ("lon", TypeError)):
+        with pytest.raises(error):
+            bkd.load(tmp_path / "none", wrong, table, program=real)
+    assert not (tmp_path / "none").exists()
+    with open(tmp_path / "table.csv", "w+") as file:
+        file.write(table)
+        file.seek(0)
+        assert bkd.load(tmp_path, ["lon", "lat"], file.buffer, program=real) == (3, 6)
+    with bkd.open(tmp_path, create=True, program=real) as index:
         assert index.nearest(1, (12000000, 42000000)) == [(2, 255830545480)]
 
 
@@ -27,7 +33,7 @@ def test_generate_and_explain(real, tmp_path):
     assert bkd.generate(tmp_path, 1, 1, program=real) == {"docs": 1, "live": 0, "box hits": 0, "nearest sum": 0}
     with pytest.raises(bkd.Refused, match="index exists"):
         bkd.generate(tmp_path, 1, 1, program=real)
-    with bkd.open(tmp_path / "x", 1, 2, program=real) as index:
+    with bkd.open(tmp_path / "x", 1, 2, create=True, program=real) as index:
         index.add_many([5, 7, 7, 7, 7])
         index.flush()
         index.commit()
@@ -38,19 +44,21 @@ def test_generate_and_explain(real, tmp_path):
 
 
 def test_what_a_program_lacks(tmp_path, monkeypatch):
-    monkeypatch.setenv("STAND_IN_COMMANDS", "run")
+    monkeypatch.setenv("STAND_IN_COMMANDS", "run|session")
     program = bkd.find(STAND_IN)
-    with bkd.open(tmp_path, program=program) as index:
-        assert not index.stays
+    with bkd.open(tmp_path, create=True, program=program) as index:
         for use, name in [
             (index.check, "check"), (lambda: index.count((0, 0), (1, 1)), "count"),
             (lambda: index.grid(0, 1, 1, 1, (0, 0), (1, 1)), "count"), (lambda: index.batch([]), "batch"),
-            (lambda: index.explain([]), "explain"), (lambda: index.snapshot("a"), "session"),
+            (lambda: index.explain([]), "explain"),
         ]:
             with pytest.raises(bkd.Unsupported, match=f"no command {name}"):
                 use()
+    monkeypatch.setenv("STAND_IN_COMMANDS", "run")
+    program = bkd.find(STAND_IN)
     for use, name in [
-        (lambda: bkd.open_ranges(tmp_path / "r", program=program), "ranges"),
+        (lambda: bkd.open(tmp_path / "s", create=True, program=program), "session"),
+        (lambda: bkd.open_ranges(tmp_path / "r", create=True, program=program), "session"),
         (lambda: bkd.generate(tmp_path, 1, 1, program=program), "generate"),
         (lambda: bkd.load(tmp_path, ["a"], "a\n", program=program), "load"),
     ]:
@@ -60,7 +68,7 @@ def test_what_a_program_lacks(tmp_path, monkeypatch):
 
 def test_a_command_that_is_listed_and_does_not_work(tmp_path, monkeypatch, stand_in):
     """`check` is in the list before it is there, and then ends as wrong words do."""
-    bkd.open(tmp_path, program=stand_in).close()
+    bkd.open(tmp_path, create=True, program=stand_in).close()
     stand_in.commands  # read before the list gets shorter
     monkeypatch.setenv("STAND_IN_COMMANDS", "run")
     with pytest.raises(bkd.Unsupported, match="doesn't know these words"):
@@ -86,9 +94,9 @@ def test_check(has, tmp_path):
     program = has("check")
     (tmp_path / "empty").mkdir()
     assert bkd.check(tmp_path / "empty", program=program) is None
-    with bkd.open(tmp_path / "a", leaf=9, program=program) as index:
+    with bkd.open(tmp_path / "a", leaf=9, create=True, program=program) as index:
         live = drawn(index, 1)
-        assert index.check() == bkd.check(tmp_path / "a", program=program, held=index._transport.held)
+        assert index.check() == bkd.check(tmp_path / "a", program=program, held=index._session.held)
     found = bkd.check(tmp_path / "a", program=program)
     assert (found.dims, found.leaf, found.next, found.live) == (2, 9, 400, len(live))
     if program.words != STAND_IN:
@@ -97,7 +105,7 @@ def test_check(has, tmp_path):
 
 def test_a_damaged_folder_is_told(real, tmp_path):
     need(real, "check")
-    with bkd.open(tmp_path, program=real) as index:
+    with bkd.open(tmp_path, create=True, program=real) as index:
         index.add((1, 1))
     name = next(path for path in tmp_path.iterdir() if path.name.startswith("seg-"))
     data = bytearray(name.read_bytes())
@@ -114,7 +122,7 @@ def test_a_damaged_folder_is_told(real, tmp_path):
 def test_count_as_a_scan(has, tmp_path, dims):
     program = has("count")
     draw = random.Random(dims)
-    with bkd.open(tmp_path, dims, leaf=7, program=program) as index:
+    with bkd.open(tmp_path, dims, leaf=7, create=True, program=program) as index:
         points = [point for found in drawn(index, dims).values() for point in found]
         for _ in range(6):
             ends = [sorted((draw.randint(-60, 60), draw.randint(-60, 60))) for _ in range(dims)]
@@ -133,7 +141,7 @@ def test_count_as_a_scan(has, tmp_path, dims):
 def test_lines_of_count_that_are_refused(real, tmp_path):
     need(real, "count")
     assert commands.count(tmp_path, [commands.points_in((0, 0), (1, 1))], program=real)[0].reason == "no index"
-    with bkd.open(tmp_path, program=real) as index:
+    with bkd.open(tmp_path, create=True, program=real) as index:
         index.commit()
         for wrong, reason in [
             (lambda: index.grid(0, 1, 0, 1, (0, 0), (9, 9)), "bad grid"),
@@ -150,7 +158,7 @@ def test_lines_of_count_that_are_refused(real, tmp_path):
 
 def test_batch(has, tmp_path):
     program = has("batch")
-    with bkd.open(tmp_path, leaf=7, program=program) as index:
+    with bkd.open(tmp_path, leaf=7, create=True, program=program) as index:
         drawn(index, 3)
         asked = [requests.box((-9, -9), (9, i)) for i in range(9)] + [requests.nearest(4, (i, -i)) for i in range(9)]
         asked += [requests.polygon([[(-30, -30), (30, -30), (0, 30), (-30, -30)]]), requests.box((0,), (1,))]
@@ -163,29 +171,12 @@ def test_batch(has, tmp_path):
         assert len(open_stored(tmp_path).parts) == 1
 
 
-def test_ranges(has, tmp_path):
-    program = has("ranges")
-    with bkd.open_ranges(tmp_path / "a", program=program) as index:
-        assert [index.add((1, 5)), index.add((4, 9)), index.add((7, 7), (1, 2))] == [0, 1, 2]
-        assert index.intersects(5, 6) == [0, 1]
-        assert index.within(4, 9) == [1, 2]
-        assert index.contains(4, 5) == [0, 1]
-        assert index.delete(0) and not index.delete(0)
-        index.merge()
-        if program.words != STAND_IN:
-            with pytest.raises(bkd.Refused, match="not a range"):
-                index.add((5, 1))
-    with bkd.open_ranges(tmp_path / "b", 2, program=program) as index:
-        assert [index.add(((0, 0), (2, 2))), index.add(((3, 3), (4, 4)))] == [0, 1]
-        assert index.intersects((2, 2), (3, 3)) == [0, 1] and index.within((0, 0), (4, 3)) == [0]
-    with pytest.raises(ValueError, match="ranges of 2 need 4"):
-        bkd.open_ranges(tmp_path / "a", 2, program=program)
-
-
 def test_a_command_that_hangs(tmp_path):
     """A program that lists check and never ends."""
     path = tmp_path / "stuck"
-    path.write_text("#!/bin/sh\n[ $# -eq 0 ] && echo 'usage: bkd FOLDER load|check|generate [options]' >&2 && exit 1\n"
+    path.write_text("#!/bin/sh\n"
+                    "[ $# -eq 0 ] || [ \"$3\" = --wait ] && echo 'usage: bkd FOLDER load|check|generate' >&2 &&\n"
+                    "exit 1\n"
                     "exec sleep 3600\n")
     path.chmod(0o755)
     how = {"program": path, "timeout": 0.5}
@@ -209,11 +200,14 @@ def test_programs_that_are_not_there(tmp_path, monkeypatch):
     with pytest.raises(bkd.NotFound):
         bkd.find(tmp_path / "none")
     with pytest.raises(bkd.NotFound, match="not bkd"):
-        bkd.open(tmp_path, program=("true",))
+        bkd.open(tmp_path, create=True, program=("true",))
     with pytest.raises(bkd.NotFound):
-        bkd.open(tmp_path, program=(str(tmp_path / "none"),))
+        bkd.open(tmp_path, create=True, program=(str(tmp_path / "none"),))
     monkeypatch.setenv("BKD", "/bin/true")
-    assert bkd.find().words == ("/bin/true",)
+    assert bkd.find().words == ("/bin/true",) and bkd.find() is bkd.find()
+    monkeypatch.setenv("BKD", str(tmp_path / "none"))
+    with pytest.raises(bkd.NotFound, match="BKD names no file"):
+        bkd.find()
 
 
 def test_a_folder_that_is_not_there(tmp_path, stand_in):

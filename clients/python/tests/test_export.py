@@ -5,13 +5,14 @@ import os
 import pytest
 
 import bkd
-from bkd import requests
+from bkd import exporting, requests
 from bkd.formats import open_stored
+from conftest import REAL
 
 
 def made(folder, program, leaf=3):
     """An index with several segments, deletions, documents of several points, and files that are left over."""
-    with bkd.open(folder, leaf=leaf, program=program) as index:
+    with bkd.open(folder, leaf=leaf, create=True, program=program) as index:
         index.ask([requests.add((i * 7 % 50, i * 3 % 40)) for i in range(60)] + [requests.FLUSH])
         index.ask([requests.add([(i, -i), (i, i), (0, 0)]) for i in range(20)] + [requests.FLUSH])
         index.ask([requests.delete(i) for i in range(0, 80, 9)])
@@ -27,13 +28,56 @@ def test_export(filed, tmp_path):
     assert documents == wanted and list(documents) == sorted(documents)
 
 
+def test_export_by_the_program(has, tmp_path):
+    """The command's text is read as it comes; the second reader says the same where there are files."""
+    program = has("export")
+    with bkd.open(tmp_path, leaf=3, create=True, program=program) as index:
+        index.add_many([(i, -i), (i, i), (0, 0)] for i in range(500))
+        index.delete_many(range(0, 500, 9))
+        index.commit()
+        wanted = [(i, tuple(sorted({(i, -i), (i, i), (0, 0)}))) for i in range(500) if i % 9]
+        assert list(index) == list(index.export()) == wanted
+        first = next(iter(index))
+        assert first == wanted[0]
+    assert list(bkd.export(tmp_path, program=program)) == wanted
+    if program is REAL:
+        assert list(exporting._of_files(str(tmp_path))) == wanted
+    (tmp_path / "none").mkdir()
+    with pytest.raises(bkd.NoIndex):
+        bkd.export(tmp_path / "none", program=program)
+
+
+def test_info(has, real, tmp_path):
+    """By the program's command, and by the commit's file where there is none."""
+    with bkd.open(tmp_path, create=True, program=real) as index:
+        index.add_many([(1, 1), [(2, 2), (3, 3)], (4, 4)])
+        index.flush()
+        index.delete(0)
+    sizes = sum(path.stat().st_size for path in tmp_path.iterdir() if path.suffix == ".bkd")
+    lacking = bkd.Program(real.words)
+    lacking.commands = real.commands - {"info"}
+    found = bkd.info(tmp_path, program=lacking)
+    assert found == bkd.Info(2, 333, 3, 4, 2, 1, sizes)
+    with pytest.raises(bkd.NoIndex):
+        bkd.info(tmp_path.parent, program=lacking)
+    program = has("info")
+    with bkd.open(tmp_path / "a", create=True, program=program) as index:
+        index.add_many([(1, 1), [(2, 2), (3, 3)], (4, 4)])
+        index.commit()
+        told = index.info()
+        assert (told.dims, told.leaf, told.next, told.points, told.live) == (2, 333, 3, 4, 3)
+    (tmp_path / "b").mkdir()
+    with pytest.raises(bkd.NoIndex):
+        bkd.info(tmp_path / "b", program=program)
+
+
 def test_built_anew_with_another_leaf_size(filed, tmp_path):
     folder = made(tmp_path / "a", filed)
     documents = list(bkd.export(folder))
-    with bkd.open(tmp_path / "b", leaf=100, program=filed) as index:
+    with bkd.open(tmp_path / "b", leaf=100, create=True, program=filed) as index:
         numbers = index.add_many(points for _, points in documents)
         anew = dict(zip((number for number, _ in documents), numbers))
-        with bkd.open(folder, program=filed) as old:
+        with bkd.open(folder, create=True, program=filed) as old:
             for low, high in (((0, 0), (50, 50)), ((-5, -5), (5, 5)), ((99, 99), (99, 99))):
                 assert [anew[n] for n in old.box(low, high)] == index.box(low, high)
 
@@ -87,7 +131,7 @@ def test_pictures(filed, tmp_path):
     plot = pytest.importorskip("bkd.plot")
     from matplotlib.figure import Figure
     folder = made(tmp_path / "a", filed)
-    with bkd.open(folder, program=filed) as index:
+    with bkd.open(folder, create=True, program=filed) as index:
         hits, near = index.box((0, 0), (20, 20)), index.nearest(5, (30, 30))
     plot.picture(folder, tmp_path / "a.png", query=((0, 0), (20, 20)), hits=hits)
     assert (tmp_path / "a.png").read_bytes().startswith(b"\x89PNG")
@@ -102,6 +146,6 @@ def test_pictures(filed, tmp_path):
     plot.polygon(axes, [[(0, 0), (9, 0), (9, 9), (0, 0)], [(1, 1), (2, 1), (2, 2), (1, 1)]])
     plot.nearest(axes, (30, 30), near)
     assert len(axes.patches) == 2
-    with bkd.open(tmp_path / "line", 1, program=filed) as index:
+    with bkd.open(tmp_path / "line", 1, create=True, program=filed) as index:
         index.add_many(range(1000))
     plot.picture(tmp_path / "line", tmp_path / "line.png")

@@ -1,11 +1,9 @@
 """The program is killed in the middle, or its disk is full: what was committed stays, and the client tells."""
-import contextlib
 import os
 import random
 import signal
 import subprocess
 import threading
-import time
 
 import pytest
 
@@ -27,7 +25,7 @@ def small_disk(tmp_path):
 
 
 def test_a_full_disk(real, small_disk):
-    with bkd.open(small_disk, program=real) as index:
+    with bkd.open(small_disk, create=True, program=real) as index:
         numbers = index.add_many((i, i) for i in range(1000))
         index.commit()
         with pytest.raises(bkd.FolderFault) as told:
@@ -37,18 +35,15 @@ def test_a_full_disk(real, small_disk):
     # the files of what failed take the room, and cleaning gives it back
     left = bkd.clean(small_disk, program=real)
     assert [name for name in left if not name.startswith(("seg-", "live-", "commit.new"))] == []
-    with bkd.open(small_disk, program=real) as index:
-        assert index.box((0, 0), (1000, 1000)) == numbers
+    with bkd.open(small_disk, create=True, program=real) as index:
+        assert index.box((0, 0), (1000, 1000)) == list(numbers)
         assert index.add((5, 5)) == 1000
 
 
 def test_a_full_disk_at_the_end(real, small_disk):
     """A commit at the end that fails is told by closing."""
     ballast = small_disk / "ballast"
-    index = bkd.open(small_disk, program=real)
-    if not index.stays:
-        index.close()
-        pytest.skip("a run commits within its call")
+    index = bkd.open(small_disk, create=True, program=real)
     index.add((1, 1))
     with pytest.raises(OSError):
         ballast.write_bytes(bytes(1 << 19))
@@ -56,48 +51,28 @@ def test_a_full_disk_at_the_end(real, small_disk):
         index.close()
 
 
-class Killer(threading.Thread):
-    """Kills what the client started, by its id, after some time."""
-
-    def __init__(self, pids, after):
-        super().__init__()
-        self.pids = pids
-        self.after = after
-
-    def run(self):
-        time.sleep(self.after)
-        for pid in self.pids:
-            os.kill(pid, signal.SIGKILL)
-
-
 @pytest.mark.parametrize("seed", range(8))
-def test_killed_in_the_middle(program, tmp_path, seed, monkeypatch):
+def test_killed_in_the_middle(program, tmp_path, seed):
     """Whenever it is killed, the folder has the documents of the last commit done, or of the one in flight."""
-    started = []
-    make = subprocess.Popen.__init__
+    begun = threading.Semaphore(0)
+    index = bkd.open(tmp_path, create=True, program=program)
 
-    def note(process, *words, **options):
-        make(process, *words, **options)
-        started.append(process.pid)
+    def kill():
+        for _ in range(1 + seed):
+            begun.acquire()
+        # (somewhere within the lines of that round)
+        for _ in range(random.Random(seed).randrange(20_000)):
+            pass
+        os.kill(index._session.pid, signal.SIGKILL)
 
-    with bkd.open(tmp_path, program=program) as index:
-        index.add_many((i, 0) for i in range(500))
-        index.commit()
-    done = 1
-    monkeypatch.setattr(subprocess.Popen, "__init__", note)
-    index = bkd.open(tmp_path, program=program)
-    del started[:-1]
-    killer = None
+    killer = threading.Thread(target=kill)
+    killer.start()
+    done = 0
     with pytest.raises((bkd.Died, bkd.Closed)):
         while True:
-            if not index.stays:
-                started.clear()
-            if killer is None:
-                killer = KillerOfLast(started, random.Random(seed).random() * 0.5)
-                killer.start()
+            begun.release()
             index.ask([requests.add((i, done)) for i in range(500)] + [requests.COMMIT])
             done += 1
-    killer.over.set()
     killer.join()
     index.close()
     with bkd.open(tmp_path, program=program) as index:
@@ -105,27 +80,12 @@ def test_killed_in_the_middle(program, tmp_path, seed, monkeypatch):
         assert found in (list(range(500 * done)), list(range(500 * (done + 1))))
 
 
-class KillerOfLast(Killer):
-    """Kills what was started last, again and again until it is over: a process may end before it is hit."""
-
-    def __init__(self, pids, after):
-        super().__init__(pids, after)
-        self.over = threading.Event()
-
-    def run(self):
-        time.sleep(self.after)
-        while not self.over.wait(0.001):
-            with contextlib.suppress(ProcessLookupError):
-                for pid in self.pids[-1:]:
-                    os.kill(pid, signal.SIGKILL)
-
-
 def test_killed_files_can_be_read_and_cleaned(real, tmp_path):
     """What a killed program leaves behind is no part of the index, and goes by cleaning."""
-    bkd.open(tmp_path, program=real).close()
+    bkd.open(tmp_path, create=True, program=real).close()
     for name in ("seg-00000000000000ff.bkd", "live-00000000000000ff-0000000000000001.bkd", "commit.new"):
         (tmp_path / name).write_bytes(b"half")
     (tmp_path / "mine.txt").write_text("mine")
     open_stored(tmp_path).check()
     assert len(bkd.clean(tmp_path, program=real)) == 3
-    assert sorted(os.listdir(tmp_path)) == ["commit.bkd", "mine.txt"]
+    assert sorted(os.listdir(tmp_path)) == ["client.json", "commit.bkd", "mine.txt"]

@@ -56,7 +56,7 @@ def test_polygons():
     wanted = {"type": "Polygon", "coordinates": [[[1_000_000, 0], [10**7, 0], [10**7, 15_000_000], [1_000_000, 0]]]}
     assert geo.polygon([ring]) == wanted
     assert geo.polygon({"type": "Feature", "geometry": {"type": "Polygon", "coordinates": [ring]}}) == wanted
-    for wrong in ({"type": "Point", "coordinates": [0, 0]}, {"type": "Polygon"}, [[(0, 0, 0)]], [[(0.00000001, 0)]],
+    for wrong in ({"type": "Point", "coordinates": [0, 0]}, {"type": "Polygon"}, [[(0, 0, 0, 0)]], [[(0.00000001, 0)]],
                   "x"):
         with pytest.raises(ValueError):
             geo.polygon(wrong)

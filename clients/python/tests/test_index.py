@@ -7,6 +7,7 @@ from bkd import Refused, requests
 SQUARES = {"type": "Polygon",
            "coordinates": [[[0, 0], [10, 0], [10, 10], [0, 10], [0, 0]], [[4, 4], [6, 4], [6, 6], [4, 6], [4, 4]]]}
 M, N = -(1 << 31), (1 << 31) - 1
+EVERY = ((M, M), (N, N))
 
 
 class Shape:
@@ -16,7 +17,7 @@ class Shape:
 
 
 def test_points_boxes_polygons_and_the_nearest(program, tmp_path):
-    with bkd.open(tmp_path / "new", program=program) as index:
+    with bkd.open(tmp_path / "new", create=True, program=program) as index:
         assert [index.add(p) for p in ((5, 5), (4, 5), (1, 1), (11, 5))] == [0, 1, 2, 3]
         assert index.add([(2, 2), (5, 5), (2, 2)]) == 4
         assert index.box((0, 0), (5, 5)) == [0, 1, 2, 4]
@@ -31,14 +32,14 @@ def test_points_boxes_polygons_and_the_nearest(program, tmp_path):
         assert index.box((0, 0), (50, 50)) == [0, 1, 4]
         index.commit()
         index.reopen()
-    with bkd.open(tmp_path / "new", program=program) as index:
+    with bkd.open(tmp_path / "new", create=True, program=program) as index:
         assert index.dims == 2 and index.box((0, 0), (50, 50)) == [0, 1, 4]
         assert index.add((0, 0)) == 5
 
 
 @pytest.mark.parametrize("dims", [1, 2, 3, 8])
 def test_the_ends_of_coordinates(program, tmp_path, dims):
-    with bkd.open(tmp_path, dims, program=program) as index:
+    with bkd.open(tmp_path, dims, create=True, program=program) as index:
         assert index.add((M,) * dims) == 0 and index.add((N,) * dims) == 1
         assert index.box((M,) * dims, (N,) * dims) == [0, 1]
         assert index.nearest(10, (M,) * dims) == [(0, 0), (1, dims * (2**32 - 1) ** 2)]
@@ -47,7 +48,7 @@ def test_the_ends_of_coordinates(program, tmp_path, dims):
 
 
 def test_refused_lines_change_nothing(program, tmp_path):
-    with bkd.open(tmp_path, program=program) as index:
+    with bkd.open(tmp_path, create=True, program=program) as index:
         index.add((1, 1))
         for wrong, reason in [
             (lambda: index.add((1, 2, 3)), "wrong words"),
@@ -65,7 +66,7 @@ def test_refused_lines_change_nothing(program, tmp_path):
 
 
 def test_what_python_refuses_itself(program, tmp_path):
-    with bkd.open(tmp_path, program=program) as index:
+    with bkd.open(tmp_path, create=True, program=program) as index:
         for wrong in (1.5, "1", None, (1.0, 2), ("1", "2"), [(1, 2), (3.5, 4)]):
             with pytest.raises(TypeError):
                 index.add(wrong)
@@ -80,50 +81,40 @@ def test_what_python_refuses_itself(program, tmp_path):
 
 
 def test_many_at_once(program, tmp_path):
-    with bkd.open(tmp_path, program=program) as index:
-        assert index.add_many([]) == []
-        assert index.add_many((i, -i) for i in range(20_000)) == list(range(20_000))
-        assert index.add_many([[(1, 1), (2, 2)], (3, 3)]) == [20_000, 20_001]
+    with bkd.open(tmp_path, create=True, program=program) as index:
+        assert list(index.add_many([])) == []
+        assert index.add_many((i, -i) for i in range(20_000)) == range(20_000)
+        first, second = index.add_many([[(1, 1), (2, 2)], (3, 3)])
+        assert (first, second) == (20_000, 20_001)
         assert index.delete_many([5, 5, 7, 99_999]) == 2
         assert index.box((0, -10), (10, 0)) == [0, 1, 2, 3, 4, 6, 8, 9, 10]
         assert index.box((1, 1), (2, 2)) == [20_000]
 
 
 def test_some_of_many_are_refused(program, tmp_path):
-    with bkd.open(tmp_path, program=program) as index:
+    with bkd.open(tmp_path, create=True, program=program) as index:
         index.flush()
         with pytest.raises(Refused) as told:
             index.add_many([(0, 0), (1 << 40, 0), (1, 1), (0, 1 << 40), (2, 2)])
         assert told.value.reason == "bad number in word 2" and told.value.line == f"add {1 << 40} 0"
         assert [(r.reason, r.line) for r in told.value.others] == [("bad number in word 3", f"add 0 {1 << 40}")]
-        assert told.value.answers == [0, 1, 2]
+        assert list(told.value.answers) == [0, 1, 2]
         assert index.box((0, 0), (9, 9)) == [0, 1, 2]
-
-
-def test_an_iterable_that_fails(program, tmp_path):
-    def points():
-        yield from ((i, i) for i in range(10_000))
-        raise KeyError("mine")
-
-    with bkd.open(tmp_path, program=program) as index:
-        with pytest.raises(KeyError):
-            index.add_many(points())
-        if index.stays:
-            # whole pieces before it were sent, and are answered
-            found = len(index.box((0, 0), (10_000, 10_000)))
-            assert found == 8192
-            assert index.add((0, 0)) == found
 
 
 def test_arrays(program, tmp_path):
     numpy = pytest.importorskip("numpy")
-    with bkd.open(tmp_path / "a", program=program, arrays=True) as index:
+    with bkd.open(tmp_path / "a", create=True, program=program, arrays=True) as index:
         numbers = index.add_many(numpy.array([[1, 2], [3, 4], [5, 6]], dtype=numpy.int64))
         assert numbers.dtype == numpy.uint32 and numbers.tolist() == [0, 1, 2]
         assert index.add(numpy.array([7, 8])) == 3 and index.add(numpy.array([[7, 8], [9, 9]])) == 4
         found = index.box(numpy.array([0, 0]), (9, 9))
         assert found.dtype == numpy.uint32 and found.tolist() == [0, 1, 2, 3, 4]
         assert index.polygon([numpy.array([[0, 0], [4, 0], [4, 4], [0, 4], [0, 0]])]).tolist() == [0, 1]
+        numbers, distances = index.nearest(2, (1, 2))
+        assert (numbers.dtype, numbers.tolist(), distances.dtype, distances.tolist()) == \
+            (numpy.uint32, [0, 1], numpy.uint64, [0, 8])
+        assert index.box((50, 50), (60, 60)).dtype == numpy.uint32
         assert index.delete_many(found[:2]) == 2
         for wrong in (numpy.zeros((2, 2)), numpy.array([["1", "2"]])):
             with pytest.raises(TypeError):
@@ -131,34 +122,14 @@ def test_arrays(program, tmp_path):
         for wrong in (numpy.zeros((2, 3), int), numpy.zeros(2, int), numpy.zeros((2, 2, 2), int)):
             with pytest.raises(ValueError):
                 index.add_many(wrong)
-    with bkd.open(tmp_path / "b", 1, program=program) as index:
-        assert index.add_many(numpy.arange(3)) == [0, 1, 2]
-        assert index.add_many(numpy.arange(3).reshape(3, 1)) == [3, 4, 5]
-
-
-def test_an_index_that_is_there(program, tmp_path):
-    bkd.open(tmp_path, 3, leaf=20, program=program).close()
-    bkd.open(tmp_path, program=program).close()
-    bkd.open(tmp_path, 3, leaf=20, program=program).close()
-    for dims, leaf in ((2, None), (None, 19)):
-        with pytest.raises(ValueError, match="3 dimensions and leaves of 20"):
-            bkd.open(tmp_path, dims, leaf, program=program)
-    for dims, leaf, reason in ((9, None, "dims"), (2, 334, "leaf size")):
-        with pytest.raises(Refused) as told:
-            bkd.open(tmp_path / f"x{dims}", dims, leaf, program=program)
-        assert told.value.reason == reason
+    with bkd.open(tmp_path / "b", 1, create=True, program=program) as index:
+        assert index.add_many(numpy.arange(3)) == range(3)
+        assert index.add_many(numpy.arange(3).reshape(3, 1)) == range(3, 6)
 
 
 def test_snapshots_and_begun_merges(program, tmp_path):
-    with bkd.open(tmp_path, 1, program=program) as index:
+    with bkd.open(tmp_path, 1, create=True, program=program) as index:
         index.add_many([1, 2])
-        if not index.stays:
-            for wrong in (lambda: index.snapshot("a"), lambda: index.merge_begun().__enter__()):
-                with pytest.raises(bkd.Unsupported, match="no command session"):
-                    wrong()
-            asked = [requests.snapshot("a"), requests.delete(0), requests.box(0, 9, of="a"), requests.box(0, 9)]
-            assert index.ask(asked) == [None, 1, [0, 1], [1]]
-            return
         with index.snapshot("a") as kept:
             with pytest.raises(Refused, match="name taken"):
                 index.snapshot("a")
@@ -178,7 +149,7 @@ def test_snapshots_and_begun_merges(program, tmp_path):
 
 
 def test_requests_in_one_go(program, tmp_path):
-    with bkd.open(tmp_path, program=program) as index:
+    with bkd.open(tmp_path, create=True, program=program) as index:
         asked = [requests.add((i, i)) for i in range(300)] + [requests.box((i, 0), (i, 300)) for i in range(300)]
         values = index.ask(asked + [requests.create(2)])
         assert values[:300] == list(range(300)) and values[300:600] == [[i] for i in range(300)]
@@ -187,10 +158,28 @@ def test_requests_in_one_go(program, tmp_path):
 
 
 def test_closed(program, tmp_path):
-    index = bkd.open(tmp_path, program=program)
+    index = bkd.open(tmp_path, create=True, program=program)
     index.close()
     index.close()
     index.abandon()
     for use in (lambda: index.add((1, 1)), index.commit, index.check, lambda: index.box((0, 0), (1, 1))):
         with pytest.raises(bkd.Closed):
             use()
+
+
+def test_what_is_not_committed_is_not_counted_in_silence(program, tmp_path):
+    with bkd.open(tmp_path, create=True, program=program) as index:
+        index.add((1, 1))
+        for use in (lambda: index.count(*EVERY), lambda: index.grid(0, 1, 1, 1, (0, 0), (1, 1)),
+                    lambda: index.batch([requests.box(*EVERY)]), lambda: list(index), index.export):
+            with pytest.raises(bkd.Uncommitted):
+                use()
+        assert len(index) == 1 and index.info().live == 0
+        index.commit()
+        assert index.count(*EVERY) == 1 and list(index) == [(0, ((1, 1),))]
+        assert index.batch([requests.box(*EVERY)]) == [[0]] and index.info().live == 1
+        index.delete(5)
+        assert index.count(*EVERY) == 1
+        index.delete(0)
+        with pytest.raises(bkd.Uncommitted):
+            index.count(*EVERY)

@@ -10,6 +10,9 @@ from conftest import HERE, REAL, TOP
 PAGE = TOP / "docs" / "bkd.1"
 COMPLETION = TOP / "docs" / "completion" / "bkd.bash"
 
+# the options that stand with every command
+COMMON = ["--wait", "--no-lock"]
+
 
 @pytest.fixture(scope="module")
 def shown():
@@ -61,13 +64,13 @@ def completed(*words):
     (("bkd", ".", ""), ["run", "load", "explain", "check", "generate", "session", "count",
                       "ranges", "batch"]),
     (("bkd", ".", "ge"), ["generate"]),
-    (("bkd", ".", "run", "--"), ["--cache", "--forks"]),
-    (("bkd", ".", "session", "--"), ["--cache", "--forks"]),
-    (("bkd", ".", "batch", "--"), ["--forks", "--merge"]),
-    (("bkd", ".", "run", "--cache", "5", "--"), ["--forks"]),
+    (("bkd", ".", "run", "--"), ["--cache", "--forks", *COMMON]),
+    (("bkd", ".", "session", "--"), ["--cache", "--forks", *COMMON]),
+    (("bkd", ".", "batch", "--"), ["--forks", "--merge", *COMMON]),
+    (("bkd", ".", "run", "--cache", "5", "--"), ["--forks", *COMMON]),
     (("bkd", ".", "run", "--forks", ""), ["0", "1", "2", "3", "4", "5", "6"]),
     (("bkd", ".", "generate", "--d"), ["--docs"]),
-    (("bkd", ".", "check", ""), []),
+    (("bkd", ".", "check", ""), COMMON),
     (("bkd", ".", "load", "--columns", ""), []),
 ])
 def test_completion(words, wanted):
@@ -78,8 +81,8 @@ def test_the_readme(tmp_path, monkeypatch):
     """Its example runs, and says in its comments what it answers."""
     import ast
     text = (HERE.parent / "README.md").read_text()
-    code = "\n".join(line[4:] for line in text.split("    import bkd", 1)[1].splitlines() if line.startswith("    "))
-    code = "import bkd\n" + code.split("clients/python/test", 1)[0]
+    block = text.split("    import bkd", 1)[1].split("\n|", 1)[0]
+    code = "import bkd\n" + "\n".join(line[4:] for line in block.splitlines() if line.startswith("    "))
     told = dict(re.findall(r"(index\.\w+)\(.*\)\s+# (\[.*\])", code))
     monkeypatch.setenv("BKD", REAL.words[0] if REAL else str(HERE / "stand_in.py"))
     monkeypatch.chdir(tmp_path)

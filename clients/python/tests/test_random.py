@@ -60,7 +60,8 @@ def wanted(model, asked):
         if rows[0].startswith("line "):
             values.append(rows[0].split(": ", 1)[1])
         else:
-            values.append(one.answer.read([w.encode() for w in rows[0].split()], [r.encode() for r in rows[1:]]))
+            text = "".join(row + "\n" for row in rows[1:])
+            values.append(one.answer.read([w.encode() for w in rows[0].split()], text.encode()))
     return values
 
 
@@ -71,28 +72,21 @@ def test_as_a_list(program, script):
     model = Model()
     model.line(requests.create(dims, leaf).line.encode())
     with tempfile.TemporaryDirectory() as folder:
-        with bkd.open(folder, dims, leaf, program=program) as index:
+        with bkd.open(folder, dims, leaf, create=True, program=program) as index:
             for asked in batches:
                 found = [value.reason if isinstance(value, Refused) else value for value in index.ask(asked)]
                 assert found == wanted(model, asked)
-                if not index.stays:
-                    at_rest(model)
-        at_rest(model)
-        with bkd.open(folder, program=program) as index:
+        model.state.snapshots.clear()
+        model.state.begun = False
+        with bkd.open(folder, create=True, program=program) as index:
             every = requests.box([-(1 << 31)] * dims, [(1 << 31) - 1] * dims)
             assert index.ask([every]) == wanted(model, [every])
-
-
-def at_rest(model):
-    """What a run leaves: the snapshots and a begun merge end with it."""
-    model.state.snapshots.clear()
-    model.state.begun = False
 
 
 @settings(SLOW, max_examples=8)
 @given(st.lists(point(2).filter(lambda p: max(map(abs, p)) < 1 << 31), max_size=200), st.data())
 def test_methods_as_a_list(program, points, data):
-    with tempfile.TemporaryDirectory() as folder, bkd.open(folder, leaf=2, program=program) as index:
+    with tempfile.TemporaryDirectory() as folder, bkd.open(folder, leaf=2, create=True, program=program) as index:
         kept = dict(zip(index.add_many(points), points))
         gone = data.draw(st.lists(st.integers(0, 250), max_size=30))
         assert index.delete_many(gone) == len(kept.keys() & set(gone))
@@ -136,7 +130,7 @@ def test_the_model_itself():
 
 
 def test_a_line_that_is_too_long(program, tmp_path):
-    with bkd.open(tmp_path, program=program) as index:
+    with bkd.open(tmp_path, create=True, program=program) as index:
         ring = [(i, 0) for i in range(400_000)]
         found = index.ask([requests.polygon([ring]), requests.add((1, 1))])
         assert found[0].reason in ("too long", "line too long") and found[1] == 0
@@ -154,5 +148,5 @@ def test_many_segments(real, tmp_path, dims, leaf):
         asked += [requests.FLUSH] * (i % 7 == 0) + [requests.delete(i * 13 % 300)] * (i % 5 == 0)
         asked += [requests.nearest(7, [i % 50] * dims),
                   requests.box([i % 40] * dims, [i % 40 + 9] * dims)] * (i % 11 == 0)
-    with bkd.open(tmp_path, dims, leaf, program=real) as index:
+    with bkd.open(tmp_path, dims, leaf, create=True, program=real) as index:
         assert index.ask(asked) == wanted(model, asked)

@@ -1,8 +1,9 @@
-"""An index over several folders, with a local cluster: as one list of documents, whichever worker dies."""
-import contextlib
-import logging
+"""An index over several folders, with a scheduler and workers as processes: as one list of documents, whoever writes it
+and however it is spread. What goes wrong is in `test_shards_faults.py`."""
+import json
 import os
 import random
+import threading
 
 import pytest
 
@@ -12,68 +13,12 @@ distributed = pytest.importorskip("distributed")
 
 import bkd
 from bkd import shards
-from bkd.shards.layout import Layout, cut
-from conftest import HERE, REAL, STAND_IN
+from bkd.shards.layout import Layout, Place, cut
+from clusters import HIGH, LOW, box_of, client, cluster, drawn, folders, nearest_of, words  # noqa: F401
+from conftest import STAND_IN
 from model import in_polygon
 
-LOW, HIGH = -(1 << 31), (1 << 31) - 1
 pytestmark = pytest.mark.slow
-
-
-@contextlib.contextmanager
-def cluster_of_two():
-    """Two workers, each a process of its own, which find this package."""
-    kept = dict(os.environ)
-    os.environ["PYTHONPATH"] = os.pathsep.join([str(HERE.parent), str(HERE)])
-    os.environ.pop("STAND_IN_COMMANDS", None)
-    # (so that a task is given up at the second death of its worker)
-    with dask.config.set({"distributed.scheduler.allowed-failures": 1}):
-        cluster = distributed.LocalCluster(n_workers=2, threads_per_worker=1, processes=True, dashboard_address=None,
-                                           silence_logs=logging.CRITICAL)
-    with cluster, distributed.Client(cluster) as made:
-        yield made
-    os.environ.clear()
-    os.environ.update(kept)
-
-
-@pytest.fixture(scope="module")
-def client():
-    with cluster_of_two() as made:
-        yield made
-
-
-@pytest.fixture
-def doomed():
-    """A cluster of its own for a test that kills workers."""
-    with cluster_of_two() as made:
-        yield made
-
-
-@pytest.fixture
-def words():
-    """The words of a program, as they go to workers."""
-    return REAL.words if REAL else STAND_IN
-
-
-def folders(tmp_path, count=3):
-    return [tmp_path / f"shard {i}" for i in range(count)]
-
-
-def drawn(count, seed, most=3, wide=40):
-    draw = random.Random(seed)
-    return [[(draw.randint(-wide, wide), draw.randint(-wide, wide)) for _ in range(draw.randint(1, most))]
-            for _ in range(count)]
-
-
-def nearest_of(documents, k, at):
-    found = sorted((min((x - at[0]) ** 2 + (y - at[1]) ** 2 for x, y in points), key)
-                   for key, points in documents.items())
-    return [(key, distance) for distance, key in found[:k]]
-
-
-def box_of(documents, low, high):
-    return sorted(key for key, points in documents.items()
-                  if any(low[0] <= x <= high[0] and low[1] <= y <= high[1] for x, y in points))
 
 
 @pytest.mark.parametrize("by", ["number", "cells"])
@@ -141,8 +86,8 @@ def test_what_is_refused(client, tmp_path):
     shards.create(tmp_path / "layout.json", folders(tmp_path, 2))
     with pytest.raises(FileExistsError):
         shards.create(tmp_path / "layout.json", folders(tmp_path, 2))
-    for wrong in ({"folders": []}, {"folders": ["a", "a"]}, {"folders": ["a"], "by": "x"},
-                  {"folders": ["a"], "dims": 9}):
+    for wrong in ({"folders": []}, {"folders": ["/a", "/a"]}, {"folders": ["/a", "/b/../a"]},
+                  {"folders": ["/a"], "by": "x"}, {"folders": ["/a"], "dims": 9}):
         with pytest.raises(ValueError):
             shards.create(tmp_path / "other.json", **wrong)
     with shards.open(tmp_path / "layout.json", client, program=STAND_IN) as index:
@@ -161,89 +106,123 @@ def test_what_is_refused(client, tmp_path):
             index.polygon({"type": "Point", "coordinates": [0, 0]})
 
 
-@pytest.fixture
-def deadly(tmp_path):
-    """A program that kills the worker that runs it, once for each file that it finds and removes.
-
-    It waits before: a worker that dies before it has told its nanny that it is there isn't started again.
-    """
-    path, deaths = tmp_path / "deadly", tmp_path / "deaths"
-    deaths.mkdir()
-    path.write_text(f"""import os, signal, sys, time
-for name in os.listdir({str(deaths)!r}) if len(sys.argv) > 2 else ():
-    try:
-        os.remove(os.path.join({str(deaths)!r}, name))
-    except FileNotFoundError:
-        continue
-    time.sleep(3)
-    os.kill(os.getppid(), signal.SIGKILL)
-    sys.exit(1)
-os.execv({STAND_IN[0]!r}, [*{STAND_IN!r}, *sys.argv[1:]])
-""")
-
-    def set_deaths(count):
-        for name in os.listdir(deaths):
-            (deaths / name).unlink(missing_ok=True)
-        for i in range(count):
-            (deaths / str(i)).touch()
-
-    return (STAND_IN[0], str(path)), set_deaths
+def test_layouts_that_are_refused(client, words, tmp_path):
+    with pytest.raises(ValueError, match="neither absolute nor bound"):
+        shards.create(tmp_path / "layout.json", ["relative"])
+    with pytest.raises(ValueError, match="none of the folders"):
+        shards.create(tmp_path / "layout.json", [tmp_path / "a"], workers={"/b": "w0"})
+    os.symlink(tmp_path / "a", tmp_path / "b")
+    shards.create(tmp_path / "layout.json", [tmp_path / "a", tmp_path / "b"])
+    with shards.open(tmp_path / "layout.json", client, program=words) as index:
+        with pytest.raises((shards.Changed, bkd.FolderFault), match="/[ab]"):
+            index.add_many([(1, 1), (2, 2)])
+            index.add_many([(1, 1), (2, 2)])
+    with open(tmp_path / "layout.json") as file:
+        told = json.load(file)
+    told["layout"]["given"] += 1
+    with open(tmp_path / "layout.json", "w") as file:
+        json.dump(told, file)
+    with pytest.raises(shards.BadLayout, match="layout.json is damaged"):
+        shards.open(tmp_path / "layout.json", client, program=words)
+    (tmp_path / "layout.json").write_text("{")
+    with pytest.raises(shards.BadLayout, match="no layout"):
+        shards.open(tmp_path / "layout.json", client, program=words)
 
 
-def test_a_worker_that_dies_in_a_query(doomed, tmp_path, deadly):
-    words, deaths = deadly
-    shards.create(tmp_path / "layout.json", folders(tmp_path, 2))
-    with shards.open(tmp_path / "layout.json", doomed, program=words) as index:
-        index.add_many([(i, i) for i in range(10)])
-        deaths(1)
-        assert index.box((0, 0), (5, 5)).tolist() == [0, 1, 2, 3, 4, 5]
-        deaths(50)
-        with pytest.raises(bkd.WorkerLost, match="again and again"):
-            index.box((0, 0), (5, 5))
-        deaths(0)
-        # (one that died before its nanny knew of it stays away)
-        doomed.wait_for_workers(1, timeout=60)
-        assert index.nearest(1, (7, 7)) == [(7, 0)]
+def test_two_clients(cluster, words, tmp_path):
+    """Both write by turns; who asks meanwhile finds each call whole or not at all."""
+    shards.create(tmp_path / "layout.json", folders(tmp_path, 3))
+
+    def write(number, failed):
+        try:
+            with distributed.Client(scheduler_file=cluster.file) as other, \
+                    shards.open(tmp_path / "layout.json", other, program=words) as index:
+                for call in range(4):
+                    index.add_many([(number, call)] * 30)
+        except BaseException as error:
+            failed.append(error)
+
+    failed = []
+    writers = [threading.Thread(target=write, args=(number, failed)) for number in range(2)]
+    for writer in writers:
+        writer.start()
+    with shards.open(tmp_path / "layout.json", cluster.client, program=words) as index:
+        while any(writer.is_alive() for writer in writers):
+            found = index.ask([shards.box((0, 0), (0, 9)), shards.box((1, 0), (1, 9))])
+            assert all(len(part) % 30 == 0 for part in found)
+        for writer in writers:
+            writer.join()
+        assert failed == [] and index.box((0, 0), (9, 9)).tolist() == list(range(240))
+        with index.snapshot() as then:
+            assert then.count((0, 0), (9, 9)) == 240
+            with pytest.raises(bkd.Locked):
+                index.add((5, 5))
+            with shards.open(tmp_path / "layout.json", cluster.client, program=words, wait=0.2) as other, \
+                    pytest.raises(bkd.Locked, match="layout.json"):
+                other.add((5, 5))
+            assert then.nearest(1, (5, 5))[0][1] == 20
+        assert index.add((5, 5)) == 240
 
 
-def test_a_worker_that_dies_in_a_change(doomed, tmp_path, deadly):
-    """It is told, since nobody knows whether it was done; and it was done whole or not at all."""
-    words, deaths = deadly
-    doomed.wait_for_workers(2, timeout=60)
-    shards.create(tmp_path / "layout.json", folders(tmp_path, 2))
-    with shards.open(tmp_path / "layout.json", doomed, program=words) as index:
-        index.add_many([(i, i) for i in range(10)])
-        deaths(1)
-        with pytest.raises(bkd.WorkerLost, match="shard"):
-            index.add_many([(i, i) for i in range(10, 20)])
-        deaths(0)
-        doomed.wait_for_workers(2, timeout=60)
-        found = index.box((0, 0), (99, 99)).tolist()
-        assert found[:10] == list(range(10)) and len(found) in (10, 15, 20)
-        index.add_many([(50, 50)], [1000])
-        assert index.nearest(1, (50, 50)) == [(1000, 0)]
+def test_the_other_words(client, words, tmp_path):
+    """count, grid, export, check and rebalance, beside a list."""
+    shards.create(tmp_path / "layout.json", folders(tmp_path, 4), by="cells")
+    with shards.open(tmp_path / "layout.json", client, program=words) as index:
+        assert index.add_many([(0, 0)] * 5).tolist() == list(range(5))
+        assert index.layout.cells is None and index.rebalance() == 0
+        draw = random.Random(3)
+        points = [(0, 0)] * 5 + [(draw.randint(-40, 40), draw.randint(-40, 40)) for _ in range(500)]
+        index.add_many(points[5:])
+        assert index.layout.cells is not None
+        points += [(draw.randint(30, 40), draw.randint(30, 40)) for _ in range(1500)]
+        index.add_many(points[505:])
+        before = [live for _, _, live in index.about()]
+        index.delete_box((-40, -40), (-10, 40))
+        documents = {key: [point] for key, point in enumerate(points) if point[0] > -10}
+
+        def same():
+            assert dict(index.export()) == {key: tuple(found) for key, found in documents.items()}
+            assert index.box((-20, -20), (35, 35)).tolist() == box_of(documents, (-20, -20), (35, 35))
+            assert index.count((0, 0), (9, 35)) == len(box_of(documents, (0, 0), (9, 35)))
+            wanted = {}
+            for (x, y), in documents.values():
+                if x >= 0 and y >= 0:
+                    wanted[x // 7, y // 9] = wanted.get((x // 7, y // 9), 0) + 1
+            assert index.grid(0, 7, 1, 9, (0, 0), (40, 40)) == [(*at, n) for at, n in sorted(wanted.items())]
+            assert sum(one.live for _, one in index.check() if one) == len(documents)
+            assert index.nearest(9, (33, 33)) == nearest_of(documents, 9, (33, 33))
+
+        same()
+        assert index.rebalance() > 0
+        same()
+        lives = [live for _, _, live in index.about()]
+        assert max(lives) <= 2 * sum(lives) / len(lives) or max(lives) <= 128
+        assert max(lives) < max(before) and index.rebalance() == 0
+        assert sorted(map(str, tmp_path.glob("shard*"))) == sorted(index.layout.folders)
+        more = index.add_many([(draw.randint(-40, 40), draw.randint(-40, 40)) for _ in range(50)])
+        assert len(more) == 50 and sum(live for *_, live in index.about()) == len(documents) + 50
 
 
-def test_folders_that_are_not_shared(doomed, tmp_path, deadly):
-    words, deaths = deadly
-    doomed.wait_for_workers(2, timeout=60)
-    layout = shards.create(tmp_path / "layout.json", folders(tmp_path, 2))
-    workers = dict(zip(layout.folders, sorted(doomed.scheduler_info()["workers"])))
-    with shards.open(tmp_path / "layout.json", doomed, program=words, workers=workers) as index:
-        index.add_many([(i, i) for i in range(10)])
-        assert index.box((3, 3), (4, 4)).tolist() == [3, 4]
-        deaths(1)
-        with pytest.raises(bkd.WorkerLost, match="died"):
-            index.box((0, 0), (5, 5))
-        deaths(0)
+def test_a_token_is_done_once(client, words, tmp_path):
+    shards.create(tmp_path / "layout.json", folders(tmp_path, 3), by="cells")
+    points = [(i, i % 7) for i in range(300)]
+    with shards.open(tmp_path / "layout.json", client, program=words) as index:
+        first = index.add_many(points, token="monday")
+        assert index.add_many(points, token="monday").tolist() == first.tolist()
+        assert len(index.box((0, 0), (999, 9))) == 300
+        with pytest.raises(ValueError, match="of 300 documents"):
+            index.add_many(points[1:], token="monday")
+        assert index.delete_many([1, 2, 3], token="tuesday") == 3
+        assert index.delete_many([1, 2, 3], token="tuesday") == 3
+        assert index.delete_many([1, 2, 3]) == 0
 
 
 def test_cells():
     """About as many points in each, whatever their number."""
     points = numpy.array(random.Random(1).choices(range(-1000, 1000), k=2000)).reshape(1000, 2)
     for count in (1, 2, 3, 5, 8):
-        layout = Layout([str(i) for i in range(count)], 2, by="cells")
-        places = layout.place(points)
+        layout = Layout(2, [Place.new(f"/{i}") for i in range(count)], by="cells")
+        places = layout.place(points, layout.begin("", points))
         counts = numpy.bincount(places, minlength=count)
         assert counts.sum() == 1000 and counts.min() >= 1000 // count - 40
     assert cut(points[:0], [0, 1]) == [0, 0, 0, 1]
@@ -253,6 +232,7 @@ def test_errors_go_whole_to_another_process():
     import pickle
     from bkd.damage import Damage
     for error in (bkd.Refused("add x", "wrong words", 3), bkd.Damaged(Damage("page", "commit.bkd", page=0), 5, "x"),
-                  bkd.Died("was killed", 1, "add 1"), bkd.WorkerLost("a", "b"), bkd.Locked("x")):
+                  bkd.Died("was killed", 1, "add 1"), bkd.WorkerLost("a", "b"), bkd.Locked("x"),
+                  shards.WorkerLost("a", "b", "c", ["d"], ["e"]), shards.Changed("a", "b")):
         again = pickle.loads(pickle.dumps(error))
         assert type(again) is type(error) and str(again) == str(error) and again.__dict__ == error.__dict__

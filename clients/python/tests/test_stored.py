@@ -19,7 +19,7 @@ def test_the_same_documents(real, tmp_path, dims, leaf):
                     for d in range(dims))
               for i in range(2500)]
     points += [tuple(i // 300 for _ in range(dims)) for i in range(1500)]
-    with bkd.open(tmp_path, dims, leaf, program=real) as index:
+    with bkd.open(tmp_path, dims, leaf, create=True, program=real) as index:
         index.add_many(points)
         index.flush()
         index.delete_many(range(0, 4000, 17))
@@ -52,7 +52,7 @@ def small(tmp_path_factory):
     if program is None:
         pytest.skip("no program is built; set BKD")
     folder = tmp_path_factory.mktemp("small")
-    with bkd.open(folder, leaf=4, program=program) as index:
+    with bkd.open(folder, leaf=4, create=True, program=program) as index:
         index.ask([requests.add((i, i * i % 11)) for i in range(12)] + [requests.FLUSH])
         index.ask([requests.add([(1, 1), (2, 2)]), requests.add((3, 3)), requests.delete(4), requests.FLUSH])
     return program, folder
@@ -78,7 +78,7 @@ def told(folder):
 def told_by_run(program, folder):
     """What a run says that opens all files, and whose box and nearest read all leaves."""
     def reading():
-        with bkd.open(folder, program=program) as index:
+        with bkd.open(folder, create=True, program=program) as index:
             index.ask([requests.box((-(1 << 31),) * 2, ((1 << 31) - 1,) * 2), requests.nearest(10_000, (0, 0))])
 
     return damage_of(reading)
@@ -101,7 +101,7 @@ def changed(small, tmp_path, name, change):
 ])
 def test_sizes(small, tmp_path, change, wanted):
     program, whole = small
-    for name in sorted(os.listdir(whole)):
+    for name in sorted(name for name in os.listdir(whole) if name.endswith(".bkd")):
         size = (whole / name).stat().st_size
         folder = changed(whole, tmp_path, name, change)
         text = f"{name} " + wanted.format(size=size, less=size - 1, more=size + 1)
@@ -110,7 +110,7 @@ def test_sizes(small, tmp_path, change, wanted):
 
 def test_missing_files(small, tmp_path):
     program, whole = small
-    for name in sorted(os.listdir(whole)):
+    for name in sorted(name for name in os.listdir(whole) if name.endswith(".bkd")):
         if name != "commit.bkd":
             folder = changed(whole, tmp_path, name, bytes)
             (folder / name).unlink()
@@ -142,7 +142,7 @@ def test_every_form_as_it_is_written(tmp_path, form, dims, leaf, count):
     assert [part.segment.head.form for part in stored.parts] == [form, 3]
     if (program := REAL) is not None:
         low, high = (-(1 << 31),) * dims, ((1 << 31) - 1,) * dims
-        with bkd.open(tmp_path, program=program) as index:
+        with bkd.open(tmp_path, create=True, program=program) as index:
             assert index.box(low, high) == sorted(wanted)
             at = (5,) * dims
             near = sorted((min(sum((a - b) ** 2 for a, b in zip(p, at)) for p in points), n)

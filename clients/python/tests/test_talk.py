@@ -4,7 +4,7 @@ from hypothesis import given, strategies as st
 
 from bkd import BadAnswer, Refused, requests
 from bkd.answers import DELETED, DOC
-from bkd.talk import Asking, Many
+from bkd.talk import Asking, Many, take
 
 ASKED = [
     (requests.add((1, 2)), b"doc 7\n", 7),
@@ -19,27 +19,27 @@ ASKED = [
 @given(st.lists(st.integers(1, 30), max_size=20))
 def test_answers_cut_anywhere(cuts):
     talk = Asking(request for request, _, _ in ASKED)
-    assert talk.piece().decode().splitlines() == [request.line for request, _, _ in ASKED]
-    assert talk.piece() == b""
+    assert talk.piece()[0].decode().splitlines() == [request.line for request, _, _ in ASKED]
+    assert talk.piece() == (b"", 0)
     text = b"".join(answer for _, answer, _ in ASKED)
     for cut in cuts:
-        talk.take(text[:cut])
+        take(talk, text[:cut])
         text = text[cut:]
-    talk.take(text)
+    take(talk, text)
     assert talk.values == [value for _, _, value in ASKED]
-    assert (talk.done, talk.waiting) == (len(ASKED), 0)
+    assert talk.look() == len(ASKED)
 
 
 @given(st.lists(st.integers(1, 9), max_size=20))
 def test_many_cut_anywhere(cuts):
     talk = Many([(b"add 1\nadd 2\n", 2), (b"add x\nadd 3\n", 2)], DOC, first=11)
-    while talk.piece():
+    while talk.piece()[1]:
         pass
     text = b"doc 4\ndoc 5\nline 13: bad number in word 2\ndoc 6\n"
     for cut in cuts:
-        talk.take(text[:cut])
+        take(talk, text[:cut])
         text = text[cut:]
-    talk.take(text)
+    take(talk, text)
     numbers, refusals = talk.values()
     assert numbers == [4, 5, 6]
     assert [(r.line, r.reason, r.number) for r in refusals] == [("add x", "bad number in word 2", 13)]
@@ -48,7 +48,7 @@ def test_many_cut_anywhere(cuts):
 def test_a_refusal_stands_in_its_place():
     talk = Asking([requests.MERGE_END, requests.FLUSH], first=4)
     talk.piece()
-    talk.take(b"line 4: no merge begun\nok\n")
+    take(talk, b"line 4: no merge begun\nok\n")
     assert isinstance(talk.values[0], Refused) and talk.values[0].reason == "no merge begun"
     assert talk.values[0].line == "merge end" and talk.values[1] is None
 
@@ -60,7 +60,7 @@ def test_what_is_no_answer(text):
     talk = Asking([requests.box((0, 0), (1, 1))])
     talk.piece()
     with pytest.raises(BadAnswer):
-        talk.take(text)
+        take(talk, text)
 
 
 @pytest.mark.parametrize("text", [b"deleted 1\n", b"doc x\n", b"doc 1\nok\n"])
@@ -68,7 +68,7 @@ def test_what_is_no_answer_to_many(text):
     talk = Many([(b"add 1\nadd 2\n"[:6 * text.count(b"\n")], text.count(b"\n"))], DOC)
     talk.piece()
     with pytest.raises(BadAnswer):
-        talk.take(text)
+        take(talk, text)
         talk.values()
 
 
@@ -76,4 +76,4 @@ def test_many_takes_no_more_than_it_asked():
     talk = Many([(b"delete 1\n", 1)], DELETED)
     talk.piece()
     with pytest.raises(BadAnswer):
-        talk.take(b"deleted 1\ndeleted 1\n")
+        take(talk, b"deleted 1\ndeleted 1\n")

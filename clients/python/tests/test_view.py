@@ -1,211 +1,232 @@
-"""The page: what it shows is what the files hold, and what it asks is what the program answers."""
+"""The page's server: what it shows is what the program counts, and what it asks is what the program answers."""
 import http.client
-import json
-import math
 import os
 import random
-import shutil
+import socket
 import threading
-from urllib.parse import urlencode
+import time
 
 import pytest
 
 import bkd
 from bkd import lock, requests
-from bkd.view import serve
+from bkd.view import drawn, serve
+from conftest import works
+from model import in_polygon
 from test_export import made
+from viewing import counted, counting, fetch, points_of, shown, view  # noqa: F401
+
+FAR = 1 << 31
 
 
-@pytest.fixture
-def shown():
-    """Serves a folder; what is made ends with the test."""
-    servers = []
-
-    def start(folder, program):
-        server = serve(folder, 0, program=program)
-        threading.Thread(target=server.serve_forever, daemon=True).start()
-        servers.append(server)
-        return server
-
-    yield start
-    for server in servers:
-        server.shutdown()
-        server.server_close()
-
-
-def fetch(server, path, body=None, **headers):
-    host, port = server.server_address
-    connection = http.client.HTTPConnection(host, port, timeout=60)
-    if body is not None:
-        headers = {"Content-Type": "application/json"} | headers
-    connection.request("GET" if body is None else "POST", path, body and json.dumps(body), headers)
-    reply = connection.getresponse()
-    return reply.status, json.loads(reply.read())
-
-
-def test_it_shows_what_the_files_hold(filed, tmp_path, shown):
-    folder = made(tmp_path / "a", filed)
-    server = shown(folder, filed)
-    status, about = fetch(server, "/index")
+def test_it_shows_what_the_files_hold(counting, tmp_path, shown):
+    folder = made(tmp_path / "a", counting)
+    server = shown(folder, counting)
+    status, about = fetch(server, "about")
     assert status == 200 and about["dims"] == 2 and about["next"] == 81
-    documents = list(bkd.export(folder))
-    assert sum(segment["live"] for segment in about["segments"]) == len(documents)
-    asked = {"x": 0, "y": 1, "frame": "-5.5,-5.5,30.5,30.5", "columns": 10, "rows": 10}
-    _, view = fetch(server, "/view?" + urlencode(asked))
-    live = sorted((x, y, n) for x, y, n, is_live in view["points"] if is_live)
-    assert live == sorted((x, y, n) for n, points in documents for x, y in points if -5 <= x <= 30 and -5 <= y <= 30)
-    entries = sum(segment["entries"] for segment in about["segments"])
-    assert any(not is_live for *_, is_live in view["points"]) == (entries > sum(len(p) for _, p in documents))
-    for x, y, _, _ in view["points"]:
-        assert any(c["sides"][0] <= x <= c["sides"][2] and c["sides"][1] <= y <= c["sides"][3] for c in view["cells"])
+    points = points_of(folder)
+    assert sum(segment["live"] for segment in about["segments"]) == about["live"] == len(dict(bkd.export(folder)))
+    (left, bottom), (right, top) = about["bounds"]
+    assert all(left <= x <= right and bottom <= y <= top for x, y in points)
+    kinds = {file["name"]: file["kind"] for file in about["files"]}
+    assert kinds["commit.bkd"] == "needed" and all(os.path.exists(folder / name) for name in kinds)
+    for frame in ((-5.5, -5.5, 30.5, 30.5), (-FAR, -FAR, FAR - 1, FAR - 1), (1, 1, 1, 1), (7.2, 0, 7.8, 40)):
+        told = view(server, frame)
+        assert told["across"] == told["up"] == 1
+        assert {(x, y): n for x, y, n in told["squares"]} == counted(points, frame) and told["partly"] == []
+        assert told["points"] == sum(counted(points, frame).values())
 
 
-def test_it_counts_what_it_does_not_draw(real, tmp_path, shown):
-    bkd.generate(tmp_path, 20_000, 3, program=real)
-    server = shown(tmp_path, real)
-    asked = {"x": 0, "y": 1, "frame": "-100001,-100001,100001,100001", "columns": 40, "rows": 30}
-    _, view = fetch(server, "/view?" + urlencode(asked))
-    assert view["points"] is None and view["grid"] == [40, 30]
-    assert sum(n for _, _, n in view["density"]) == 18_000
-    with bkd.open(tmp_path, program=real) as index:
-        width, height = 200002 / 40, 200002 / 30
-        for column, row, n in random.Random(1).sample(view["density"], 20):
-            left, bottom = -100001 + column * width, -100001 + row * height
-            low = [int(-(-left // 1)), int(-(-bottom // 1))]
-            high = [int(-(-(left + width) // 1)) - 1, int(-(-(bottom + height) // 1)) - 1]
-            assert abs(len(index.box(low, high)) - n) <= 2  # points on the sides of squares
+def test_it_counts_what_it_does_not_draw(counting, tmp_path, shown):
+    draw = random.Random(1)
+    points = [(draw.randint(-3000, 3000), draw.randint(-999, 999)) for _ in range(3000)]
+    with bkd.open(tmp_path, create=True, program=counting) as index:
+        index.add_many(points)
+    server = shown(tmp_path, counting)
+    for frame in ((-2999, -3000, 3000, 3000), (-1, -7, 2500, 999), (-3000, -1000, 2999, 999)):
+        told = view(server, frame, 40, 30)
+        inside = counted(points, frame)
+        if sum(inside.values()) > drawn.MOST_POINTS:
+            assert told["across"] > 1 and len(told["squares"]) <= 40 * 30
+        wanted = {}
+        for (x, y), n in inside.items():
+            at = x // told["across"] * told["across"], y // told["up"] * told["up"]
+            wanted[at] = wanted.get(at, 0) + n
+        assert {(x, y): n for x, y, n in told["squares"]} == wanted
+        assert told["points"] == sum(inside.values()) and told["most"] == max(wanted.values())
 
 
-def test_it_asks_the_program(filed, tmp_path, shown):
-    folder = made(tmp_path / "a", filed)
-    server = shown(folder, filed)
-    with bkd.open(folder, program=filed) as index:
+def test_it_asks_the_program(counting, tmp_path, shown):
+    folder = made(tmp_path / "a", counting)
+    server = shown(folder, counting)
+    with bkd.open(folder, program=counting) as index:
         box, near = index.box((0, 0), (20, 20)), index.nearest(7, (10, 12))
-        inside = index.polygon([[(0, 0), (30, 0), (0, 10), (0, 0)]])
+        corners = [(0, 0), (30, 0), (0, 10), (0, 0)]
+        inside = index.polygon([corners])
         explained = index.explain([requests.box((0, 0), (20, 20))])[0]
-    place = {"x": 0, "y": 1}
-    _, told = fetch(server, "/ask", {"kind": "box", "frame": [-0.5, -0.9, 20.4, 20.9], **place})
-    assert told["numbers"] == box and told["explained"] == {"tested": explained.tested, "touched": explained.touched,
-                                                            "found": explained.found}
-    assert len(told["points"]) >= len(box)
-    _, told = fetch(server, "/ask", {"kind": "nearest", "k": 7, "at": [10.2, 11.8], **place})
+    points, place = points_of(folder), {"x": 0, "y": 1}
+    _, told = fetch(server, "ask", {"kind": "box", "frame": [-0.5, -0.9, 20.4, 20.9], **place})
+    assert told["numbers"] == box and told["count"] == len(box)
+    assert told["explained"] == {"tested": explained.tested, "touched": explained.touched}
+    assert {(x, y): n for x, y, n in told["drawn"]["squares"]} == counted(points, (0, 0, 20, 20))
+    _, told = fetch(server, "ask", {"kind": "nearest", "k": 7, "at": [10.2, 11.8], **place})
     assert [tuple(pair) for pair in told["near"]] == near
+    found = {(x, y) for x, y, _ in told["drawn"]["squares"]}
+    assert found == {(x, y) for x, y in points if (x - 10) ** 2 + (y - 12) ** 2 <= near[-1][1]}
     for ring, axes in (([[0, 0], [30, 0], [0, 10]], place), ([[0, 0], [0, 30], [10, 0]], {"x": 1, "y": 0})):
-        _, told = fetch(server, "/ask", {"kind": "polygon", "ring": ring, **axes})
+        _, told = fetch(server, "ask", {"kind": "polygon", "ring": ring, **axes})
         assert told["numbers"] == inside
+        found = {(x, y) if axes["x"] == 0 else (y, x) for x, y, _ in told["drawn"]["squares"]}
+        assert found == {point for point in points if in_polygon([corners], point)}
+
+
+def test_squares_of_shapes():
+    """A square is found where all its coordinates are, and partly where only some are or may be."""
+    draw = random.Random(3)
+    for _ in range(60):
+        side = draw.choice([1, 2, 4, 8])
+        squares = [(x * side, y * side, 1) for x in range(-4, 4) for y in range(-4, 4)]
+        corners = [(draw.randint(-30, 30), draw.randint(-30, 30)) for _ in range(draw.randint(3, 6))]
+        at, most = (draw.randint(-9, 9), draw.randint(-9, 9)), draw.randint(0, 600)
+        shapes = [(drawn.in_ring(drawn.Drawn(side, side, squares), corners),
+                   lambda p: in_polygon([[*corners, corners[0]]], p)),
+                  (drawn.in_circle(drawn.Drawn(side, side, squares), at, most),
+                   lambda p: (p[0] - at[0]) ** 2 + (p[1] - at[1]) ** 2 <= most)]
+        for told, is_in in shapes:
+            for x, y, n in squares:
+                inside = [is_in((x + i, y + j)) for i in range(side) for j in range(side)]
+                if (x, y, n) in told.squares:
+                    assert all(inside)
+                elif (x, y, n) not in told.partly:
+                    assert not any(inside)
+                assert side > 1 or (x, y, n) not in told.partly
 
 
 @pytest.mark.parametrize("dims", [1, 3])
-def test_other_dimensions(filed, tmp_path, shown, dims):
-    with bkd.open(tmp_path, dims, program=filed) as index:
+def test_other_dimensions(counting, tmp_path, shown, dims):
+    with bkd.open(tmp_path, dims, create=True, program=counting) as index:
         index.add_many([(i,) + (i % 7,) * (dims - 1) for i in range(100)])
-    server = shown(tmp_path, filed)
+    server = shown(tmp_path, counting)
     place = {"x": 0, "y": dims - 1}
-    _, told = fetch(server, "/ask", {"kind": "box", "frame": [9.5, -1, 20.5, 9], **place})
+    _, told = fetch(server, "ask", {"kind": "box", "frame": [9.5, -1, 20.5, 9], **place})
     assert told["numbers"] == list(range(10, 21))
-    _, told = fetch(server, "/ask", {"kind": "nearest", "k": 1, "at": [50, 3], **place})
-    assert told["count"] == 1
-    status, told = fetch(server, "/ask", {"kind": "polygon", "ring": [[0, 0], [9, 0], [0, 9]], **place})
+    assert [x for x, _, n in told["drawn"]["squares"]] == list(range(10, 21))
+    assert view(server, (-1e6, -1e6, 1e6, 1e6), **place)["points"] == 100
+    _, told = fetch(server, "ask", {"kind": "nearest", "k": 1, "at": [50, 1], **place})
+    assert told["count"] == 1 and (told["drawn"] is None) == (dims == 3)
+    status, told = fetch(server, "ask", {"kind": "polygon", "ring": [[0, 0], [9, 0], [0, 9]], **place})
     assert status == 400
 
 
-def test_what_it_refuses(filed, tmp_path, shown):
+BAD = [
+    ("view?x=0&y=5&frame=0,0,1,1&columns=1&rows=1", None, {}),
+    ("view?x=0&y=0&frame=0,0,1,1&columns=1&rows=1", None, {}),
+    ("view?x=0&y=1&frame=nan,0,1,1&columns=1&rows=1", None, {}),
+    ("view?x=0&y=1&frame=3,0,1,1&columns=1&rows=1", None, {}),
+    ("view?x=0&y=1&frame=0,0,1e300,1&columns=1&rows=1", None, {}),
+    ("view?x=0&y=1&frame=0,0,1,1&columns=99999&rows=1", None, {}),
+    ("view", None, {}), ("ask", b"", {}), ("ask", b"{", {}), ("ask", b"[" * 9999, {}), ("ask", b"[]", {}),
+    ("ask", {"kind": "box"}, {}), ("ask", {"kind": "nearest", "k": 1, "at": [10 ** 400, 0], "x": 0, "y": 1}, {}),
+    ("ask", {"kind": "what", "x": 0, "y": 1}, {}), ("ask", {"kind": "box", "x": 0, "y": 1, "frame": {}}, {}),
+    ("ask", {"kind": "nearest", "k": 0, "at": [0, 0], "x": 0, "y": 1}, {}),
+    ("ask", {"kind": "nearest", "k": "many", "at": [0, 0], "x": 0, "y": 1}, {}),
+    ("ask", {"kind": "nearest", "k": 1, "at": [None, 0], "x": 0, "y": 1}, {}),
+    ("ask", {"kind": "polygon", "ring": [[0, 0]], "x": 0, "y": 1}, {}),
+    ("ask", {"kind": "polygon", "ring": [[0, 0]] * 5000, "x": 0, "y": 1}, {}),
+    ("ask", b"x" * 300_000, {}), ("ask", {"a": 1}, {"Content-Type": "text/plain"}),
+    ("ask", {"a": 1}, {"Content-Length": "-1"}), ("ask", {"a": 1}, {"Content-Length": "two"}),
+]
+
+
+def test_bad_requests(counting, tmp_path, shown, capfd):
+    """Each is answered by 400 and a line, and nothing is said on standard error."""
     with pytest.raises(bkd.NoIndex):
-        serve(tmp_path, 0, program=filed)
-    server = shown(made(tmp_path / "a", filed), filed)
-    for path, body, headers, status in [
-        ("/nothing", None, {}, 404), ("/index", None, {"Host": "example.org"}, 403), ("/ask", {"kind": "box"}, {}, 400),
-        ("/ask", {"kind": "what", "x": 0, "y": 1}, {}, 400), ("/ask", {"a": 1}, {"Content-Type": "text/plain"}, 404),
-        ("/view?x=0&y=5&frame=0,0,1,1&columns=1&rows=1", None, {}, 400),
-        ("/view?x=0&y=1&frame=nan,0,1,1&columns=1&rows=1", None, {}, 400),
-        ("/ask", {"kind": "nearest", "k": 0, "at": [0, 0], "x": 0, "y": 1}, {}, 400),
-    ]:
-        assert fetch(server, path, body, **headers)[0] == status, path
+        serve(tmp_path, 0, program=counting)
+    server = shown(made(tmp_path / "a", counting), counting)
+    for path, body, headers in BAD:
+        status, told = fetch(server, path, body, **headers)
+        assert status == 400 and told["error"] and "\n" not in told["error"], (path, body)
+    for path, headers, status in (("nothing", {}, 404), ("about", {"Host": "example.org"}, 403)):
+        assert fetch(server, path, **headers)[0] == status
+    assert fetch(server, "about", method="DELETE")[0] == 400
+    kept, server.token = server.token, "guessed"
+    connection = http.client.HTTPConnection(*server.server_address, timeout=60)
+    connection.request("GET", f"/{kept}/about")
+    assert connection.getresponse().status == 403
+    for line in (b"\xff\xfe\r\n\r\n", b"GET\r\n\r\n", b"GET /x HTTP/9.9\r\n\r\n",
+                 b"GET / HTTP/1.1\r\n" + b"a: b\r\n" * 200 + b"\r\n"):
+        with socket.create_connection(server.server_address, timeout=60) as one:
+            one.sendall(line)
+            assert b" 400 " in one.recv(4096)
     with lock.locked(str(tmp_path / "a")):
-        assert fetch(server, "/ask", {"kind": "nearest", "k": 1, "at": [0, 0], "x": 0, "y": 1})[0] == 409
+        server.token = kept
+        status, told = fetch(server, "ask", {"kind": "nearest", "k": 1, "at": [0, 0], "x": 0, "y": 1})
+        assert status == 409 and "another process writes" in told["error"]
+    assert capfd.readouterr().err == ""
 
 
-def test_another_commit_is_seen(filed, tmp_path, shown):
-    folder = made(tmp_path / "a", filed)
-    server = shown(folder, filed)
-    before = fetch(server, "/index")[1]["next"]
-    with bkd.open(folder, program=filed) as index:
+def test_slow_bodies(counting, tmp_path, shown):
+    """They end within some seconds, more of them than there are threads; others are answered after them."""
+    server = shown(made(tmp_path / "a", counting), counting)
+    before, begun = threading.active_count(), time.monotonic()
+    slow = []
+    for _ in range(9):
+        one = socket.create_connection(server.server_address, timeout=60)
+        one.sendall(f"POST /{server.token}/ask HTTP/1.1\r\nHost: 127.0.0.1:{server.server_address[1]}\r\n"
+                    "Content-Type: application/json\r\nContent-Length: 1000\r\n\r\n{".encode())
+        slow.append(one)
+    assert fetch(server, "mark")[0] == 200
+    assert threading.active_count() <= before + 6
+    for one in slow:
+        assert b" 400 " in one.recv(4096)
+        one.close()
+    assert time.monotonic() < begun + 40
+
+
+def test_another_commit_is_seen(counting, tmp_path, shown):
+    folder = made(tmp_path / "a", counting)
+    server = shown(folder, counting)
+    before = fetch(server, "about")[1]
+    assert fetch(server, "mark")[1]["mark"] == before["mark"]
+    with bkd.open(folder, program=counting) as index:
         index.add((1, 1))
-    assert fetch(server, "/index")[1]["next"] == before + 1
+    after = fetch(server, "about")[1]
+    assert after["next"] == before["next"] + 1 and after["mark"] != before["mark"]
+    assert fetch(server, "mark")[1]["mark"] == after["mark"]
 
 
-def towns(count=9000):
-    """Points that gather round some places, as people do."""
-    draw = random.Random(4)
-    centres = [(draw.uniform(-9e5, 9e5), draw.uniform(-6e5, 6e5), draw.uniform(2e4, 1.6e5)) for _ in range(14)]
-    for _ in range(count):
-        x, y, wide = draw.choice(centres)
-        yield int(draw.gauss(x, wide)), int(draw.gauss(y, wide))
+def test_it_does_not_keep_writers_out(counting, tmp_path, shown):
+    """The folder's lock is had for no longer than an answer takes, and shared."""
+    folder = made(tmp_path / "a", counting)
+    server = shown(folder, counting)
+    with lock.locked(str(folder), shared=True):
+        assert view(server, (-100, -100, 100, 100))["points"] == len(points_of(folder))
+        assert fetch(server, "ask", {"kind": "nearest", "k": 1, "at": [0, 0], "x": 0, "y": 1})[0] == 200
+    for _ in range(20):
+        view(server, (-100, -100, 100, 100))
+        with bkd.open(folder, program=counting) as index:
+            index.add((1, 1))
 
 
-@pytest.mark.slow
-@pytest.mark.skipif(shutil.which("chromium") is None, reason="no chromium")
-def test_in_a_browser(filed, tmp_path, shown):
-    from chromium import Chromium
-    with bkd.open(tmp_path / "towns", leaf=64, program=filed) as index:
-        points = list(towns())
-        numbers = index.add_many(points[:6000])
-        index.flush()
-        index.add_many(points[6000:])
-        index.delete_many(numbers[::6])
-    server = shown(tmp_path / "towns", filed)
-    with Chromium(tmp_path / "profile") as page:
-        page.call("Page.navigate", url=f"http://127.0.0.1:{server.server_address[1]}/")
-        page.wait("document.body && document.body.dataset.ready === 'yes'")
-        assert "8000 live documents" in page.value("byId('about').textContent")
-        segments = fetch(server, "/index")[1]["segments"]
-        assert page.value("state.shown.cells.length") == sum(s["leaves"] for s in segments)
-        drawn = page.value("Array.from(ink.getImageData(0, 0, plane.width, plane.height).data)"
-                           ".filter((v, i) => i % 4 === 3 && v).length")
-        assert drawn > 10_000
-        mode = "document.querySelector('input[value={}]').click()"
-        answered = "document.body.dataset.answered === 'yes' && state.hits !== null"
-        for check in (check_nearest, check_polygon, check_box):
-            check(page, tmp_path / "towns", filed, mode, answered)
-        assert page.value("byId('error').textContent") == "" and page.errors == []
-        page.screenshot(tmp_path / "view.png")
-        assert (tmp_path / "view.png").stat().st_size > 20_000
-        if "BKD_SCREENSHOT" in os.environ:
-            shutil.copy(tmp_path / "view.png", os.environ["BKD_SCREENSHOT"])
+def test_the_check(counting, tmp_path, shown):
+    folder = made(tmp_path / "a", counting)
+    server = shown(folder, counting)
+    assert fetch(server, "check")[1] == {"state": "none"}
 
+    def checked():
+        _, told = fetch(server, "check", b"")
+        while told["state"] == "runs":
+            assert told["size"] > 0
+            told = fetch(server, "check")[1]
+        return told
 
-def told(folder, program, request):
-    """What the program answers, when the page's own question is done and the lock is free."""
-    with bkd.open(folder, program=program) as index:
-        return index.ask([request])[0]
-
-
-def check_box(page, folder, program, mode, answered):
-    page.value(mode.format("box"))
-    page.drag(250, 200, 520, 480)
-    page.wait(answered + " && state.query.kind === 'box'")
-    left, bottom, right, top = page.value("state.query.frame")
-    wanted = told(folder, program,
-                  requests.box([math.ceil(left), math.ceil(bottom)], [math.floor(right), math.floor(top)]))
-    assert len(wanted) > 10 and page.value("state.hits.numbers") == wanted
-    assert page.value("byId('answer').textContent").count("leaves touched") == 1
-
-
-def check_polygon(page, folder, program, mode, answered):
-    page.value(mode.format("polygon"))
-    for x, y in ((300, 150), (700, 200), (600, 600), (250, 500)):
-        page.click(x, y)
-    page.click(400, 300)
-    page.click(400, 300, clicks=2)
-    page.wait(answered + " && state.query.closed")
-    ring = [[round(x), round(y)] for x, y in page.value("state.query.ring")]
-    assert len(ring) == 5
-    assert page.value("state.hits.numbers") == told(folder, program, requests.polygon([[*ring, ring[0]]]))
-
-
-def check_nearest(page, folder, program, mode, answered):
-    page.value(mode.format("nearest"))
-    page.click(500, 400)
-    page.wait(answered + " && state.query.kind === 'nearest'")
-    at = [round(c) for c in page.value("state.query.at")]
-    assert [tuple(pair) for pair in page.value("state.hits.near")] == told(folder, program, requests.nearest(10, at))
+    told = checked()
+    assert told["state"] == "whole" and told["said"].startswith("ok dims 2")
+    if not works("check"):
+        return
+    name = next(name for name in sorted(os.listdir(folder)) if name.startswith("seg-"))
+    with open(folder / name, "r+b") as file:
+        file.seek(-4000, os.SEEK_END)
+        file.write(b"?")
+    told = checked()
+    assert told["state"] == "damaged" and name in told["said"]

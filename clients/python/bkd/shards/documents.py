@@ -1,7 +1,8 @@
 """Documents and queries in the form that goes to workers."""
 from __future__ import annotations
 
-from collections.abc import Iterable
+import json
+from collections.abc import Iterable, Sequence
 from dataclasses import dataclass
 from itertools import chain
 from typing import Any
@@ -10,6 +11,7 @@ import numpy
 
 from .. import requests
 from ..answers import HITS
+from ..errors import Refused
 from ..requests import Request
 
 Array = numpy.ndarray[Any, Any]
@@ -100,3 +102,25 @@ class Query:
         if self.polygon is not None:
             return Request("polygon " + self.polygon, HITS)
         return requests.nearest(self.k, self.at)
+
+    def check(self, dims: int) -> None:
+        """Raises `Refused` where the program would refuse it for its form in every folder."""
+        points = self.box if self.box is not None else () if self.polygon is not None else (self.at,)
+        if any(len(point) != dims for point in points):
+            raise Refused(self.request().line, "wrong words", 1)
+        for place, c in enumerate(c for point in points for c in point):
+            if not -(1 << 31) <= c < 1 << 31:
+                raise Refused(self.request().line, f"bad number in word {place + (3 if self.k else 2)}", 1)
+        if self.polygon is not None and dims != 2:
+            raise Refused(self.request().line, "not two dimensions", 1)
+
+    def bounds(self) -> tuple[Sequence[int], Sequence[int]]:
+        """The least and the greatest coordinates of what it may find; all where that can't be told."""
+        if self.box is not None:
+            return self.box
+        try:
+            positions = [position for ring in json.loads(self.polygon or "")["coordinates"] for position in ring]
+            across, up = [x for x, _ in positions], [y for _, y in positions]
+            return (min(across), min(up)), (max(across), max(up))
+        except (ValueError, KeyError, TypeError):
+            return (-(1 << 31),) * 2, ((1 << 31) - 1,) * 2

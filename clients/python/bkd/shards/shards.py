@@ -1,48 +1,55 @@
-"""An index over the folders of a layout, each asked by a task on a worker."""
+"""An index over the folders of a layout, which workers of Dask distributed have."""
 from __future__ import annotations
 
 import contextlib
+import os
 import time
-from collections.abc import Callable, Iterable, Mapping, Sequence
-from concurrent.futures import CancelledError
+import uuid
+from collections.abc import Iterable, Iterator, Mapping
 from types import TracebackType
-from typing import Any, SupportsIndex
+from typing import TYPE_CHECKING, Any, SupportsIndex
 
 import numpy
-from distributed import Client, Future, KilledWorker, wait
-from distributed import TimeoutError as NotYet
 
 from .. import requests
 from ..commands import Folder
-from ..errors import WorkerLost
-from ..requests import Point, coordinates
-from . import work
-from .documents import Array, Documents, Query, documents_of, keys_of
+from ..errors import Locked
+from ..requests import Point, Request, coordinates
+from .additions import Additions
+from .crew import Crew
+from .documents import Array, documents_of, keys_of
 from .layout import Layout
+from .locks import Locks
+from .outcomes import is_lost, take, unfinished
+from .queries import Asking, Moment
+from .rebalance import Rebalancing
 
-# seconds between two looks at the workers, and for how long there may be none
-_LOOK = 1.0
-_ALONE = 60.0
+if TYPE_CHECKING:
+    from distributed import Client
 
 
-class Shards:
+class Shards(Asking):
     """An index that is spread over folders; made by `bkd.shards.open`; a context manager.
 
-    What adds and deletes runs once, on one worker for each folder, and is committed there; where that worker dies
-    `WorkerLost` tells the folder, whose last run was done whole or not at all. A query is asked again on another worker
-    where its worker dies, but for folders that `workers` binds to one: then `WorkerLost` is raised, as it is where
-    there is no worker at all for a minute. Keys that stand twice name all their documents. One client may write at a
-    time; the layout is read when it is opened.
+    It answers as one index would, or raises: `NoIndex` and `Changed` name a folder that isn't there, or that holds
+    anything else than what was stored by its layout. The layout is read anew by each call. One client writes at a
+    time, and nobody asks meanwhile; who waits longer than `wait` seconds gets `Locked`. A worker that dies is replaced
+    by another, but for folders that are bound to it; then `WorkerLost` is raised. What changes is done in each
+    folder whole or not at all, and once: see `add_many`. Keys that stand twice name all their documents. One thread
+    uses it at a time.
     """
 
     def __init__(self, path: Folder, client: Client, program: Any, workers: Mapping[str, str] | None,
-                 owns: bool) -> None:
-        self._path = path
-        self.layout = Layout.read(path)
+                 owns: bool, wait: float) -> None:
+        super().__init__(Crew(client, program, workers or {}))
+        self._path = os.path.abspath(path)
+        self._additions = Additions(self._path, self._crew)
+        self._locks = Locks(self._path, wait)
         self._client = client
-        self._program = program
-        self._workers = dict(workers or {})
         self._owns = owns
+        self._seen: tuple[int, ...] = ()
+        self._layout = Layout.read(self._path)
+        self._moments = 0
 
     def __enter__(self) -> Shards:
         return self
@@ -55,174 +62,174 @@ class Shards:
         if self._owns:
             self._client.close()
 
-    # ---- changes
+    @property
+    def layout(self) -> Layout:
+        """The layout as its file has it now."""
+        told = os.stat(self._path)
+        seen = told.st_ino, told.st_mtime_ns, told.st_size
+        if seen != self._seen:
+            self._layout, self._seen = Layout.read(self._path), seen
+        return self._layout
 
-    def add_many(self, documents: Any, keys: Iterable[int] | Array | None = None) -> Array:
+    @contextlib.contextmanager
+    def _asking(self) -> Iterator[tuple[Layout, bool]]:
+        with self._locks.asking():
+            yield self.layout, False
+
+    @contextlib.contextmanager
+    def _alone(self) -> Iterator[Layout]:
+        """The layout, to be changed. It is written by who changes it; what isn't written is read anew."""
+        if self._moments:
+            raise Locked("nothing is changed within a snapshot of this client's own")
+        with self._locks.writing(), self._locks.alone():
+            self._seen = ()
+            try:
+                yield self.layout
+            finally:
+                self._seen = ()
+
+    @contextlib.contextmanager
+    def snapshot(self) -> Iterator[Moment]:
+        """The documents of one moment over all folders; who writes waits until it ends. Raises `Locked` where somebody
+        writes, `Changed` where a call of a client that died is still being done."""
+        with self._locks.asking():
+            layout = Layout.read(self._path)
+            made = {at: () for at, place in enumerate(layout.places) if place.mark is not None}
+            for at, state in self._crew.each("about", layout, made).items():
+                layout.places[at].order, layout.places[at].mark = state.order, state.mark
+            self._moments += 1
+            try:
+                yield Moment(self._crew, layout)
+            finally:
+                self._moments -= 1
+
+    # ---- additions
+
+    def add(self, document: Any, key: int | None = None) -> int:
+        """Adds a document, as `Index.add` takes it, and answers its key."""
+        return int(self.add_many([document], None if key is None else [key])[0])
+
+    def add_many(self, documents: Any, keys: Iterable[int] | Array | None = None, *,
+                 token: str | None = None) -> Array:
         """Adds documents, an array of shape (n, dims) or an iterable of what `Index.add` takes, and answers their keys.
 
         `keys` are whole numbers of 64 bits, one for each document; where they are left out the documents are counted
-        on from those ever added. All documents of a folder are committed at once, or none.
+        on from those ever added. Each folder stores its part in one commit (a million documents in each, where it gets
+        more), tried again on another worker where one dies.
+
+        With a `token`, any text, the call is done once however often it is made: again with the same token and the
+        same documents it does what isn't done yet. Where parts can't be stored `Unfinished` or `WorkerLost` tell which
+        are and the token; where none is, nothing has happened and the cause is raised. The last thousand tokens
+        are known.
         """
-        found = documents_of(documents, self.layout.dims)
-        named = numpy.arange(len(found)) + self.layout.given if keys is None else keys_of(keys)
-        if len(named) != len(found):
-            raise ValueError(f"{len(named)} keys for {len(found)} documents")
-        places = self.layout.place(found.points[found.begins()])
-        parts: dict[int, tuple[Documents, Array]] = {}
-        for place in numpy.unique(places).tolist():
-            rows = numpy.flatnonzero(places == place)
-            parts[place] = found.chosen(rows), named[rows]
-            self.layout.widen(place, parts[place][0].points)
-        # before the documents are there, so that the bounds are never too small
-        self.layout.write(self._path)
-        layout = self.layout
-        self._once(work.add, {place: (self._program, layout.dims, layout.leaf, *parts[place]) for place in parts})
-        return named
+        name = token or uuid.uuid4().hex
+        with self._alone() as layout:
+            found = documents_of(documents, layout.dims)
+            given = None if keys is None else keys_of(keys)
+            if given is not None and len(given) != len(found):
+                raise ValueError(f"{len(given)} keys for {len(found)} documents")
+            firsts = found.points[found.begins()]
+            call = layout.calls.get(name) or layout.begin(name, firsts)
+            if call.count != len(found):
+                raise ValueError(f"token {name} is of {call.count} documents, not of {len(found)}")
+            named = numpy.arange(len(found)) + call.first if given is None else given
+            if not call.is_done:
+                self._additions.add(layout, name, call, found, named, layout.place(firsts, call))
+            return named
 
-    def delete_many(self, keys: Iterable[int] | Array) -> int:
-        """Deletes the documents of these keys, and answers how many were live."""
+    # ---- deletions
+
+    def delete(self, key: SupportsIndex) -> bool:
+        """Deletes the documents of this key; False where none was live."""
+        return self.delete_many([int(key)]) > 0
+
+    def delete_many(self, keys: Iterable[int] | Array, *, token: str | None = None) -> int:
+        """Deletes the documents of these keys, and answers how many were live. With a `token` it answers the same again
+        where the call is made again."""
         found = keys_of(keys)
-        return sum(self._once(work.delete, {place: (self._program, found) for place in self._all()}).values())
+        with self._alone() as layout:
+            return self._change(layout, "delete", layout.holding(), token, found)
 
-    def delete_box(self, lo: Point, hi: Point) -> int:
-        """Deletes the documents that have a point in the box, and answers how many."""
-        request = requests.delete_box(lo, hi)
-        asked = {place: (self._program, request) for place in self.layout.meeting(coordinates(lo), coordinates(hi))}
-        return sum(count or 0 for count in self._once(work.change, asked).values())
+    def delete_box(self, lo: Point, hi: Point, *, token: str | None = None) -> int:
+        """Deletes the documents that have a point in the box, and answers how many; a token is as of `delete_many`."""
+        request, low, high = requests.delete_box(lo, hi), coordinates(lo), coordinates(hi)
+        with self._alone() as layout:
+            places = [at for at, place in enumerate(layout.places) if place.meets(low, high)]
+            return self._change(layout, "change", places, token, request)
 
     def merge(self) -> None:
         """Merges each folder's segments into one."""
-        self._once(work.change, {place: (self._program, requests.MERGE) for place in self._all()})
+        with self._alone() as layout:
+            self._change(layout, "change", layout.holding(), None, requests.MERGE)
 
-    # ---- queries
+    def _change(self, layout: Layout, method: str, places: Iterable[int], token: str | None,
+                word: Request | Array) -> int:
+        name, failed = token or uuid.uuid4().hex, dict[int, BaseException]()
+        asked = {at: (name, word) for at in places}
+        told = self._crew.each(method, layout, asked, failed=failed)
+        take(layout, told)
+        if told:
+            layout.write(self._path)
+        if failed and not any(outcome.gone for outcome in told.values()) and not is_lost(failed):
+            raise failed[min(failed)]
+        if failed:
+            raise unfinished(layout, name, list(asked), failed)
+        return sum(outcome.gone for outcome in told.values())
 
-    def box(self, lo: Point, hi: Point) -> Array:
-        """The keys, ascending, of the documents that have a point in the box."""
-        return self.ask([box(lo, hi)])[0]
+    # ---- after a fault
 
-    def polygon(self, shape: Any) -> Array:
-        """The keys, ascending, of the documents that have a point in a polygon, as `Index.polygon` takes it."""
-        return self.ask([polygon(shape)])[0]
+    def recover(self) -> dict[str, bool]:
+        """Ends the additions that weren't done to their end, and answers of each token whether it is stored.
 
-    def nearest(self, k: SupportsIndex, at: Point) -> list[tuple[int, int]]:
-        """The `k` nearest documents as (key, squared distance), ascending by distance, then key."""
-        return self.ask([nearest(k, at)])[0]
+        One whose parts are all stored is; of another what was stored is taken back, so that its call may be
+        made again. Folders that a rebalance has left are removed. Raises `WorkerLost`, `NoIndex` or `Changed` where a
+        folder can't be asked; then it may be done again.
+        """
+        with self._alone() as layout:
+            told = {}
+            for name, call in [(name, call) for name, call in layout.calls.items() if not call.is_done]:
+                told[name] = self._additions.end(layout, name, call)
+            self._remove_left(layout)
+            made = {at: () for at, place in enumerate(layout.places) if place.mark is not None}
+            for at, state in self._crew.each("about", layout, made).items():
+                place = layout.places[at]
+                place.order, place.mark, place.live = state.order, state.mark, state.live
+            layout.write(self._path)
+            return told
 
-    def ask(self, queries: Sequence[Query]) -> list[Any]:
-        """What many queries of `box`, `polygon` and `nearest` of `bkd.shards` find;
-        each folder does them in one run."""
-        where = {place: [i for i, query in enumerate(queries) if self._may_find(place, query)] for place in self._all()}
-        asked = {place: (self._program, [queries[i] for i in rows]) for place, rows in where.items() if rows}
-        found: list[list[Any]] = [[] for _ in queries]
-        for place, values in self._again(work.ask, asked).items():
-            for i, value in zip(where[place], values):
-                found[i].append(value)
-        return [_joined(query, parts) for query, parts in zip(queries, found)]
+    # ---- cells
 
-    def about(self) -> list[tuple[str, int, int]]:
-        """Of each folder its path, how many documents it was given, and how many are live."""
-        found = self._again(work.about, {place: () for place in self._all()})
-        return [(self.layout.folders[place], *found[place]) for place in sorted(found)]
+    def rebalance(self) -> int:
+        """Splits cells that have more than twice as many documents as others have, merges those that have few with
+        their neighbours, and answers how many cells it made anew.
 
-    def _all(self) -> range:
-        return range(len(self.layout.folders))
+        Queries go on meanwhile; who writes waits. Additions that aren't done to their end are to be recovered
+        before. Folders are made beside those that they stand for, on the same worker where they are bound.
+        """
+        with self._locks.writing():
+            return Rebalancing(self._path, self._crew, self._locks).run()
 
-    def _may_find(self, place: int, query: Query) -> bool:
-        known = self.layout.bounds[place]
-        return known is not None and (query.box is None or place in self.layout.meeting(*query.box))
-
-    # ---- tasks
-
-    def _once(self, task: Callable[..., Any], asked: Mapping[int, tuple[Any, ...]]) -> dict[int, Any]:
-        """Runs a task on folders, each on one worker and on no other."""
-        addresses = sorted(self._client.scheduler_info()["workers"])
-        if asked and not addresses:
-            raise WorkerLost(self.layout.folders[min(asked)], "there is no worker")
-        bound = {place: self._workers.get(self.layout.folders[place]) or addresses[place % len(addresses)]
-                 for place in asked}
-        return self._gathered({place: self._submit(task, place, words, bound[place])
-                               for place, words in asked.items()}, bound)
-
-    def _again(self, task: Callable[..., Any], asked: Mapping[int, tuple[Any, ...]]) -> dict[int, Any]:
-        """Runs a task that changes nothing on folders: on any worker, and on another where that one dies."""
-        bound = {place: self._workers.get(self.layout.folders[place]) for place in asked}
-        return self._gathered({place: self._submit(task, place, words, bound[place])
-                               for place, words in asked.items()}, bound)
-
-    def _submit(self, task: Callable[..., Any], place: int, words: tuple[Any, ...], worker: str | None) -> Future:
-        only: dict[str, Any] = {} if worker is None else {"workers": [worker], "allow_other_workers": False}
-        # what may be large goes to its worker straight, and not through the scheduler
-        given = [self._client.scatter(word, workers=only.get("workers"), hash=False)
-                 if isinstance(word, (Documents, numpy.ndarray)) else word for word in words]
-        return self._client.submit(task, self.layout.folders[place], *given, pure=False, **only)
-
-    def _gathered(self, futures: dict[int, Future], bound: Mapping[int, str | None]) -> dict[int, Any]:
-        """What tasks answer; a worker that a task is bound to and that isn't there any more is told."""
-        seen = time.monotonic()
-        while not all(future.done() for future in futures.values()):
-            with contextlib.suppress(NotYet, CancelledError):
-                wait(list(futures.values()), timeout=_LOOK)
-            there = self._client.scheduler_info()["workers"]
-            seen = time.monotonic() if there else seen
-            for place, worker in bound.items():
-                if worker is not None and worker not in there and not futures[place].done():
-                    self._give_up(futures, place, f"worker {worker} died")
-                if time.monotonic() > seen + _ALONE and not futures[place].done():
-                    self._give_up(futures, place, f"there was no worker for {_ALONE:.0f} seconds")
-        return {place: self._result(place, future) for place, future in futures.items()}
-
-    def _result(self, place: int, future: Future) -> Any:
-        try:
-            return future.result()
-        except KilledWorker as error:
-            raise WorkerLost(self.layout.folders[place], f"workers died again and again: {error}") from error
-        except CancelledError as error:  # what it was given went with its worker
-            raise WorkerLost(self.layout.folders[place], "its worker died") from error
-
-    def _give_up(self, futures: dict[int, Future], place: int, why: str) -> None:
-        self._client.cancel(list(futures.values()), force=True)
-        raise WorkerLost(self.layout.folders[place], why)
-
-
-def box(lo: Point, hi: Point) -> Query:
-    """A query for `Shards.ask`: the documents that have a point in a box."""
-    return Query(box=(coordinates(lo), coordinates(hi)))
-
-
-def polygon(shape: Any) -> Query:
-    """A query for `Shards.ask`: the documents that have a point in a polygon."""
-    return Query(polygon=requests.geojson(shape))
-
-
-def nearest(k: SupportsIndex, at: Point) -> Query:
-    """A query for `Shards.ask`: the `k` nearest documents, 1 to 10,000."""
-    if not 1 <= int(k) <= 10_000:
-        raise ValueError(f"k is 1 to 10,000, not {k}")
-    return Query(k=int(k), at=coordinates(at))
-
-
-def _joined(query: Query, parts: list[Any]) -> Any:
-    """The answers of all folders as one."""
-    if query.k:
-        return [(key, distance) for distance, key in sorted(near for part in parts for near in part)[:query.k]]
-    return numpy.sort(numpy.concatenate([numpy.empty(0, dtype=numpy.int64), *parts]))
+    def _remove_left(self, layout: Layout) -> None:
+        Rebalancing(self._path, self._crew, self._locks).remove_left(layout)
 
 
 def open(path: Folder, client: Client | str | None = None, *, program: Any = None,
-         workers: Mapping[str, str] | None = None, wait_for: float = 60.0) -> Shards:
+         workers: Mapping[str, str] | None = None, wait_for: float = 60.0, wait: float = 600.0) -> Shards:
     """Opens the index of a layout that `bkd.shards.create` wrote.
 
     `client` is a Dask client, the address of a scheduler, or None for a local cluster, and is waited for `wait_for`
-    seconds until it has a worker. `program` is found on the workers as `bkd.open` finds it. `workers` gives folders
-    that aren't shared, each with the address of the worker that has it.
+    seconds until it has a worker; a client with `direct_to_workers=True` spares each query a way over the scheduler.
+    `program` is found on the workers as `bkd.open` finds it. `workers` gives folders other workers than the layout
+    binds them to, by name or address. `wait` is for how many seconds another client that writes is waited for.
     """
+    from distributed import Client
     owns = not isinstance(client, Client)
-    found = client if isinstance(client, Client) else Client(client)
+    found = client if isinstance(client, Client) else Client(client, direct_to_workers=True)
     until = time.monotonic() + wait_for
     while not found.scheduler_info()["workers"] and time.monotonic() < until:
         time.sleep(0.1)
     try:
-        return Shards(path, found, program, workers, owns)
+        return Shards(path, found, program, workers, owns, wait)
     except BaseException:
         if owns:
             found.close()

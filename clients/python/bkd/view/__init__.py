@@ -1,4 +1,5 @@
 """A page that shows an index: `python -m bkd.view FOLDER`."""
-from .server import Viewer, serve
+from .answers import Viewer
+from .server import Server, serve
 
-__all__ = ["Viewer", "serve"]
+__all__ = ["Server", "Viewer", "serve"]

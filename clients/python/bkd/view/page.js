@@ -1,292 +1,326 @@
-/* The page of `python -m bkd.view`: draws what the server tells of the index, and asks what is drawn by mouse. */
+/* The page of `python -m bkd.view`: shows what the server tells of the index, and asks what is drawn. */
 "use strict";
-const COLOURS = ["#27509b", "#d17b0f", "#2a7f4f", "#8e44ad", "#8c564b", "#c2478f", "#6b7280", "#9a8c12", "#1798a6", "#b03a2e"];
-const FOUND = "#d1495b";
 const byId = name => document.getElementById(name);
-const plane = byId("plane"), ink = plane.getContext("2d");
-const state = { about: null, frame: null, shown: null, hits: null, drag: null, ring: [], query: null, wait: 0 };
+const state = {
+  about: null, view: null, answer: null, query: null, drawing: false, ring: [], corner: null, cross: null, pointers: new Map(), drag: null,
+  pinch: null, past: [], wait: 0, slow: true, asked: 0, viewed: 0,
+};
+// milliseconds between two looks at the commit, before a view is asked for, and that make one slow, so that the next
+// is first asked for by larger squares; steps that may be taken back
+const EVERY = 500, LATER = 60, SLOW = 400, MOST_PAST = 100;
 
 const mode = () => document.querySelector("input[name=mode]:checked").value;
 const axes = () => ({ x: +byId("x").value, y: +byId("y").value });
-const colour = segment => COLOURS[segment % COLOURS.length];
+const isFlat = () => state.about && state.about.dims === 1;
+const many = (n, word) => `${n.toLocaleString("en")} ${word}${n === 1 ? "" : "s"}`;
 
-function toScreen(x, y) {
-  const [left, bottom, right, top] = state.frame;
-  return [(x - left) / (right - left) * plane.clientWidth, (top - y) / (top - bottom) * plane.clientHeight];
-}
-
-function toPlane(px, py) {
-  const [left, bottom, right, top] = state.frame;
-  return [left + px / plane.clientWidth * (right - left), top - py / plane.clientHeight * (top - bottom)];
-}
-
-/* A frame round these sides, of the form of the canvas and with some room. */
-function fitted(left, bottom, right, top) {
-  const form = plane.clientWidth / plane.clientHeight;
-  const height = Math.max(top - bottom, (right - left) / form, 1) * 1.08, width = height * form;
-  const x = (left + right) / 2, y = (bottom + top) / 2;
-  return [x - width / 2, y - height / 2, x + width / 2, y + height / 2];
-}
-
-function showAll() {
-  const bounds = state.about.bounds || [[0, 0], [1, 1]], { x, y } = axes();
-  const one = state.about.dims === 1;
-  state.frame = fitted(bounds[0][x], one ? 0 : bounds[0][y], bounds[1][x], one ? 0 : bounds[1][y]);
-  refresh();
-}
+/* ---- the server */
 
 async function fetched(path, options) {
-  const reply = await fetch(path, options), told = await reply.json();
-  if (!reply.ok) throw new Error(told.error);
+  let reply;
+  try {
+    reply = await fetch(path, options);
+  } catch {
+    throw new Error("the server doesn't answer");
+  }
+  const told = await reply.json();
+  if (!reply.ok) throw Object.assign(new Error(told.error), { status: reply.status });
   return told;
 }
 
-/* Runs some work and shows what goes wrong. */
+/* Runs some work and shows what goes wrong; answers whether it went well. */
 async function tried(work) {
   try {
-    byId("error").textContent = "";
     await work();
+    byId("error").textContent = "";
+    return true;
   } catch (error) {
     byId("error").textContent = error.message;
+    return false;
   }
 }
 
 function refresh() {
   draw();
   clearTimeout(state.wait);
-  state.wait = setTimeout(() => tried(async () => {
-    const { x, y } = axes(), asked = state.frame;
-    const columns = Math.ceil(plane.clientWidth / 5), rows = Math.ceil(plane.clientHeight / 5);
-    const shown = await fetched("/view?" + new URLSearchParams({ x, y, frame: asked.join(","), columns, rows }));
-    if (asked !== state.frame) return;
-    state.shown = { ...shown, frame: asked };
-    draw();
-    document.body.dataset.ready = "yes";
-  }), 60);
+  state.wait = setTimeout(() => tried(loadView), LATER);
 }
+
+async function loadView() {
+  const room = inside(), number = ++state.viewed, asked = frame;
+  for (const dots of state.slow ? [24, 4] : [4]) {
+    const columns = Math.ceil(room.width / dots), rows = Math.ceil(room.height / dots), begun = performance.now();
+    const told = await fetched("view?" + new URLSearchParams({ ...axes(), frame: asked.join(","), columns, rows }));
+    if (number !== state.viewed) return;
+    state.view = told;
+    draw();
+    tellShown();
+    document.body.dataset.ready = "yes";
+    if (told.across === 1 && told.up === 1) return;
+    if (dots === 4) state.slow = performance.now() > begun + SLOW;
+  }
+}
+
+/* Looks whether another commit was stored; then all is asked anew. */
+async function watch() {
+  if (!document.hidden && state.about) {
+    try {
+      const { mark } = await fetched("mark");
+      if (mark !== state.about.mark) {
+        await loadAbout();
+        await loadView();
+        if (state.query && state.answer) await loadAnswer();
+      }
+      if (byId("error").dataset.from === "watch") byId("error").textContent = "";
+      delete byId("error").dataset.from;
+    } catch (error) {
+      byId("error").textContent = error.message;
+      byId("error").dataset.from = "watch";
+    }
+  }
+  setTimeout(watch, EVERY);
+}
+
+/* ---- drawing */
 
 function draw() {
-  const scale = window.devicePixelRatio || 1;
-  plane.width = plane.clientWidth * scale;
-  plane.height = plane.clientHeight * scale;
-  ink.setTransform(scale, 0, 0, scale, 0, 0);
-  if (state.shown) {
-    if (state.shown.density) drawDensity();
-    if (byId("cells").checked) drawCells();
-    if (state.shown.points) drawPoints();
-  }
-  drawHits();
-  drawQuery();
+  if (!frame) return;
+  clear();
+  drawAxes(isFlat());
+  clipped(() => {
+    if (state.view) drawSquares(state.view, state.view.squares, colours.many, .18, isFlat());
+    const found = state.answer && state.answer.drawn;
+    if (found) {
+      drawSquares(found, found.partly, colours.partly, .35, isFlat());
+      drawSquares(found, found.squares, colours.found, .3, isFlat());
+    }
+    drawQuery(state.query, isFlat());
+    if (state.cross && mode() !== "move") drawCross(state.cross);
+  });
 }
 
-function drawCells() {
-  ink.lineWidth = 0.8;
-  for (const cell of state.shown.cells) {
-    const [left, bottom, right, top] = cell.sides, [x, y] = toScreen(left, top), [x2, y2] = toScreen(right, bottom);
-    ink.strokeStyle = colour(cell.segment);
-    ink.globalAlpha = 0.25 + 0.55 * cell.live / cell.entries;
-    ink.strokeRect(x, y, Math.max(x2 - x, 1), Math.max(y2 - y, 1));
-  }
-  ink.globalAlpha = 1;
+function size(view) {
+  if (view.across === 1 && view.up === 1) return "one by one";
+  const told = [view.across, view.up].slice(0, isFlat() ? 1 : 2).map(n => scale.unit > 1 ? `${(n / scale.unit).toPrecision(2)}${scale.sign}` : n.toLocaleString("en"));
+  return `by ${isFlat() ? "pieces" : "squares"} of ${told.join(" \u00d7 ")}, ${many(view.most, "point")} in the fullest`;
 }
 
-function drawPoints() {
-  const dead = byId("dead").checked;
-  for (const [px, py, , live] of state.shown.points) {
-    if (!live && !dead) continue;
-    const [x, y] = toScreen(px, py);
-    ink.fillStyle = live ? "#1d2733" : "#c3cad1";
-    ink.fillRect(x - 1.2, y - 1.2, 2.4, 2.4);
+function tellShown() {
+  byId("shown").textContent = `${many(state.view.points, "point")} in view, drawn ${size(state.view)}`;
+}
+
+/* ---- steps that may be taken back */
+
+function keep() {
+  state.past.push({ frame, query: state.answer && state.query, answer: state.answer });
+  if (state.past.length > MOST_PAST) state.past.shift();
+}
+
+/* Begins to draw a question; what was answered before comes again where it isn't asked. */
+function startDrawing() {
+  if (state.drawing) return;
+  keep();
+  ++state.asked;
+  Object.assign(state, { drawing: true, answer: null });
+}
+
+/* Lets what is being drawn go. */
+function cancel() {
+  const { query, answer } = state.past.pop();
+  Object.assign(state, { drawing: false, ring: [], corner: null, drag: null, query, answer });
+  byId("done").hidden = true;
+  showAnswer();
+  draw();
+}
+
+function undo() {
+  if (state.ring.length > 1) {
+    state.ring.pop();
+    state.query = { kind: "polygon", ring: [...state.ring] };
+    byId("done").hidden = state.ring.length < 3;
+    draw();
+  } else if (state.drawing) {
+    cancel();
+  } else if (state.past.length) {
+    const last = state.past.pop();
+    Object.assign(state, { query: last.query, answer: last.answer });
+    frame = last.frame;
+    ++state.asked;
+    showAnswer();
+    refresh();
   }
 }
 
-function drawDensity() {
-  const [columns, rows] = state.shown.grid, [left, bottom, right, top] = state.shown.frame;
-  const most = Math.max(...state.shown.density.map(square => square[2]), 1);
-  for (const [column, row, n] of state.shown.density) {
-    const [x, y] = toScreen(left + column / columns * (right - left), bottom + (row + 1) / rows * (top - bottom));
-    const [x2, y2] = toScreen(left + (column + 1) / columns * (right - left), bottom + row / rows * (top - bottom));
-    ink.fillStyle = `rgba(39, 80, 155, ${0.12 + 0.88 * Math.log1p(n) / Math.log1p(most)})`;
-    ink.fillRect(x, y, x2 - x + 0.5, y2 - y + 0.5);
-  }
+/* Lets go what is being drawn, or else the answer. */
+function letGo() {
+  if (state.drawing) return cancel();
+  if (!state.query) return;
+  keep();
+  ++state.asked;
+  Object.assign(state, { query: null, answer: null });
+  showAnswer();
+  draw();
 }
 
-function drawHits() {
-  if (!state.hits) return;
-  ink.fillStyle = FOUND;
-  for (const [px, py] of state.hits.points) {
-    const [x, y] = toScreen(px, py);
-    ink.beginPath();
-    ink.arc(x, y, 2.6, 0, 7);
-    ink.fill();
-  }
+function show(next) {
+  keep();
+  frame = next;
+  refresh();
 }
 
-function drawQuery() {
-  ink.strokeStyle = FOUND;
-  ink.lineWidth = 1.6;
-  const query = state.query;
-  if (!query) return;
-  ink.beginPath();
-  if (query.kind === "box") {
-    const [left, bottom, right, top] = query.frame, [x, y] = toScreen(left, top), [x2, y2] = toScreen(right, bottom);
-    ink.rect(x, y, x2 - x, y2 - y);
-  } else if (query.kind === "polygon") {
-    query.ring.forEach((p, i) => ink[i ? "lineTo" : "moveTo"](...toScreen(...p)));
-    if (query.closed) ink.closePath();
-  } else {
-    const [x, y] = toScreen(...query.at);
-    ink.moveTo(x - 7, y);
-    ink.lineTo(x + 7, y);
-    ink.moveTo(x, y - 7);
-    ink.lineTo(x, y + 7);
-  }
-  ink.stroke();
+function showAll() {
+  const { dims, bounds } = state.about, { x, y } = axes();
+  const [low, high] = bounds || [Array(dims).fill(0), Array(dims).fill(100)];
+  show(fitted(low[x], isFlat() ? 0 : low[y], high[x], isFlat() ? 0 : high[y]));
 }
+
+/* ---- questions */
 
 function ask(query) {
-  state.query = query;
-  state.hits = null;
+  if (!state.drawing) keep();
+  Object.assign(state, { query, answer: null, drawing: false, ring: [], corner: null });
+  byId("done").hidden = true;
   draw();
-  return tried(async () => {
-    delete document.body.dataset.answered;
-    const body = JSON.stringify({ ...query, ...axes(), k: +byId("k").value });
-    const told = await fetched("/ask", { method: "POST", headers: { "Content-Type": "application/json" }, body });
-    state.hits = told;
-    showAnswer(told);
+  delete document.body.dataset.answered;
+  return tried(loadAnswer).finally(() => { document.body.dataset.answered = "yes"; });
+}
+
+async function loadAnswer() {
+  const number = ++state.asked;
+  byId("answer").textContent = "asks \u2026";
+  const body = JSON.stringify({ ...state.query, ...axes(), k: +byId("k").value });
+  try {
+    const told = await fetched("ask", { method: "POST", headers: { "Content-Type": "application/json" }, body });
+    if (number !== state.asked) return;
+    state.answer = told;
+    if (told.near && told.near.length) state.query = { ...state.query, reach: Math.sqrt(told.near.at(-1)[1]) };
+  } finally {
+    showAnswer();
     draw();
-  }).finally(() => { document.body.dataset.answered = "yes"; });
-}
-
-function text(tag, content) {
-  const made = document.createElement(tag);
-  made.textContent = content;
-  return made;
-}
-
-function table(rows) {
-  const made = document.createElement("table");
-  for (const row of rows) {
-    const line = made.insertRow();
-    for (const value of row) line.insertCell().textContent = value;
   }
-  return made;
 }
 
-function showAnswer(told) {
-  const { tested, touched, found } = told.explained, rows = [["documents found", told.count]];
-  if (tested !== null) rows.push(["entries tested", tested]);
-  rows.push(["leaves touched", touched], ["found in the stored segments", found], ["run of the program", told.milliseconds.toFixed(1) + " ms"]);
-  const numbers = text("div", told.near ? "" : told.numbers.slice(0, 500).join(" ") + (told.count > 500 ? " .." : ""));
-  numbers.id = "numbers";
-  if (told.near) numbers.append(table([["number", "distance squared"], ...told.near.slice(0, 500)]));
-  byId("answer").replaceChildren(text("code", told.line), table(rows), numbers);
+function made(tag, content, name) {
+  const it = document.createElement(tag);
+  it.textContent = content;
+  if (name) it.id = name;
+  return it;
 }
 
-function showAbout() {
-  const { folder, dims, leaf, next, given, segments } = state.about;
+function listed(pairs) {
+  const list = document.createElement("dl");
+  for (const [name, value] of pairs) list.append(made("dt", name), made("dd", typeof value === "number" ? value.toLocaleString("en") : value));
+  return list;
+}
+
+function showAnswer() {
+  const told = state.answer;
+  if (!told) {
+    byId("answer").textContent = "Nothing was asked. Draw a box, a polygon, or a place whose nearest are wanted.";
+    return;
+  }
+  const { tested, touched } = told.explained, parts = [made("code", told.line)];
+  const rows = [["documents found", told.count]];
+  if (told.drawn) {
+    rows.push([told.kind === "nearest" ? "points that are as near" : "points found", told.drawn.points]);
+    const partly = told.drawn.partly.reduce((sum, square) => sum + square[2], 0);
+    if (partly) rows.push(["points in squares that an edge meets", partly]);
+  }
+  if (tested !== null) rows.push(["points tested, in leaves that its edge crosses", tested]);
+  rows.push(["leaves read at most", touched]);
+  if (told.milliseconds !== null) rows.push(["run of the program", told.milliseconds.toFixed(1) + " ms"]);
+  parts.push(listed(rows));
+  parts.push(made("p", told.drawn ? `Drawn ${size(told.drawn)}.` : "Where they lie isn't drawn in these dimensions.", "drawn"));
+  parts.push(numbersOf(told));
+  byId("answer").replaceChildren(...parts);
+}
+
+function numbersOf(told) {
+  const part = made("div", "", "numbers");
+  if (told.near) {
+    if (told.count > told.near.length) part.append(made("p", `The first ${told.near.length} of ${told.count.toLocaleString("en")}:`));
+    const table = document.createElement("table"), head = table.createTHead().insertRow();
+    for (const name of ["number", "squared distance"]) head.append(Object.assign(made("th", name), { scope: "col" }));
+    const body = table.createTBody();
+    for (const [number, distance] of told.near) {
+      const line = body.insertRow();
+      line.insertCell().textContent = number;
+      line.insertCell().textContent = distance.toLocaleString("en");
+    }
+    part.append(table);
+  } else if (!told.numbers) {
+    part.append(made("p", "They are too many to list their numbers."));
+  } else {
+    if (told.count > told.numbers.length) part.append(made("p", `The first ${told.numbers.length} of ${told.count.toLocaleString("en")} numbers:`));
+    part.append(made("p", told.numbers.join(" ")));
+  }
+  return part;
+}
+
+/* ---- the index */
+
+async function loadAbout() {
+  const first = !state.about;
+  state.about = await fetched("about");
+  const { folder, dims, leaf, next, given, live, segments, files } = state.about;
   byId("folder").textContent = folder.split("/").pop();
-  byId("folder").title = folder;
-  const live = segments.reduce((sum, segment) => sum + segment.live, 0);
-  byId("about").textContent = `${live} live documents in ${dims} dimensions, leaves of ${leaf}, next number ${next}, ${given} points given`;
-  const head = document.createElement("tr");
-  head.append(...["id", "entries", "live", "leaves", "form"].map(name => text("th", name)));
-  byId("segments").replaceChildren(head);
-  segments.forEach((segment, at) => {
-    const line = byId("segments").insertRow();
-    for (const value of [segment.id, segment.entries, segment.live, segment.leaves, segment.form]) line.insertCell().textContent = value;
-    const swatch = document.createElement("span");
-    swatch.className = "swatch";
-    swatch.style.background = colour(at);
-    line.cells[0].prepend(swatch);
-  });
+  byId("path").textContent = folder;
+  document.title = `${folder.split("/").pop()} \u2013 bkd`;
+  byId("fresh").textContent = `${many(live, "live document")}, as stored at ${new Date().toLocaleTimeString("en-GB")}`;
+  const stored = segments.reduce((sum, one) => sum + one.entries, 0), bytes = files.reduce((sum, one) => sum + (one.kind === "needed" ? one.size : 0), 0);
+  byId("about").replaceChildren(...listed([["dimensions", dims], ["live documents", live], ["points stored, deleted ones among them", stored],
+    ["next number", next], ["points ever given", given], ["points a leaf at most", leaf], ["bytes needed", bytes]]).children);
+  byId("segments").replaceChildren(...segments.map(one => row([one.id, one.entries, one.live, one.leaves])));
+  byId("files").replaceChildren(...files.map(one => row([one.name, one.size, one.kind === "needed" ? "yes" : one.kind])));
+  if (first) chooseAxes();
+}
+
+function row(values) {
+  const line = document.createElement("tr");
+  for (const value of values) line.insertCell().textContent = typeof value === "number" ? value.toLocaleString("en") : value;
+  return line;
+}
+
+function chooseAxes() {
+  const { dims, bounds, degrees } = state.about;
   for (const [name, chosen] of [["x", 0], ["y", Math.min(1, dims - 1)]]) {
     byId(name).replaceChildren(...Array.from({ length: dims }, (_, d) => new Option(d, d, false, d === chosen)));
   }
+  byId("axes").hidden = dims < 3;
+  byId("degrees").checked = degrees === null ? lookLikeDegrees() : degrees;
+  chooseScale();
 }
 
-/* ---- the mouse */
-
-function at(event) {
-  const box = plane.getBoundingClientRect();
-  return [event.clientX - box.left, event.clientY - box.top];
+/* Whether coordinates may be longitude and latitude: where the index tells no other scale, and they go far enough. */
+function lookLikeDegrees() {
+  const { dims, bounds, decimals } = state.about, unit = 10 ** (decimals ?? 7);
+  if (dims !== 2 || !bounds || decimals === 0) return false;
+  const [[west, south], [east, north]] = bounds.map(corner => corner.map(c => c / unit));
+  return Math.min(west, east) >= -180 && Math.max(west, east) <= 180 && Math.min(south, north) >= -90 && Math.max(south, north) <= 90 && east - west > 5;
 }
 
-plane.addEventListener("pointerdown", event => {
-  plane.setPointerCapture(event.pointerId);
-  state.drag = { from: at(event), frame: state.frame, begin: toPlane(...at(event)) };
-});
+/* Numbers are told in the index's own scale, or as degrees at 10^-7. */
+function chooseScale() {
+  const { decimals } = state.about, isDegrees = byId("degrees").checked;
+  scale = { unit: 10 ** (decimals ?? (isDegrees ? 7 : 0)), sign: isDegrees ? "\u00b0" : "" };
+}
 
-plane.addEventListener("pointermove", event => {
-  const here = at(event), [x, y] = toPlane(...here);
-  byId("where").textContent = `${Math.round(x)} ${Math.round(y)}`;
-  if (!state.drag) return;
-  if (mode() === "move") {
-    const [left, bottom, right, top] = state.drag.frame;
-    const dx = (here[0] - state.drag.from[0]) / plane.clientWidth * (right - left);
-    const dy = (here[1] - state.drag.from[1]) / plane.clientHeight * (top - bottom);
-    state.frame = [left - dx, bottom + dy, right - dx, top + dy];
-    refresh();
-  } else if (mode() === "box") {
-    state.hits = null;
-    state.query = { kind: "box", frame: sides(state.drag.begin, [x, y]) };
-    draw();
+/* ---- the check */
+
+async function check() {
+  let told = await fetched("check", { method: "POST" });
+  byId("check").disabled = true;
+  try {
+    while (told.state === "runs") {
+      byId("progress").hidden = false;
+      byId("progress").value = told.size ? Math.min(told.read / told.size, 1) : 0;
+      byId("checked").textContent = `reads: ${many(told.read, "byte")} of ${told.size.toLocaleString("en")}`;
+      await new Promise(done => setTimeout(done, EVERY / 2));
+      told = await fetched("check");
+    }
+    byId("checked").textContent = `${told.state === "whole" ? "All is whole" : told.state === "damaged" ? "It is damaged" : "It can't be read"}, after ${told.seconds.toFixed(1)} s: ${told.said}`;
+  } finally {
+    byId("progress").hidden = true;
+    byId("check").disabled = false;
   }
-});
-
-function sides([x, y], [x2, y2]) {
-  return [Math.min(x, x2), Math.min(y, y2), Math.max(x, x2), Math.max(y, y2)];
 }
-
-plane.addEventListener("pointerup", event => {
-  const drag = state.drag, here = toPlane(...at(event));
-  state.drag = null;
-  if (!drag) return;
-  if (mode() === "box" && drag.begin[0] !== here[0] && drag.begin[1] !== here[1]) {
-    ask({ kind: "box", frame: sides(drag.begin, here) });
-  } else if (mode() === "nearest") {
-    ask({ kind: "nearest", at: here });
-  } else if (mode() === "polygon") {
-    state.hits = null;
-    state.ring.push(here);
-    state.query = { kind: "polygon", ring: state.ring };
-    draw();
-  }
-});
-
-plane.addEventListener("dblclick", () => {
-  if (mode() !== "polygon") return;
-  // the second click of a double click stands where the first one does
-  const ring = state.ring.slice(0, -1);
-  state.ring = [];
-  if (ring.length >= 3) ask({ kind: "polygon", ring, closed: true });
-});
-
-plane.addEventListener("wheel", event => {
-  event.preventDefault();
-  const [x, y] = toPlane(...at(event)), [left, bottom, right, top] = state.frame;
-  const by = Math.exp(event.deltaY * 0.0015);
-  if (by < 1 && right - left < 4) return;
-  if (by > 1 && right - left > 3e10) return;
-  state.frame = [x - (x - left) * by, y - (y - bottom) * by, x + (right - x) * by, y + (top - y) * by];
-  refresh();
-}, { passive: false });
-
-for (const name of ["cells", "dead"]) byId(name).addEventListener("change", draw);
-for (const name of ["x", "y"]) {
-  byId(name).addEventListener("change", () => {
-    state.query = state.hits = state.shown = null;
-    showAll();
-  });
-}
-for (const choice of document.querySelectorAll("input[name=mode]")) {
-  choice.addEventListener("change", () => { state.ring = []; });
-}
-byId("all").addEventListener("click", showAll);
-window.addEventListener("resize", () => state.frame && refresh());
-
-tried(async () => {
-  state.about = await fetched("/index");
-  showAbout();
-  showAll();
-});

@@ -1,177 +1,220 @@
-"""The server of the page: the standard library's, on the loopback address, for one folder."""
+"""The server of the page, on the loopback address alone, under a path that has a token."""
 from __future__ import annotations
 
+import contextlib
+import hmac
+import io
 import json
-import os
+import secrets
+import socket
 import threading
 import time
-from http.server import BaseHTTPRequestHandler, ThreadingHTTPServer
+from collections.abc import Callable
+from concurrent.futures import ThreadPoolExecutor
+from http.server import BaseHTTPRequestHandler, HTTPServer
 from pathlib import Path
 from typing import Any
-from urllib.parse import parse_qs, urlsplit
+from urllib.parse import parse_qsl, urlsplit
 
-from .. import commands, requests
 from ..commands import Folder, Which
-from ..errors import Error, Locked, NoIndex, Refused
-from ..program import Program, find
-from ..requests import Request
-from ..talk import Asking
-from .contents import Axes, Contents, Frame, held, mark_of
+from ..errors import Error, Locked
+from ..program import find
+from .answers import Viewer
+from .folder import Shown
 
 _HERE = Path(__file__).parent
-_FILES = {"/": ("page.html", "text/html; charset=utf-8"), "/page.js": ("page.js", "text/javascript; charset=utf-8")}
-_POINTS = 6000
-_SHOWN = 20_000
-_LONGEST = 1 << 22
-_TIMEOUT = 120.0
+_FILES = {"": ("page.html", "text/html; charset=utf-8"), "page.css": ("page.css", "text/css; charset=utf-8"),
+          "plane.js": ("plane.js", "text/javascript; charset=utf-8"),
+          "page.js": ("page.js", "text/javascript; charset=utf-8"),
+          "input.js": ("input.js", "text/javascript; charset=utf-8")}
+# bytes of a body, seconds that a request may take to come and an answer to go, requests that are answered beside each
+# other (with the server's own thread and the caller's there are eight at most), and that wait
+_LONGEST = 1 << 18
+_SECONDS = 5.0
+_THREADS = 6
+_WAITING = 32
+_POLICY = "default-src 'self'; frame-ancestors 'none'"
 
 
-class Viewer:
-    """What the page asks of a folder. Contents are kept, and read again where another commit is there."""
+class _Timed(io.RawIOBase):
+    """What comes from a socket, all of it within some seconds."""
 
-    def __init__(self, folder: Folder, program: Program) -> None:
-        self._folder = os.fspath(folder)
-        self._program = program
-        self._lock = threading.Lock()
-        self._kept: Contents | None = None
+    def __init__(self, connection: socket.socket, seconds: float) -> None:
+        self._connection = connection
+        self._until = time.monotonic() + seconds
 
-    def contents(self) -> Contents:
-        """The index as it is stored now. Raises `NoIndex`, `Damaged` or `Locked`."""
-        with self._lock:
-            try:
-                if self._kept is None or self._kept.mark != mark_of(self._folder):
-                    self._kept = Contents(self._folder)
-            except FileNotFoundError:
-                raise NoIndex(f"{self._folder} holds no index") from None
-            return self._kept
+    def readable(self) -> bool:
+        return True
 
-    def view(self, asked: dict[str, Any]) -> dict[str, Any]:
-        """Cells, and points or their density, of a frame."""
-        contents = self.contents()
-        axes, frame = self._place(contents, asked)
-        shown: dict[str, Any] = {"cells": contents.cells(axes, frame), "points": contents.points(axes, frame, _POINTS)}
-        if shown["points"] is None:
-            columns, rows = (max(1, min(512, int(asked[name]))) for name in ("columns", "rows"))
-            shown["density"] = contents.density(axes, frame, columns, rows)
-            shown["grid"] = columns, rows
-        return shown
-
-    def ask(self, asked: dict[str, Any]) -> dict[str, Any]:
-        """What the program answers to a box, a polygon or the nearest, with its time, and what `explain` says of it."""
-        contents = self.contents()
-        request = self._request(contents, asked)
-        begun = time.perf_counter()
-        talk = Asking([request])
-        self._program.run(self._folder, ["run"], talk, _TIMEOUT)
-        spent = time.perf_counter() - begun
-        value = talk.values[0]
-        if isinstance(value, Refused):
-            raise value
-        explained = commands.explain(self._folder, [request], program=self._program, timeout=_TIMEOUT)[0]
-        is_near = asked["kind"] == "nearest"
-        numbers = [number for number, _ in value] if is_near else value
-        axes = self._axes(contents, asked)
-        return {
-            "line": request.line if len(request.line) < 400 else request.line[:400] + " ..", "count": len(numbers),
-            "numbers": numbers[:_SHOWN], "near": value if is_near else None,
-            "points": contents.points_of(axes, set(numbers[:_SHOWN])), "milliseconds": spent * 1000,
-            "explained": {"tested": explained.tested, "touched": explained.touched, "found": explained.found},
-        }
-
-    def _request(self, contents: Contents, asked: dict[str, Any]) -> Request:
-        axes = self._axes(contents, asked)
-        if asked["kind"] == "box":
-            return requests.box(*contents.box(axes, _frame(asked["frame"])))
-        if asked["kind"] == "nearest":
-            return requests.nearest(int(asked["k"]), contents.point(axes, *map(float, asked["at"])))
-        if asked["kind"] == "polygon":
-            ring = [(held(round(x)), held(round(y))) for x, y in asked["ring"]]
-            order = -1 if axes.x > (axes.y or 0) else 1
-            return requests.polygon([[p[::order] for p in [*ring, ring[0]]]])
-        raise ValueError(f"no query: {asked['kind']!r}")
-
-    def _axes(self, contents: Contents, asked: dict[str, Any]) -> Axes:
-        return contents.axes(int(asked["x"]), int(asked["y"]))
-
-    def _place(self, contents: Contents, asked: dict[str, Any]) -> tuple[Axes, Frame]:
-        return self._axes(contents, asked), _frame(asked["frame"])
-
-
-def _frame(sides: Any) -> Frame:
-    if isinstance(sides, str):
-        sides = sides.split(",")
-    left, bottom, right, top = map(float, sides)
-    if not (left < right and bottom < top and abs(left) + abs(bottom) + abs(right) + abs(top) < 1 << 40):
-        raise ValueError("a frame of this kind has no points")
-    return Frame(left, bottom, right, top)
+    def readinto(self, buffer: Any) -> int:
+        left = self._until - time.monotonic()
+        if left <= 0:
+            raise TimeoutError
+        self._connection.settimeout(left)
+        try:
+            return self._connection.recv_into(buffer)
+        finally:
+            self._connection.settimeout(_SECONDS)
 
 
 class _Handler(BaseHTTPRequestHandler):
-    """Answers for the page and its questions. Only requests that name this address as their host are taken."""
+    """One request, of the page or of its questions. What is wrong with it is answered by 400 and a line."""
 
     server: Server
+    server_version, sys_version = "bkd", ""
+
+    def setup(self) -> None:
+        super().setup()
+        self.rfile = io.BufferedReader(_Timed(self.connection, _SECONDS))
 
     def do_GET(self) -> None:
         path = urlsplit(self.path)
-        asked = {name: values[0] for name, values in parse_qs(path.query).items()}
-        if path.path in _FILES:
-            name, kind = _FILES[path.path]
-            self._reply(200, (_HERE / name).read_bytes(), kind)
-        elif path.path == "/index":
-            self._answer(lambda: self.server.viewer.contents().about())
-        elif path.path == "/view":
-            self._answer(lambda: self.server.viewer.view(asked))
+        name = self._name(path.path)
+        viewer = self.server.viewer
+        if name is None:
+            return
+        if name in _FILES:
+            file, kind = _FILES[name]
+            self._reply(200, (_HERE / file).read_bytes(), kind)
+        elif name == "mark":
+            self._answer(lambda: {"mark": viewer.shown.mark()})
+        elif name == "about":
+            self._answer(lambda: viewer.shown.about() | {"degrees": self.server.degrees})
+        elif name == "view":
+            self._answer(lambda: viewer.view(dict(parse_qsl(path.query))))
+        elif name == "check":
+            self._answer(viewer.shown.check)
         else:
-            self._reply(404, b'{"error": "no such page"}')
+            self._tell(404, "no such page")
 
     def do_POST(self) -> None:
-        length = int(self.headers.get("Content-Length") or 0)
-        is_asked = urlsplit(self.path).path == "/ask" and self.headers.get("Content-Type") == "application/json"
-        if not is_asked or not 0 < length <= _LONGEST:
-            self._reply(404, b'{"error": "no such page"}')
+        name = self._name(urlsplit(self.path).path)
+        if name is None:
             return
-        text = self.rfile.read(length)
-        self._answer(lambda: self.server.viewer.ask(json.loads(text)))
+        if name == "check":
+            self._answer(self.server.viewer.shown.begin_check)
+        elif name == "ask":
+            self._answer(lambda: self.server.viewer.ask(self._body()))
+        else:
+            self._tell(404, "no such page")
 
-    def _answer(self, work: Any) -> None:
+    def _name(self, path: str) -> str | None:
+        """What is asked for, under the token; None where that was answered as wrong."""
         port = self.server.server_address[1]
+        _, token, *names = [*path.split("/", 2), ""][:3]
         if self.headers.get("Host") not in (f"127.0.0.1:{port}", f"localhost:{port}"):
-            self._reply(403, b'{"error": "another host"}')
-            return
+            self._tell(403, "another host")
+        elif not hmac.compare_digest(token.encode(), self.server.token.encode()):
+            self._tell(403, "the address lacks its token")
+        else:
+            return names[0] if names else ""
+        return None
+
+    def _body(self) -> dict[str, Any]:
+        """The object that a request's body spells. What isn't one raises ValueError."""
+        if self.headers.get_content_type() != "application/json":
+            raise ValueError("the body's type is not application/json")
+        length = self.headers.get("Content-Length", "")
+        if not length.isascii() or not length.isdigit() or not 0 < int(length) <= _LONGEST:
+            raise ValueError(f"the body has not 1 to {_LONGEST} bytes")
+        try:
+            text = self.rfile.read(int(length))
+        except TimeoutError:
+            raise ValueError(f"the body didn't come within {_SECONDS:.0f} seconds") from None
+        if len(text) < int(length):
+            raise ValueError("the body ends early")
+        try:
+            told = json.loads(text)
+        except (ValueError, RecursionError):
+            raise ValueError("the body is not JSON") from None
+        if not isinstance(told, dict):
+            raise ValueError("the body is not an object")
+        return told
+
+    def _answer(self, work: Callable[[], dict[str, Any]]) -> None:
         try:
             self._reply(200, json.dumps(work()).encode())
-        except Locked as error:
-            self._reply(409, json.dumps({"error": str(error)}).encode())
-        except (Error, ValueError, KeyError, TypeError) as error:
-            self._reply(400, json.dumps({"error": str(error)}).encode())
+        except Locked:
+            self._tell(409, "another process writes; what is shown is what was stored before")
+        except (Error, ValueError, OverflowError) as error:
+            self._tell(400, str(error))
+        except OSError as error:
+            self._tell(400, f"{error.filename or 'the folder'}: {error.strerror}")
+
+    def _tell(self, status: int, line: str) -> None:
+        self._reply(status, json.dumps({"error": line}).encode())
 
     def _reply(self, status: int, body: bytes, kind: str = "application/json") -> None:
+        self.request_version = "HTTP/1.0"  # so that a request without a version gets a status too
         self.send_response(status)
-        self.send_header("Content-Type", kind)
-        self.send_header("Content-Length", str(len(body)))
-        self.send_header("Cache-Control", "no-store")
+        for name, value in (("Content-Type", kind), ("Content-Length", str(len(body))), ("Cache-Control", "no-store"),
+                            ("Content-Security-Policy", _POLICY), ("X-Content-Type-Options", "nosniff"),
+                            ("Referrer-Policy", "no-referrer"), ("Connection", "close")):
+            self.send_header(name, value)
         self.end_headers()
         self.wfile.write(body)
+
+    def send_error(self, code: int, message: str | None = None, explain: str | None = None) -> None:
+        """What the request's own lines lack, by 400 and a line."""
+        self.close_connection = True
+        self._tell(400, message or "a bad request")
 
     def log_message(self, form: str, *words: Any) -> None:
         """Says nothing of requests."""
 
 
-class Server(ThreadingHTTPServer):
-    """The server of a viewer's page."""
+class Server(HTTPServer):
+    """The server of a viewer's page. `url` is its only address."""
 
-    daemon_threads = True
+    allow_reuse_address = True
+    request_queue_size = _WAITING
 
-    def __init__(self, port: int, viewer: Viewer) -> None:
+    def __init__(self, port: int, viewer: Viewer, degrees: bool | None) -> None:
         self.viewer = viewer
+        self.degrees = degrees
+        self.token = secrets.token_urlsafe(16)
         super().__init__(("127.0.0.1", port), _Handler)
+        self._threads = ThreadPoolExecutor(_THREADS)
+        self._room = threading.Semaphore(_THREADS + _WAITING)
+
+    @property
+    def url(self) -> str:
+        """The page's address, which nobody else knows."""
+        return f"http://127.0.0.1:{self.server_address[1]}/{self.token}/"
+
+    def process_request(self, request: Any, address: Any) -> None:
+        """Has one of the threads answer; what comes while as many wait as may is closed."""
+        if not self._room.acquire(blocking=False):
+            self.shutdown_request(request)
+            return
+        try:
+            self._threads.submit(self._one, request, address)
+        except RuntimeError:  # the server is being closed
+            self.shutdown_request(request)
+
+    def _one(self, request: Any, address: Any) -> None:
+        try:
+            # a browser that went away is no fault of anybody's
+            with contextlib.suppress(OSError):
+                self.finish_request(request, address)
+        finally:
+            self.shutdown_request(request)
+            self._room.release()
+
+    def server_close(self) -> None:
+        """Ends what runs for the page, and the threads."""
+        super().server_close()
+        self.viewer.shown.close()
+        self._threads.shutdown(wait=False, cancel_futures=True)
 
 
-def serve(folder: Folder, port: int = 8765, *, program: Which = None) -> Server:
-    """A server for the page of a folder on 127.0.0.1; `serve_forever` runs it. Port 0 takes a free one.
+def serve(folder: Folder, port: int = 8765, *, program: Which = None, degrees: bool | None = None) -> Server:
+    """A server for the page of a folder on 127.0.0.1; `serve_forever` runs it, `url` is where it is. Port 0 takes a
+    free one.
 
-    Raises `NoIndex` or `Damaged` where there is nothing to show, and OSError where the port is taken.
+    `degrees` says that coordinates are degrees at 10^-7; where it is None the page guesses. Raises `NoIndex` or
+    `Damaged` where there is nothing to show, `Locked` where another process writes, OSError where the port is taken.
     """
-    viewer = Viewer(folder, find(program))
-    viewer.contents()
-    return Server(port, viewer)
+    shown = Shown(str(folder), find(program))
+    shown.about()
+    return Server(port, Viewer(shown), degrees)

@@ -1,0 +1,56 @@
+"""What is kept of a call over the pipes, so that one that was interrupted can be brought to its end."""
+from __future__ import annotations
+
+# a line that every program refuses, with its number
+MARKER = b"?\n"
+# more than the answer to it has
+_ANSWER = 256
+
+
+class Sending:
+    """What is sent: a piece, how much of it is written, and the number of its last line."""
+
+    __slots__ = ("last", "text", "written")
+
+    def __init__(self, text: bytes, last: int) -> None:
+        self.text = text
+        self.last = last
+        self.written: list[int] = []
+
+    def rest(self) -> bytes | memoryview:
+        done = sum(self.written)
+        return memoryview(self.text)[done:] if done < len(self.text) else b""
+
+
+class Silence:
+    """A talk without lines."""
+
+    __slots__ = ("inbox",)
+
+    def __init__(self) -> None:
+        self.inbox: list[bytes] = []
+
+    def begin(self, first: int) -> None:
+        pass
+
+    def piece(self) -> tuple[bytes, int]:
+        return b"", 0
+
+    def look(self) -> int:
+        return 0
+
+    def line(self, place: int) -> str | None:
+        return None
+
+    def cut(self, last: int) -> None:
+        pass
+
+
+def ends_with(inbox: list[bytes], begin: bytes) -> bool:
+    """Whether the last line of what came in begins so, and is whole."""
+    text = b""
+    for data in reversed(inbox):
+        text = data + text
+        if len(text) >= _ANSWER:
+            break
+    return text.endswith(b"\n") and text[:-1].rpartition(b"\n")[2].startswith(begin)

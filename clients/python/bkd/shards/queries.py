@@ -1,0 +1,169 @@
+"""What an index over folders is asked, and how the folders' answers become one."""
+from __future__ import annotations
+
+import contextlib
+from collections.abc import Iterator, Mapping, Sequence
+from typing import Any, SupportsIndex
+
+import numpy
+
+from .. import commands, requests
+from ..requests import Point, Request, coordinates
+from .crew import Crew
+from .documents import Array, Query
+from .layout import Layout
+
+
+def box(lo: Point, hi: Point) -> Query:
+    """A query for `ask`: the documents that have a point in a box."""
+    return Query(box=(coordinates(lo), coordinates(hi)))
+
+
+def polygon(shape: Any) -> Query:
+    """A query for `ask`: the documents that have a point in a polygon."""
+    return Query(polygon=requests.geojson(shape))
+
+
+def nearest(k: SupportsIndex, at: Point) -> Query:
+    """A query for `ask`: the `k` nearest documents, 1 to 10,000."""
+    if not 1 <= int(k) <= 10_000:
+        raise ValueError(f"k is 1 to 10,000, not {k}")
+    return Query(k=int(k), at=coordinates(at))
+
+
+class Asking:
+    """The queries, over a layout that stays while they are answered."""
+
+    def __init__(self, crew: Crew) -> None:
+        self._crew = crew
+
+    def _asking(self) -> Any:
+        """A context in which nothing changes; it gives the layout, and whether folders are to be just at it."""
+        raise NotImplementedError
+
+    def box(self, lo: Point, hi: Point) -> Array:
+        """The keys, ascending, of the documents that have a point in the box."""
+        return self.ask([box(lo, hi)])[0]
+
+    def polygon(self, shape: Any) -> Array:
+        """The keys, ascending, of the documents that have a point in a polygon, as `Index.polygon` takes it."""
+        return self.ask([polygon(shape)])[0]
+
+    def nearest(self, k: SupportsIndex, at: Point) -> list[tuple[int, int]]:
+        """The `k` nearest documents as (key, squared distance), ascending by distance, then key."""
+        return self.ask([nearest(k, at)])[0]
+
+    def ask(self, queries: Sequence[Query]) -> list[Any]:
+        """What many queries of `box`, `polygon` and `nearest` of `bkd.shards` find, all at one moment.
+
+        Only folders whose bounds meet a query are asked it, all of a worker's in one message; of the nearest first the
+        folders that lie nearest, then those that may have nearer ones than were found there.
+        """
+        with self._asking() as (layout, is_exact):
+            for query in queries:
+                query.check(layout.dims)
+            found: list[list[Any]] = [[] for _ in queries]
+            first = {i: _first(layout, query) for i, query in enumerate(queries)}
+            self._gather(layout, queries, first, found, is_exact)
+            rest = {i: _rest(layout, query, first[i], found[i]) for i, query in enumerate(queries) if query.k}
+            self._gather(layout, queries, rest, found, is_exact)
+        return [_joined(query, parts) for query, parts in zip(queries, found)]
+
+    def _gather(self, layout: Layout, queries: Sequence[Query], where: Mapping[int, Sequence[int]],
+                found: list[list[Any]], is_exact: bool) -> None:
+        """Asks places queries, by the queries' numbers, and puts what they answer behind what was found."""
+        rows: dict[int, list[int]] = {}
+        for i, places in where.items():
+            for place in places:
+                rows.setdefault(place, []).append(i)
+        asked = {place: ([queries[i] for i in some],) for place, some in rows.items()}
+        for place, values in self._crew.each("ask", layout, asked, is_exact).items():
+            for i, value in zip(rows[place], values):
+                found[i].append(value)
+
+    def count(self, lo: Point, hi: Point) -> int:
+        """How many live points lie in the box; a document of several points counts for each."""
+        return sum(self._counted(commands.points_in(lo, hi), lo, hi))
+
+    def grid(self, x: int, step_x: int, y: int, step_y: int, lo: Point, hi: Point) -> list[tuple[int, int, int]]:
+        """The buckets (i, j, points) of the box that have points, cut in steps along the dimensions `x` and `y`."""
+        total: dict[tuple[int, int], int] = {}
+        for part in self._counted(commands.grid_over(x, step_x, y, step_y, lo, hi), lo, hi):
+            for i, j, count in part:
+                total[i, j] = total.get((i, j), 0) + count
+        return [(i, j, count) for (i, j), count in sorted(total.items())]
+
+    def _counted(self, request: Request, lo: Point, hi: Point) -> list[Any]:
+        with self._asking() as (layout, is_exact):
+            box(lo, hi).check(layout.dims)
+            meeting = [at for at, place in enumerate(layout.places) if place.meets(coordinates(lo), coordinates(hi))]
+            told = self._crew.each("count", layout, {at: ([request],) for at in meeting}, is_exact)
+            return [values[0] for values in told.values()]
+
+    def about(self) -> list[tuple[str, int, int]]:
+        """Of each folder its path, how many documents it was given, and how many are live."""
+        with self._asking() as (layout, is_exact):
+            found = self._crew.each("about", layout, {at: () for at in _made(layout)}, is_exact)
+            return [(place.folder, found[at].next, found[at].live) if at in found else (place.folder, 0, 0)
+                    for at, place in enumerate(layout.places)]
+
+    def check(self) -> list[tuple[str, Any]]:
+        """Reads all that is stored in each folder, and answers what `bkd.check` says of it, None of one that isn't made
+        yet. Raises `Damaged`, `NoIndex` or `Changed`."""
+        with self._asking() as (layout, is_exact):
+            found = self._crew.each("check", layout, {at: () for at in _made(layout)}, is_exact)
+            return [(place.folder, found[at][1] if at in found else None) for at, place in enumerate(layout.places)]
+
+    def export(self) -> Iterator[tuple[int, tuple[tuple[int, ...], ...]]]:
+        """All documents as (key, points), ascending by key, at one moment. Each folder's are held here meanwhile, as
+        arrays; nothing is written until the last one is taken."""
+        with self._asking() as (layout, is_exact):
+            told = self._crew.each("export", layout, {at: () for at in layout.holding()}, is_exact)
+            keys = numpy.concatenate([numpy.empty(0, dtype=numpy.int64), *(keys for keys, _ in told.values())])
+            rows = [(documents.points, begin, end) for _, documents in told.values()
+                    for begin, end in zip(documents.begins(), [*documents.begins()[1:], len(documents.points)])]
+        for row in numpy.argsort(keys, kind="stable").tolist():
+            points, begin, end = rows[row]
+            yield int(keys[row]), tuple(sorted(map(tuple, points[begin:end].tolist())))
+
+
+class Moment(Asking):
+    """The documents as they were when it was taken, by `Shards.snapshot`. What differs by now raises `Changed`."""
+
+    def __init__(self, crew: Crew, layout: Layout) -> None:
+        super().__init__(crew)
+        self._layout = layout
+
+    @contextlib.contextmanager
+    def _asking(self) -> Iterator[tuple[Layout, bool]]:
+        yield self._layout, True
+
+
+def _made(layout: Layout) -> list[int]:
+    return [at for at, place in enumerate(layout.places) if place.mark is not None]
+
+
+def _first(layout: Layout, query: Query) -> list[int]:
+    """The places that a query is asked first: all that may have what it finds, of the nearest those nearest to it."""
+    if not query.k:
+        low, high = query.bounds()
+        return [at for at, place in enumerate(layout.places) if place.meets(low, high)]
+    away = {at: layout.places[at].distance(query.at) for at in layout.holding()}
+    return [at for at, distance in away.items() if distance == min(away.values())]
+
+
+def _rest(layout: Layout, query: Query, asked: Sequence[int], found: Sequence[Any]) -> list[int]:
+    """The places that weren't asked and may have documents among the nearest."""
+    near = sorted(distance for part in found for distance, _ in part)
+    farthest = near[query.k - 1] if len(near) >= query.k else None
+    return [at for at in layout.holding() if at not in asked
+            and (farthest is None or layout.places[at].distance(query.at) <= farthest)]
+
+
+def _joined(query: Query, parts: list[Any]) -> Any:
+    """The answers of all folders as one."""
+    if query.k:
+        return [(key, distance) for distance, key in sorted(near for part in parts for near in part)[:query.k]]
+    if len(parts) == 1:
+        return parts[0]
+    return numpy.sort(numpy.concatenate([numpy.empty(0, dtype=numpy.int64), *parts]))

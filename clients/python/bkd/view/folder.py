@@ -1,0 +1,179 @@
+"""The folder that a page shows: what its commit and its files say, and the program over it."""
+from __future__ import annotations
+
+import contextlib
+import hashlib
+import os
+import tempfile
+import time
+from collections.abc import Iterator, Sequence
+from dataclasses import dataclass
+from subprocess import DEVNULL, Popen
+from typing import IO, Any
+
+from .. import commands, kept, lock
+from ..errors import NoIndex, Refused, fault_of
+from ..formats.commit import Commit, read_commit
+from ..formats.pages import COMMIT_FILE, FileName, PagedFile, is_own_name
+from ..processes import started
+from ..program import Program
+from ..requests import Request
+from ..talk import Talk
+
+# seconds that a lock is waited for, and that the program may take for a question
+_WAIT = 1.0
+_TIMEOUT = 60.0
+
+
+@dataclass
+class _Checking:
+    """A check that runs or has run."""
+
+    process: Popen[bytes]
+    said: IO[bytes]
+    held: int | None
+    begun: float
+    size: int
+    read: int = 0
+    ended: float | None = None
+
+
+class Shown:
+    """A folder, asked by the program beside others, with the lock that readers share, for no longer than an answer
+    takes. What is raised: `NoIndex`, `Damaged`, or `Locked` where another process writes."""
+
+    def __init__(self, folder: str, program: Program) -> None:
+        self.folder = os.path.abspath(folder)
+        self.program = program
+        self._checking: _Checking | None = None
+
+    def mark(self) -> str:
+        """A text that is another one where another commit is stored. Takes no lock."""
+        try:
+            told = os.stat(os.path.join(self.folder, COMMIT_FILE.text))
+        except OSError:
+            raise NoIndex(f"{self.folder} holds no index") from None
+        seen = repr((told.st_dev, told.st_ino, told.st_mtime_ns, told.st_size))
+        return hashlib.sha256(seen.encode()).hexdigest()[:16]
+
+    def commit(self) -> Commit:
+        """The commit as it is stored now."""
+        found = read_commit(self.folder)
+        if found is None:
+            raise NoIndex(f"{self.folder} holds no index")
+        return found
+
+    @contextlib.contextmanager
+    def reading(self) -> Iterator[int]:
+        """The lock that readers share."""
+        with lock.locked(self.folder, shared=True, wait=_WAIT) as held:
+            yield held
+
+    def count(self, asked: Sequence[Request], held: int) -> list[Any]:
+        """What the program's `count` answers."""
+        return _unrefused(commands.count(self.folder, asked, program=self.program, timeout=_TIMEOUT, held=held))
+
+    def explain(self, asked: Request, held: int) -> Any:
+        """What the program's `explain` answers."""
+        return _unrefused(commands.explain(self.folder, [asked], program=self.program, timeout=_TIMEOUT, held=held))[0]
+
+    def run(self, talk: Talk, held: int) -> None:
+        """Has queries answered; nothing is changed."""
+        self.program.run(self.folder, ["run"], talk, _TIMEOUT, held)
+
+    # ---- what is there
+
+    def about(self) -> dict[str, Any]:
+        """The commit's numbers, its segments, all files of the folder, and the least box round all entries."""
+        with self.reading():
+            mark, commit = self.mark(), self.commit()
+            roots = [self._root(one.segment, commit.dims) for one in commit.listed]
+        bounds = [[min(c) for c in zip(*(low for low, _ in roots))],
+                  [max(c) for c in zip(*(high for _, high in roots))]] if roots else None
+        segments = [{"id": one.segment, "entries": one.entries, "live": one.live,
+                     "leaves": -(-one.entries // commit.leaf)} for one in commit.listed]
+        return {"mark": mark, "folder": self.folder, "dims": commit.dims, "leaf": commit.leaf, "next": commit.next,
+                "given": commit.given, "live": sum(one.live for one in commit.listed), "segments": segments,
+                "bounds": bounds, "files": self._files(commit), "decimals": kept.read(self.folder).decimals}
+
+    def _root(self, segment: int, dims: int) -> tuple[list[int], list[int]]:
+        """The least cell round a segment's entries, which stands at the front of its page 1."""
+        with PagedFile(self.folder, FileName.segment(segment)) as file:
+            payload = file.payload(1)
+        keys = [int.from_bytes(payload[4 * i:4 * i + 4], "big") - (1 << 31) for i in range(2 * dims)]
+        return keys[:dims], keys[dims:]
+
+    def _files(self, commit: Commit) -> list[dict[str, Any]]:
+        """Each file with its size, and whether the commit needs it."""
+        needed = {COMMIT_FILE.text} | {name.text for one in commit.listed for name in
+                                       (FileName.segment(one.segment), FileName.live(one.segment, one.generation))}
+        found = []
+        for entry in sorted(os.scandir(self.folder), key=lambda entry: entry.name):
+            with contextlib.suppress(FileNotFoundError):
+                kind = "needed" if entry.name in needed else "left over" if is_own_name(entry.name) else "other"
+                found.append({"name": entry.name, "size": entry.stat().st_size, "kind": kind})
+        return found
+
+    # ---- the check
+
+    def begin_check(self) -> dict[str, Any]:
+        """Has the program read all that is stored, beside the page; answers how far it is."""
+        if self._checking is None or self._checking.ended is not None:
+            self.program.require("check")
+            held = lock.take(self.folder, shared=True, wait=_WAIT)
+            try:
+                size = sum(file["size"] for file in self._files(self.commit()) if file["kind"] == "needed")
+                said = tempfile.TemporaryFile()
+                words = [*self.program.words, self.folder, "check", *self.program.held_words(held)]
+                process = started(words, held, stdin=DEVNULL, stdout=said, stderr=said)
+            except BaseException:
+                lock.release(held)
+                raise
+            self._checking = _Checking(process, said, held, time.monotonic(), size)
+        return self.check()
+
+    def check(self) -> dict[str, Any]:
+        """How far the check is: seconds, bytes read and to be read, and what it said when it has ended."""
+        one = self._checking
+        if one is None:
+            return {"state": "none"}
+        one.read = max(one.read, _bytes_read(one.process.pid))
+        status = one.process.poll()
+        if status is None:
+            return {"state": "runs", "seconds": time.monotonic() - one.begun, "read": one.read, "size": one.size}
+        if one.ended is None:
+            one.ended = time.monotonic()
+            self._release(one)
+        one.said.seek(0)
+        text = one.said.read().decode(errors="replace").strip()
+        error = None if status == 0 else fault_of(status, text)
+        return {"state": "whole" if error is None else "damaged" if status == 6 else "failed",
+                "seconds": one.ended - one.begun, "said": text if error is None else str(error)}
+
+    def close(self) -> None:
+        """Ends a check that runs."""
+        if (one := self._checking) is not None and one.ended is None:
+            one.process.kill()
+            one.process.wait()
+            self._release(one)
+
+    def _release(self, one: _Checking) -> None:
+        if one.held is not None:
+            lock.release(one.held)
+            one.held = None
+
+
+def _bytes_read(process: int) -> int:
+    """How many bytes a process has read by now, 0 where that isn't told."""
+    try:
+        with open(f"/proc/{process}/io") as file:
+            return int(file.readline().split()[1])
+    except (OSError, ValueError, IndexError):
+        return 0
+
+
+def _unrefused(values: list[Any]) -> list[Any]:
+    for value in values:
+        if isinstance(value, Refused):
+            raise value
+    return values
