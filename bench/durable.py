@@ -1,9 +1,12 @@
 #!/usr/bin/env python3
 """Shows what a power cut leaves of the program bkd, which has to be built (rt run in crates/bkd).
 
-usage: bench/durable.py order | cuts [FOLDERS] | cost [COMMITS]
+usage: bench/durable.py order | synced | cuts [FOLDERS] | cost [COMMITS]
 
 order    the calls on files that a script with some commits makes, as strace (Debian's strace) tells them
+synced   looks through these calls, in a second: before a rename all that was written is synced, and the directory
+         behind the files that are new in it, and the directory again before the commit is answered. Status 3 where
+         there is no strace, or it may not look
 cuts     these calls cut off at every point: what was synced is there, of the rest any part is; each folder that can be
          left so is opened, and its answer has to be that of the last commit that was answered, or of the one in flight.
          Where more than FOLDERS (1000) could be left by a cut a tenth as many are drawn, beside those where one call
@@ -14,7 +17,6 @@ BKD names the program where it is not crates/bkd/out/bkd.
 import itertools
 import os
 import random
-import re
 import shutil
 import sqlite3
 import subprocess
@@ -22,11 +24,13 @@ import sys
 import tempfile
 import time
 
+# the checkout stays as it is
+sys.dont_write_bytecode = True
+
+from durable_calls import TRACED, Trace
+
 HERE = os.path.dirname(os.path.abspath(__file__))
 PROGRAM = os.environ.get("BKD", os.path.join(HERE, "..", "crates", "bkd", "out", "bkd"))
-TRACED = ("open,openat,creat,close,write,writev,pwrite64,fsync,fdatasync,ftruncate,"
-          "rename,renameat,renameat2,unlink,unlinkat,link,symlink")
-
 # the lines of the script, and after a commit the numbers of the documents that a box over everything finds
 SCRIPT = [
     ("create 1", None), ("add 5", None), ("add 7", None), ("commit", [0, 1]),
@@ -49,87 +53,6 @@ def run(folder, text):
     """The answers of the program to a script over a folder."""
     return subprocess.run([PROGRAM, folder, "run", "--forks", "0"], input=text.encode(), stdout=subprocess.PIPE,
                           stderr=subprocess.DEVNULL).stdout.decode()
-
-
-class Call:
-    """A call that was traced: what it does, the names, the file (a number), and where which bytes go."""
-
-    def __init__(self, kind, names=(), file=None, at=0, data=b""):
-        self.kind, self.names, self.file, self.at, self.data = kind, names, file, at, data
-
-    def __str__(self):
-        return " ".join([self.kind, *self.names,
-                         *(["%d bytes at %d" % (len(self.data), self.at)] if self.kind == "write" else [])])
-
-
-def unquoted(text):
-    """The bytes of a string that strace wrote in hexadecimal digits."""
-    return bytes.fromhex(text.replace("\\x", ""))
-
-
-class Trace:
-    """The calls of a program on the files of one folder, and on its output."""
-
-    def __init__(self, folder):
-        self.folder, self.calls, self.open = folder, [], {}
-        self.names, self.sizes, self.known = {}, {}, {}
-
-    def name(self, path):
-        path = os.path.abspath(path)
-        return "." if path == self.folder else os.path.basename(path) if os.path.dirname(path) == self.folder else None
-
-    def opened(self, path, flags, descriptor):
-        name = self.name(path)
-        if name is None:
-            return
-        if name == ".":
-            self.open[descriptor] = [".", None, 0]
-            return
-        if name not in self.names:
-            self.names[name] = len(self.sizes)
-            self.sizes[self.names[name]] = 0
-            self.calls.append(Call("create", [name], self.names[name]))
-        file = self.names[name]
-        if "O_TRUNC" in flags and self.sizes[file]:
-            self.sizes[file] = 0
-            self.calls.append(Call("truncate", [name], file))
-        self.open[descriptor] = [name, file, self.sizes[file] if "O_APPEND" in flags else 0]
-
-    def wrote(self, descriptor, data):
-        if descriptor == 1:
-            self.calls.append(Call("answer", data=data))
-        elif descriptor in self.open:
-            opened = self.open[descriptor]
-            self.calls.append(Call("write", [opened[0]], opened[1], opened[2], data))
-            opened[2] += len(data)
-            self.sizes[opened[1]] = max(self.sizes[opened[1]], opened[2])
-
-    def line(self, text):
-        """Takes a line of strace. A call that isn't known here must not be on a file of the folder."""
-        found = re.match(r"(?:\d+ +)?(\w+)\((.*)\) += (-?\d+)", text)
-        if not found or int(found.group(3)) < 0:
-            return
-        call, words, result = found.group(1), found.group(2), int(found.group(3))
-        strings = [unquoted(s) for s in re.findall(r'"((?:\\x[0-9a-f]{2})*)"', words)]
-        first = int(re.match(r"\d+", words).group()) if re.match(r"\d", words) else None
-        if call in ("open", "openat"):
-            self.opened(os.fsdecode(strings[0]), words, result)
-        elif call == "close":
-            self.open.pop(first, None)
-        elif call == "write":
-            self.wrote(first, strings[0][:result])
-        elif call in ("fsync", "fdatasync"):
-            if first in self.open:
-                self.calls.append(Call("sync", [self.open[first][0]], self.open[first][1]))
-        elif call == "rename":
-            old, new = (self.name(os.fsdecode(s)) for s in strings)
-            self.names[new] = self.names.pop(old)
-            self.calls.append(Call("rename", [old, new], self.names[new]))
-        elif call in ("unlink", "unlinkat"):
-            name = self.name(os.fsdecode(strings[0]))
-            self.calls.append(Call("remove", [name], self.names.pop(name)))
-        elif first in self.open or any(self.name(os.fsdecode(s)) for s in strings):
-            raise SystemExit("a call that isn't known here: " + text)
 
 
 def traced(folder):
@@ -253,6 +176,45 @@ def order():
     return True
 
 
+def unsynced(calls):
+    """What these calls leave to chance: a rename over bytes or names that are not on the disk, an answer to a commit
+    whose own name isn't."""
+    written, created, renamed = set(), False, False
+    for at, call in enumerate(calls):
+        if call.kind == "rename":
+            if written:
+                yield "call %d (%s): not all bytes before it are synced" % (at, call)
+            if created:
+                yield "call %d (%s): the directory isn't synced behind the new files" % (at, call)
+            renamed = True
+        elif call.kind in ("create", "truncate", "write"):
+            written.add(call.file)
+            created |= call.kind == "create"
+        elif call.kind == "remove":
+            written.discard(call.file)
+        elif call.kind == "sync" and call.file is None:
+            created = renamed = False
+        elif call.kind == "sync":
+            written.discard(call.file)
+        elif call.kind == "answer" and renamed:
+            yield "call %d (an answer): the name of the commit isn't synced" % at
+
+
+def synced():
+    with tempfile.TemporaryDirectory(prefix="durable-") as folder:
+        try:
+            calls, _ = traced(folder)
+        except (OSError, subprocess.CalledProcessError) as fault:
+            print("not tried: strace can't look at the program: %s" % fault)
+            sys.exit(3)
+    wrong = list(unsynced(calls))
+    for it in wrong:
+        print("wrong:", it)
+    counts = [sum(call.kind == kind for call in calls) for kind in ("rename", "sync")]
+    print("synced: %d commits, %d syncs, %d wrong" % (*counts, len(wrong)))
+    return not wrong and counts[0] > 0
+
+
 NO_SYNC = "int fsync(int f) { return 0; }\nint fdatasync(int f) { return 0; }\n"
 
 
@@ -293,8 +255,8 @@ def cost(commits):
 
 if __name__ == "__main__":
     words = sys.argv[1:]
-    if not words or words[0] not in ("order", "cuts", "cost"):
+    if not words or words[0] not in ("order", "synced", "cuts", "cost"):
         raise SystemExit(__doc__)
     count = int(words[1]) if len(words) > 1 else {"cuts": 1000, "cost": 200}.get(words[0])
-    good = order() if words[0] == "order" else cuts(count) if words[0] == "cuts" else cost(count)
+    good = {"order": order, "synced": synced, "cuts": lambda: cuts(count), "cost": lambda: cost(count)}[words[0]]()
     sys.exit(0 if good else 1)

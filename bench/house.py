@@ -18,6 +18,7 @@ from house_clauses import faults_of_places
 from house_diagram import crates_of, draw, faults_of, floors_of
 from house_reading import fresh_reading
 from house_unused import unused
+from words import stale
 
 ROOT = os.path.join(os.path.dirname(os.path.abspath(__file__)), "..")
 PICTURE, FLOORS, READING = "docs/images/crates.svg", "docs/ARCHITECTURE.md", "docs/READING.md"
@@ -172,6 +173,11 @@ def reading_faults():
         yield "README.md doesn't say that the answers have %s" % answers
 
 
+def words_faults():
+    for name, _ in stale():
+        yield "%s doesn't agree with docs/commands.txt: bench/words.py" % name
+
+
 def write_exceptions():
     lines = ["# What of the code is beyond a bound of bench/house.py: no number here may rise.", "#"]
     lines += ["%5d %s %s" % (number, kind, path) for (kind, path), number in sorted(code_numbers().items())
@@ -191,7 +197,7 @@ def main(words):
         of_kind = {path: number for (k, path), number in numbers.items() if k == kind}
         print("%-24s %4d places beyond the bound, %d in sum" % (kind, len(of_kind), sum(of_kind.values())))
     faults = list(code_faults(numbers)) + list(page_faults()) + list(diagram_faults()) + list(reading_faults())
-    faults += list(link_faults()) + list(faults_of_places(ROOT)) + list(unused(ROOT))
+    faults += list(link_faults()) + list(words_faults()) + list(faults_of_places(ROOT)) + list(unused(ROOT))
     for fault in faults:
         print("FAULT " + fault)
     print("%d faults" % len(faults))

@@ -64,7 +64,7 @@ def shapes():
     yield "8,000 squares in drawn order", squares(8_000, drawn=True)
     yield "a smooth ring of 1,000 positions, about 1,000 hits", smooth_ring(1_000, 3_570)
     yield "a smooth ring of 60,000 positions", smooth_ring(60_000, 90_000)
-    for count in (1_000, 4_000, 60_000):
+    for count in (100, 1_000, 4_000, 60_000):
         yield f"a drawn ring of {count:,} positions", drawn_ring(count)
 
 
