@@ -84,6 +84,7 @@ pub(crate) fn is_cell<const D: usize>(cell: &Cell<D>)
 }
 
 /// The number of the vint with which the bytes begin, and the bytes behind it.
+#[inline(always)]
 pub(crate) fn take_vint(b: &[u8]) -> Option<(u32, &[u8])>
     ensures found { IfSome result (λ x. b.now ≡ vint x.0 ++ x.1.now) }
     ensures only { (n : ℕ) (rest : List ℕ) → n < 2 ^ 32 → b.now ≡ vint n ++ rest
@@ -98,6 +99,7 @@ pub(crate) fn take_vint(b: &[u8]) -> Option<(u32, &[u8])>
 
 /// The key of which so many bytes at the front, and no more, are those of the reference, and the others stand at the
 /// front of the bytes; and the bytes behind it.
+#[inline(always)]
 pub(crate) fn take_key(b: &[u8], reference: [u8; 4], prefix: usize) -> Option<([u8; 4], &[u8])>
     requires { prefix ≤ 4 }
     ensures found { IfSome result (λ x. (shared_front x.0 reference ≡ prefix) × (b.now ≡ drop prefix x.0 ++ x.1.now)) }
@@ -113,6 +115,7 @@ pub(crate) fn take_key(b: &[u8], reference: [u8; 4], prefix: usize) -> Option<([
 }
 
 /// The front of the reference, and these bytes.
+#[inline(always)]
 fn joined(reference: [u8; 4], prefix: usize, back: &[u8]) -> [u8; 4]
     requires prefix { prefix ≤ 4 }
     requires back { length back.now ≡ 4 - prefix }
@@ -155,6 +158,7 @@ pub(crate) fn take_place(b: &[u8]) -> Option<(LeafPlace, &[u8])>
 }
 
 /// The first byte and the others.
+#[inline(always)]
 pub(crate) fn take_byte(b: &[u8]) -> Option<(u8, &[u8])>
     ensures found { IfSome result (λ x. b.now ≡ x.0 ∷ x.1.now) }
     ensures only { (n : ℕ) (rest : List ℕ) → b.now ≡ n ∷ rest → IsSomeAnd result (λ x. (x.0 ≡ n) × (x.1.now ≡ rest)) }
@@ -166,6 +170,7 @@ pub(crate) fn take_byte(b: &[u8]) -> Option<(u8, &[u8])>
 }
 
 /// How many bytes the two keys share at the front.
+#[inline(always)]
 pub(crate) fn shared_length(a: [u8; 4], b: [u8; 4]) -> usize
     ensures value { result ≡ shared_front a b }
     ensures few { result ≤ 4 }

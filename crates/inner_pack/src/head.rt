@@ -39,6 +39,7 @@ pub(crate) struct Head<'a> {
 }
 
 /// The head of an inner node.
+#[inline(always)]
 pub(crate) fn read_head<'a, const D: usize>(
     form: u8,
     leaves: u32,
@@ -112,6 +113,7 @@ fn take_cut<const D: usize>(b: &[u8]) -> Option<(usize, [u8; 4], &[u8])>
 }
 
 /// The head of an inner node of a packed form.
+#[inline(always)]
 fn packed_head<'a, const D: usize>(
     references: &[[u8; 4]; D],
     part: NodeBytes<'a>,
@@ -156,6 +158,7 @@ fn packed_head<'a, const D: usize>(
 }
 
 /// The reference of a dimension.
+#[inline(always)]
 fn reference_in<const D: usize>(references: &[[u8; 4]; D], dimension: usize) -> [u8; 4]
     requires { dimension < D }
     ensures value { result ≡ slice_index_or references.now dimension [] }

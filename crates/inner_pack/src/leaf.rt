@@ -17,6 +17,7 @@ use crate::place::{Mark, PAYLOAD};
 use point_codec::{Cell, all_le};
 
 /// The length of the leaf next behind the mark, where the part is that of one leaf.
+#[inline(always)]
 pub(crate) fn read_leaf<const D: usize>(
     form: u8,
     path: &Cell<D>,
@@ -78,6 +79,7 @@ fn table_leaf(part: NodeBytes, behind: Mark) -> Option<u16>
 }
 
 /// The length and the own cell of a leaf of a packed form.
+#[inline(always)]
 pub(crate) fn packed_leaf<const D: usize>(
     form: u8,
     path: &Cell<D>,
@@ -94,6 +96,7 @@ pub(crate) fn packed_leaf<const D: usize>(
 }
 
 /// The length of a leaf, with which its bytes begin in a packed form, and the bytes behind it.
+#[inline(always)]
 pub(crate) fn take_length(b: &[u8]) -> Option<(u16, &[u8])>
     ensures found { IfSome result (λ x. (1 ≤ x.0) × (x.0 ≤ 4064) × (b.now ≡ vint x.0 ++ x.1.now)) }
     ensures only { (n : ℕ) (rest : List ℕ) → 1 ≤ n → n ≤ 4064 → b.now ≡ vint n ++ rest
@@ -110,6 +113,7 @@ pub(crate) fn take_length(b: &[u8]) -> Option<(u16, &[u8])>
 }
 
 /// A leaf's own cell, which in form 3 is all that follows its length. In form 2 nothing does, and it is the path cell.
+#[inline(always)]
 fn own_cell<const D: usize>(form: u8, path: &Cell<D>, b: &[u8]) -> Option<Cell<D>>
     requires form { (2 ≤ form) × (form ≤ 3) }
     ensures found { IfSome result (λ own. IsOwnCell D form (region_of path.now) b.now (region_of own)) }

@@ -134,6 +134,7 @@ impl<'a, const D: usize> NodeAt<'a, D> {
     }
 
     /// What the inner node says of itself.
+    #[inline(always)]
     fn head(&self) -> Head<'a>
         requires { 2 ≤ self.now.leaves }
         ensures cell { IsInCell D (region_of self.now.cell) result.dimension result.at }
@@ -175,6 +176,7 @@ impl<'a, const D: usize> NodeAt<'a, D> {
     }
 
     /// The node whose path cell this is.
+    #[inline(always)]
     pub(crate) fn new(
         form: u8,
         leaves: u32,
@@ -210,6 +212,7 @@ impl<'a, const D: usize> NodeAt<'a, D> {
 }
 
 /// The cell of a node with this path cell: of a leaf of form 3 the own cell that it tells.
+#[inline(always)]
 fn cell_at<const D: usize>(form: u8, leaves: u32, path: &Cell<D>, b: &[u8]) -> Cell<D>
     requires some { ∥ IsSomeLeaf D form leaves (region_of path.now) b.now ∥₁ }
     requires leaves { 1 ≤ leaves }
