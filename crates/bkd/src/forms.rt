@@ -14,7 +14,7 @@ pub(crate) struct Taken {
     pub(crate) value: &'static str,
 }
 
-pub(crate) const FORMS: [Form; 9] = [
+pub(crate) const FORMS: [Form; 11] = [
     Form {
         command: "run",
         form: "run [--cache N] [--forks N]",
@@ -50,6 +50,14 @@ pub(crate) const FORMS: [Form; 9] = [
     Form {
         command: "batch",
         form: "batch [--forks N] [--merge]",
+    },
+    Form {
+        command: "export",
+        form: "export [--as-ranges]",
+    },
+    Form {
+        command: "info",
+        form: "info",
     },
 ];
 

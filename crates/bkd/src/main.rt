@@ -8,13 +8,17 @@ mod notes;
 use asked::{Asked, AskedFault, LONGEST_WAIT, read_asked};
 use bkd_build::OpenGate;
 use bkd_top::{Status, code, run, status_line};
-use notes::{reason_note, usage_note, wants_notes};
+use leftovers::take_away;
+use notes::{aside_note, reason_note, usage_note, wants_notes};
 use outer_io::{DirFolder, Reason, StdSink, StdSource, write_all};
-use std::alloc::AllocError;
+use page_cache::PageFault;
+use std::alloc::{Alloc, AllocError, Global};
+use std::fs::{File, Files};
 use std::io::{Lock, Read};
 use std::marker::Sync;
 use std::process::ExitCode;
 use std::thread::Threads;
+use std::time::Clock;
 use std::{env, io};
 
 /// How a run ended, and what there is to tell of it beside its status.
@@ -70,7 +74,13 @@ fn run_asked<R: Threads + Sync>(rt: &HostRuntime, threads: &R, asked: &Asked) ->
         &mut output,
         &OpenGate,
     );
-    let note = match (&status, folder.reason()) {
+    let reason = folder.reason();
+    let aside = folder.aside();
+    if folder.is_changed() {
+        // what is left after a fault here the next run takes away
+        let _ = tidy(alloc, &mut folder);
+    }
+    let note = match (&status, reason) {
         (Status::Usage, _) => wanted(rt, usage_note(alloc, words)),
         (Status::FolderFault, Some(reason @ (Reason::Call { .. } | Reason::Names(_)))) => {
             wanted(rt, reason_note(alloc, &reason))
@@ -79,7 +89,20 @@ fn run_asked<R: Threads + Sync>(rt: &HostRuntime, threads: &R, asked: &Asked) ->
         (Status::FolderFault, Some(reason)) => reason_note(alloc, &reason).ok(),
         _ => None,
     };
+    let note = match aside {
+        Some(aside) => wanted(rt, aside_note(alloc, &aside, note)),
+        None => note,
+    };
     (status, note)
+}
+
+/// Takes away what this run and those that were stopped before it have left in a folder that this run has changed.
+fn tidy<R: Files<File = File> + Clock + Alloc + Clone + Drop>(
+    alloc: Global,
+    folder: &mut DirFolder<R>,
+) -> Result<(), PageFault> {
+    let names = folder.names()?;
+    take_away(alloc, folder, names.as_slice())
 }
 
 /// A note, where there is memory for it and somebody wants it.

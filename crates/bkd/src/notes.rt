@@ -1,7 +1,7 @@
 //! What the program tells beside its status: lines on standard error before the status's own.
 
 use crate::forms::{FORMS, Form, TAKEN};
-use outer_io::Reason;
+use outer_io::{Aside, Reason};
 use std::alloc::{AllocError, Global};
 use std::env;
 use std::io::IsTerminal;
@@ -30,6 +30,19 @@ pub(crate) fn reason_note(alloc: Global, reason: &Reason) -> Result<String, Allo
         }
         None => format!(in alloc; "bkd: {reason}\n"),
     }
+}
+
+/// Where files were put that no commit lists, before what else there is to tell.
+pub(crate) fn aside_note(
+    alloc: Global,
+    aside: &Aside,
+    note: Option<String>,
+) -> Result<String, AllocError> {
+    let mut told = format!(in alloc; "bkd: {aside}\n")?;
+    if let Some(note) = note {
+        told.push_str(note.as_str())?;
+    }
+    Ok(told)
 }
 
 /// What is wrong with words that were refused, as far as the table of commands tells, and what is expected.

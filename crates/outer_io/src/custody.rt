@@ -32,8 +32,11 @@ pub(crate) struct Custody {
 
 #[derive(Clone, Copy)]
 pub(crate) enum State {
+    /// Nobody else works in it, and no call has changed a file yet.
     Alone,
     Shared,
+    /// Nobody else works in it.
+    Changing,
     /// Each call fails.
     Lost(Reason),
 }
@@ -47,7 +50,7 @@ impl Custody {
         Custody {
             dir: None,
             commit: None,
-            state: State::Alone,
+            state: State::Changing,
             wait: 0,
         }
     }
@@ -86,7 +89,7 @@ impl Custody {
     /// Fails where the directory isn't held.
     pub(crate) fn is_held(&self) -> Result<(), Reason> {
         match self.state {
-            State::Alone | State::Shared => Ok(()),
+            State::Alone | State::Shared | State::Changing => Ok(()),
             State::Lost(reason) => Err(reason),
         }
     }

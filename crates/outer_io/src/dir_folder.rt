@@ -4,15 +4,17 @@ ghost use Rattle.std.specs.Fd.{file_raw_fd};
 ghost use Rattle.outer_io.specs.DirFolder.{descriptor_path, path_or_dot};
 
 mod calls;
+mod names;
 
-use crate::custody::{Custody, Hold};
+use crate::custody::{Custody, Hold, State};
 use crate::faults::{Failed, WriteFault};
 use crate::file_name::FileName;
 use crate::folder::{Folder, Pages};
 use crate::open_files::OpenFiles;
 use crate::reason::{Faults, Reason};
 use crate::unsynced::Unsynced;
-use std::alloc::{AllocError, Global};
+pub use names::Aside;
+use std::alloc::{Alloc, AllocError, Global};
 use std::fs;
 use std::fs::{File, Files};
 use std::os::fd::AsRawFd;
@@ -25,12 +27,14 @@ use std::time::Clock;
 #[derive(Drop)]
 pub struct DirFolder<R: Files<File = File> + Clock> {
     rt: R,
+    alloc: Global,
     /// The path of the directory: by its descriptor where it is open, so that it is the same one wherever it is moved.
     dir: String,
     /// The path of the call's file, and of a rename's second one, in memory that is taken at first.
     path: String,
     other: String,
     custody: Custody,
+    aside: Option<Aside>,
     opened: OpenFiles<File>,
     unsynced: Unsynced<File>,
     reads: u64,
@@ -40,7 +44,7 @@ pub struct DirFolder<R: Files<File = File> + Clock> {
 /// The length of the longest name of a file.
 const LONGEST_NAME: usize = 42;
 
-impl<R: Files<File = File> + Clock + Drop> DirFolder<R> {
+impl<R: Files<File = File> + Clock + Alloc + Clone + Drop> DirFolder<R> {
     ghost use Rattle.outer_io.specs.DirFolder.{directory_path, path_or_dot, directory_faults, directory_reads};
     ghost use Rattle.outer_io.specs.DirFolder.{IsReached};
 
@@ -64,10 +68,12 @@ impl<R: Files<File = File> + Clock + Drop> DirFolder<R> {
         let length = dir.len().saturating_add(1 + LONGEST_NAME);
         Ok(DirFolder {
             rt,
+            alloc,
             dir: String::from_str(alloc, dir)?,
             path: String::with_capacity(alloc, length)?,
             other: String::with_capacity(alloc, length)?,
             custody,
+            aside: None,
             opened: OpenFiles::new(alloc)?,
             unsynced: Unsynced::new(alloc)?,
             reads: 0,
@@ -104,6 +110,19 @@ impl<R: Files<File = File> + Clock + Drop> DirFolder<R> {
         }
     }
 
+    /// Whether a call has changed a file, or tried to.
+    pub fn is_changed(&self) -> bool {
+        match self.custody.state {
+            State::Changing => true,
+            State::Alone | State::Shared | State::Lost(_) => false,
+        }
+    }
+
+    /// Where the files were put that no commit listed, if there were some.
+    pub fn aside(&self) -> Option<Aside> {
+        self.aside
+    }
+
     /// Why the last call that failed did.
     pub fn reason(&self) -> Option<Reason>
         ensures { 1 ≤ directory_faults self.now → IsSome result }
@@ -112,7 +131,7 @@ impl<R: Files<File = File> + Clock + Drop> DirFolder<R> {
     }
 }
 
-impl<R: Files<File = File> + Clock + Drop> Pages for DirFolder<R> {
+impl<R: Files<File = File> + Clock + Alloc + Clone + Drop> Pages for DirFolder<R> {
     ghost use Rattle.outer_io.specs.DirFolder.{directory_faults, directory_reads};
 
     ghost told = { false };
@@ -139,7 +158,7 @@ impl<R: Files<File = File> + Clock + Drop> Pages for DirFolder<R> {
     }
 }
 
-impl<R: Files<File = File> + Clock + Drop> Folder for DirFolder<R> {
+impl<R: Files<File = File> + Clock + Alloc + Clone + Drop> Folder for DirFolder<R> {
     /// A file that is there is cut to nothing before it is written.
     fn write_file(&mut self, n: &FileName, b: &[u8]) -> Result<(), WriteFault> {
         match self.write_whole(n, b) {

@@ -25,7 +25,7 @@ mod std_streams;
 mod unsynced;
 
 pub use custody::Hold;
-pub use dir_folder::DirFolder;
+pub use dir_folder::{Aside, DirFolder};
 pub use faults::{Failed, ReadAll, WriteFault};
 pub use file_name::FileName;
 pub use folder::{Folder, Pages};

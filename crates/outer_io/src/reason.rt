@@ -17,6 +17,10 @@ pub enum Reason {
     },
     /// The names in the directory couldn't be brought to the disk.
     Names(io::Error),
+    /// The names in the directory couldn't be read.
+    Listing(io::Error),
+    /// The files that no commit lists couldn't be put aside.
+    Aside(io::Error),
     /// The directory can't be opened.
     NoDirectory(io::Error),
     /// The file system can't lock the directory.
@@ -65,9 +69,11 @@ impl Reason {
     pub fn error(&self) -> Option<io::Error> {
         match self {
             Reason::Call { error, .. } => Some(*error),
-            Reason::Names(error) | Reason::NoDirectory(error) | Reason::NoLock(error) => {
-                Some(*error)
-            }
+            Reason::Names(error)
+            | Reason::Listing(error)
+            | Reason::Aside(error)
+            | Reason::NoDirectory(error)
+            | Reason::NoLock(error) => Some(*error),
             Reason::Held | Reason::Overtaken => None,
         }
     }
@@ -79,6 +85,8 @@ impl fmt::Display for Reason {
         match self {
             Reason::Call { call, name, .. } => write!(f, "{call} {name}"),
             Reason::Names(_) => write!(f, "bringing the names in the folder to the disk"),
+            Reason::Listing(_) => write!(f, "reading the names in the folder"),
+            Reason::Aside(_) => write!(f, "putting aside the files that no commit lists"),
             Reason::NoDirectory(_) => write!(f, "opening the folder"),
             Reason::NoLock(_) => write!(f, "locking the folder (--no-lock works without)"),
             Reason::Held => write!(f, "another run works in the folder"),

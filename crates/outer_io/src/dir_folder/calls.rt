@@ -9,12 +9,13 @@ use crate::file_bytes::{hold_same, read_fully};
 use crate::file_name::FileName;
 use crate::open_files::Opened;
 use crate::reason::{Call, Reason};
+use std::alloc::Alloc;
 use std::fs::{File, Files, OpenFile, OpenOptions};
 use std::io::{ErrorKind, Write};
 use std::time::Clock;
 use std::{fs, io};
 
-impl<R: Files<File = File> + Clock + Drop> DirFolder<R> {
+impl<R: Files<File = File> + Clock + Alloc + Clone + Drop> DirFolder<R> {
     ghost use Rattle.outer_io.specs.DirFolder.{StaysCounted};
 
     /// Keeps the Commit open that is there, where the directory is shared.
@@ -30,7 +31,7 @@ impl<R: Files<File = File> + Clock + Drop> DirFolder<R> {
     }
 
     /// Opens a file to read it, and answers None where there is no such file.
-    fn find(&mut self, n: &FileName) -> io::Result<Option<File>>
+    pub(super) fn find(&mut self, n: &FileName) -> io::Result<Option<File>>
         ensures { StaysCounted self.old self.new }
     {
         set_path(&mut self.path, self.dir.as_str(), n)?;
@@ -41,17 +42,26 @@ impl<R: Files<File = File> + Clock + Drop> DirFolder<R> {
         }
     }
 
-    /// Takes the directory alone, where it is shared: for a call that changes a file.
+    /// Before the first call that changes a file: takes the directory alone, where it is shared, and puts aside what
+    /// no commit lists, where there is none.
     fn hold_alone(&mut self) -> Result<(), Reason>
         ensures { StaysCounted self.old self.new }
     {
-        if let State::Shared = self.custody.state {
-            self.custody.state = match self.step() {
-                Ok(()) => State::Alone,
-                Err(reason) => State::Lost(reason),
-            };
-        }
-        self.custody.is_held()
+        let begun = match self.custody.state {
+            State::Shared => self.step(),
+            State::Alone => Ok(()),
+            State::Changing => return Ok(()),
+            State::Lost(reason) => return Err(reason),
+        };
+        let begun = match begun {
+            Ok(()) => self.put_aside(),
+            Err(reason) => Err(reason),
+        };
+        self.custody.state = match begun {
+            Ok(()) => State::Changing,
+            Err(reason) => State::Lost(reason),
+        };
+        begun
     }
 
     /// Takes a shared directory alone. The system lets go of the one lock before it gives the other, so another run
@@ -216,7 +226,7 @@ impl<R: Files<File = File> + Clock + Drop> DirFolder<R> {
 }
 
 /// Writes the path of a file.
-fn set_path(path: &mut String, dir: &str, n: &FileName) -> io::Result<()>
+pub(super) fn set_path(path: &mut String, dir: &str, n: &FileName) -> io::Result<()>
     ensures { OnOk result (string_bytes path.new ≡ dir.now ++ codes "/" ++ name_text n.now) }
 {
     path.clear();
@@ -235,6 +245,6 @@ fn sync_files(files: &[Opened<File>]) -> Result<(), Reason> {
     Ok(())
 }
 
-fn sync_directory<R: Files<File = File>>(rt: &R, dir: &str) -> io::Result<()> {
+pub(super) fn sync_directory<R: Files<File = File>>(rt: &R, dir: &str) -> io::Result<()> {
     fs::open(rt, dir)?.sync_all()
 }
