@@ -77,7 +77,7 @@ def csv():
         ours, said = best([PROGRAM, "csv", "x", "y"], text)
         theirs, told = best([plain], text)
     print("csv: a million records of three columns, %d bytes" % len(text))
-    print("  read_points %6.0f ms  %s" % (ours * 1000, said))
+    print("  read_entries %5.0f ms  %s" % (ours * 1000, said))
     print("  a C loop    %6.0f ms  %s" % (theirs * 1000, told))
     print("  ratio       %6.2f" % (ours / theirs))
 

@@ -4,3 +4,4 @@ mod Blanks
 mod Places
 mod Each
 mod Header
+mod Numbered

@@ -1,18 +1,18 @@
-//! Points from the columns of a CSV file.
+//! Entries from the columns of a CSV file.
 #![tactic(auto)]
 
 mod fields;
 mod records;
 
-ghost use Rattle.std.specs.Prelude.{◌≡◌, ◌≢◌, ◌≤◌, ◌<◌, ◌^◌, Ok, Err, IfOk, OnOk, IfErr, List, ℤ, length};
-ghost use Rattle.point_codec.specs.Seen.{coordinates_of};
+ghost use Rattle.std.specs.Prelude.{◌≡◌, ◌≢◌, ◌≤◌, ◌<◌, ◌+◌, ◌^◌, Ok, Err, IfOk, OnOk, IfErr, List, ℤ, length, map};
+ghost use Rattle.std.specs.Prelude.{EachIndex, slice_index};
 ghost use Rattle.csv_load.specs.Loading.{each_ok, point_of, points_of, records_of};
 ghost use Rattle.csv_load.specs.Reading.{IsReading, bytes_left, records_left};
 
 use byte_cursor::Bytes;
 use csv::{ByteRecord, Reader};
 use fields::{columns_of, point_of};
-use point_codec::Point;
+use point_codec::Entry;
 use records::{next_record, open};
 use std::alloc::{AllocFailed, Global};
 
@@ -39,19 +39,22 @@ impl<T: Drop> From<AllocFailed<T>> for CsvFault {
     }
 }
 
-/// The points of a file, one a record, with their coordinates in the columns that are named, or the
-/// first fault: of the names in the order given, then of the records in turn, where a length comes
+/// The entries of a file, one a record, with their coordinates in the columns that are named and their numbers from
+/// `first` on, or the first fault: of the names in the order given, then of the records in turn, where a length comes
 /// before a value.
-pub fn read_points<const D: usize>(
+pub fn read_entries<const D: usize>(
     alloc: Global,
     b: &[u8],
     columns: &[Bytes],
-) -> Result<Vec<Point<D>>, CsvFault>
+    first: u32,
+) -> Result<Vec<Entry<D>>, CsvFault>
     requires some { 1 ≤ D }
     requires few { D ≤ 8 }
     requires named { length columns.now ≡ D }
     ensures points { IfOk result
-        (λ points. points_of columns.now (records_of b.now) ≡ Ok (coordinates_of points.items)) }
+        (λ entries. points_of columns.now (records_of b.now) ≡ Ok (map (λ e. e.point.c) entries.items)) }
+    ensures numbers { IfOk result (λ entries. first + length entries.items ≤ 2 ^ 32
+        → EachIndex entries.items (λ k. slice_index (map (λ e. e.doc) entries.items) k ≡ first + k)) }
     ensures fault { IfErr result
         (λ fault. fault ≢ CsvFault.Memory → points_of columns.now (records_of b.now) ≡ Err fault) }
 {
@@ -62,16 +65,19 @@ pub fn read_points<const D: usize>(
     }
     let width = fields.len();
     let places = columns_of::<D>(&fields, columns)?;
-    let mut points = Vec::new(alloc);
+    let mut entries = Vec::new(alloc);
+    let mut doc = first;
     let mut row: u64 = 0;
     while next_record(&mut reader, &mut fields)? {
         row += 1;
-        points.push(point_of(&fields, width, &places, row)?)?;
+        let point = point_of(&fields, width, &places, row)?;
+        entries.push(Entry { doc, point })?;
+        doc = doc.saturating_add(1);
     }
-    Ok(points)
+    Ok(entries)
 }
 
-/// Reads all records of a file for their faults alone: it keeps no point. The fault is that of `read_points`.
+/// Reads all records of a file for their faults alone: it keeps no point. The fault is that of `read_entries`.
 pub fn check_points<const D: usize>(
     alloc: Global,
     b: &[u8],

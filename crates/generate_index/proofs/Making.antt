@@ -1,5 +1,7 @@
 -- A session that makes the index, call after call.
-use Rattle.std.proofs.Common.{◌≡◌, ◌+◌, ℕ, List, [], ◌∷◌, ◌++◌, Result, Ok, Err, refl, sym, ap, subst, ◌∙◌, ℤ}
+use Rattle.std.proofs.Common.{◌≡◌, ◌+◌, ℕ, zero, suc, add-one, List, [], ◌∷◌, ◌++◌, Result, Ok, Err, refl, sym, ap, subst, ◌∙◌, ℤ, arith}
+use Rattle.std.proofs.lemmas.List.FromFn.{map-range_with_len_more}
+use Rattle.std.proofs.lemmas.List.Sums.{fold-append}
 use Rattle.outer_io.specs.Files.{Files}
 use Rattle.page_cache.specs.declared.faults.PageFault.{PageFault}
 use Rattle.page_cache.specs.declared.faults.PageFault.TheVariants as page
@@ -17,12 +19,12 @@ use Rattle.segment_set.specs.Faithful.{IsFaithful}
 use Rattle.index_opening.proofs.Evident.{on_evident_less}
 use Rattle.index_core.specs.Sessions.{Guards, IsSetTraced, SessionData, Trusts}
 use Rattle.index_core.specs.Effects.{BringsCanonical}
-use Rattle.index_core.specs.Whole.{Adds, SessionMoment, with_points}
+use Rattle.index_core.specs.Whole.{Adds, SessionMoment, with_point, with_points}
 use Rattle.index_core.proofs.Answering.{no_cause}
 use Rattle.index_core.proofs.FaultCauses.{fault_to}
 use Rattle.index_core.proofs.Bringing.{brings_same, brings_then}
 use Rattle.index_core.proofs.Tracing.{parts_shows, traced_read}
-use Rattle.drawn_points.specs.Draws.{point}
+use Rattle.drawn_points.specs.Draws.{point, points}
 use Rattle.drawn_points.specs.Generated.{document, documents, kept_docs}
 use Rattle.generate_index.specs.Generates.{IsDrawn, Makes, drawn_index}
 use Rattle.index_core.proofs.Committing.{on_ok_any}
@@ -93,28 +95,39 @@ makes_stopped {T = T} {U = U} told Before After Later a b fault r is makes = sub
     to_other (page.Damaged d) whole = whole
     to_other page.Memory whole = tt
 
--- a drawn document was added
-pub makes_add : {T : Type 0} (told : Type 0) (seed n : ℕ) (p : List ℤ) (a b : SessionMoment) (r : Result T PageFault) → p ≡ point seed n
-    → kept_docs 0 (documents seed n) ≡ documents seed n → kept_docs 0 (documents seed (n + 1)) ≡ documents seed (n + 1)
-    → documents seed (n + 1) ≡ documents seed n ++ document seed n ∷ [] → Adds 2 told (p ∷ []) a b r
-    → Makes told (IsDrawn seed n 0) (IsDrawn seed (n + 1) 0) a b r
-makes_add told seed n p a b r drawn all more_all more adds = record {
-  made = λ t before. on_ok_weaker r (subst (Sees 2 b.files b.session.set) one_more) (adds.seen t (drawn_index seed n 0) before);
+-- the drawn documents are those of the points, one after the other
+documents_drawn : (seed : ℕ) → ((n : ℕ) → kept_docs 0 (documents seed n) ≡ documents seed n)
+    → ((n : ℕ) → documents seed (n + 1) ≡ documents seed n ++ document seed n ∷ []) → (n : ℕ)
+    → with_points (drawn_index seed 0 0) (points seed 0 n) ≡ drawn_index seed n 0
+documents_drawn seed all more zero = refl
+documents_drawn seed all more (suc n) =
+    ap (with_points (drawn_index seed 0 0)) (ap (points seed 0) (sym (add-one n)) ∙ map-range_with_len_more (point seed) 0 n n (omega arith))
+    ∙ fold-append with_point (drawn_index seed 0 0) (points seed 0 n) (point seed n ∷ [])
+    ∙ ap (λ i. with_point i (point seed n)) (documents_drawn seed all more n)
+    ∙ ap (λ (docs : List Document). record (new_index 2 333) { next = n + 1; points_given = n + 1; docs = docs }) grown
+    ∙ ap (λ m. drawn_index seed m 0) (add-one n)
+  where
+    grown : kept_docs 0 (documents seed n) ++ document seed n ∷ [] ≡ kept_docs 0 (documents seed (n + 1))
+    grown = ap (λ docs. docs ++ document seed n ∷ []) (all n) ∙ sym (more n) ∙ sym (all (n + 1))
+
+-- drawn documents were added to none
+pub makes_adds : {T : Type 0} (told : Type 0) (seed n : ℕ) (ps : List (List ℤ)) (a b : SessionMoment) (r : Result T PageFault)
+    → ((n : ℕ) → kept_docs 0 (documents seed n) ≡ documents seed n)
+    → ((n : ℕ) → documents seed (n + 1) ≡ documents seed n ++ document seed n ∷ []) → ps ≡ points seed 0 n → Adds 2 told ps a b r
+    → Makes told (IsDrawn seed 0 0) (IsDrawn seed n 0) a b r
+makes_adds told seed n ps a b r all more drawn adds = record {
+  made = λ t before. on_ok_weaker r
+      (subst (Sees 2 b.files b.session.set) (ap (with_points (drawn_index seed 0 0)) drawn ∙ documents_drawn seed all more n))
+      (adds.seen t (drawn_index seed 0 0) before);
   guards = adds.stays.guards;
   kept = adds.kept;
   canon = adds.canon;
   cause = adds.faults.cause;
-  whole = λ t before. adds.faults.whole t (drawn_index seed n 0) before;
+  whole = λ t before. adds.faults.whole t (drawn_index seed 0 0) before;
   faithful = adds.stays.faithful;
   traced = adds.stays.traced;
   evident = adds.faults.evident;
 }
-  where
-    grown : kept_docs 0 (documents seed n) ++ record { number = n; points = p ∷ [] } ∷ [] ≡ kept_docs 0 (documents seed (n + 1))
-    grown = (λ j. all j ++ record { number = n; points = drawn j ∷ [] } ∷ []) ∙ sym more ∙ sym more_all
-
-    one_more : with_points (drawn_index seed n 0) (p ∷ []) ≡ drawn_index seed (n + 1) 0
-    one_more = ap (λ (docs : List Document). record (new_index 2 333) { next = n + 1; points_given = n + 1; docs = docs }) grown
 
 -- a call that only reads
 pub makes_reads : {T : Type 0} (told : Type 0) (i : Index) (a b : SessionMoment) (r : Result T PageFault)
@@ -171,11 +184,6 @@ makes_ok told Before After a b x y makes = record {
   traced = makes.traced;
   evident = tt;
 }
-
--- by another name of the number of documents
-pub makes_for : {T : Type 0} (told : Type 0) (Before : At) (seed n m : ℕ) (a b : SessionMoment) (r : Result T PageFault) → n ≡ m
-    → Makes told Before (IsDrawn seed n 0) a b r → Makes told Before (IsDrawn seed m 0) a b r
-makes_for told Before seed n m a b r same makes = subst (λ k. Makes told Before (IsDrawn seed k 0) a b r) same makes
 
 -- by another name of the seed
 pub makes_by : {T : Type 0} (told : Type 0) (x seed n : ℕ) (a b : SessionMoment) (r : Result T PageFault) → x ≡ seed

@@ -22,6 +22,7 @@ ghost use Rattle.drawn_points.specs.Draws.{draw, points};
 ghost use Rattle.drawn_points.specs.Generated.{box_hits, generate_answer, near_sum};
 ghost use Rattle.generate_index.specs.Generates.{IsDrawn, Makes, made_docs};
 
+use crate::drawing::drawn_entries;
 use crate::texts::{put_exists, put_summary};
 use bkd_build::Gate;
 use cell_relate::BoxShape;
@@ -159,7 +160,7 @@ fn fill<R: Threads + Sync, F: Folder, G: Gate>(
     })
 }
 
-/// Adds so many drawn documents to a session that has none.
+/// Adds so many drawn documents to a session that has none, all at once.
 fn add_drawn<R: Threads + Sync, F: Folder, G: Gate>(
     work: &Work<'_, R, G>,
     session: &mut Session<2>,
@@ -176,13 +177,16 @@ fn add_drawn<R: Threads + Sync, F: Folder, G: Gate>(
 {
     documents_added();
     documents_deleted();
-    let mut number = 0;
-    'adds: while number < docs {
-        let point = draws.point();
-        session.add_point(work.rt, work.alloc, folder, &point, work.gate)?;
-        number += 1;
-    }
-    Ok(())
+    // where no points are given its next number is 0
+    let _next = session.next();
+    let mut entries = drawn_entries(work.alloc, docs, draws)?;
+    session.add_entries(
+        work.rt,
+        work.alloc,
+        folder,
+        entries.as_mut_slice(),
+        work.gate,
+    )
 }
 
 /// Deletes the documents below `docs` whose numbers are multiples of 10, and answers how many of that many are left.

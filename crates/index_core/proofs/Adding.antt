@@ -1,6 +1,6 @@
 -- Documents are added without a text for each.
-use Rattle.std.proofs.Common.{◌≡◌, ◌≤◌, ◌<◌, ◌+◌, ◌^◌, ℕ, List, [], ◌∷◌, ◌++◌, length, map, take}
-use Rattle.std.proofs.Common.{get_or, Result, Ok, Err, OnOk, refl, sym, ap, subst, ◌∙◌, arith, ℤ}
+use Rattle.std.proofs.Common.{◌≡◌, ◌<◌, ◌+◌, ℕ, List, [], ◌∷◌, ◌++◌, length, map}
+use Rattle.std.proofs.Common.{Result, Ok, Err, OnOk, refl, sym, ap, subst, ◌∙◌, arith, ℤ}
 use Rattle.std.specs.declared.cmp.Ordering.{Ordering}
 use Rattle.std.specs.Ordering.{int_cmp}
 use Rattle.std.specs.Cmp.{IsTotalOrder}
@@ -9,7 +9,7 @@ use Rattle.std.specs.FinMap.{empty, entries, entries-insert, len-empty, len-entr
 use Rattle.std.specs.FinMap.Entries.{put}
 use Rattle.std.proofs.lemmas.Cmp.{int_cmp_total}
 use Rattle.std.proofs.lemmas.List.Sums.{fold-append}
-use Rattle.std.proofs.lemmas.List.{length-append, length-map, length-take-le, map-append, take_all, take_more}
+use Rattle.std.proofs.lemmas.List.{length-append, length-map}
 use Rattle.outer_io.specs.Files.{Files}
 use Rattle.page_cache.specs.declared.faults.Damage.{Damage}
 use Rattle.page_cache.specs.declared.faults.PageFault.{PageFault}
@@ -18,30 +18,28 @@ use Rattle.page_cache.specs.Causes.{HasPageCause}
 use Rattle.page_cache.specs.Evidence.{NotDamaged, OnDamage}
 use Rattle.point_codec.specs.Order.{in_order}
 use Rattle.point_codec.specs.Points.{ordered_points}
-use Rattle.point_codec.specs.Seen.{coordinates_of}
-use Rattle.point_codec.specs.declared.coordinates.Point.{Point}
+use Rattle.point_codec.specs.declared.entries.Entry.{Entry}
 use Rattle.index_model.specs.State.{Index}
 use Rattle.stored_index.proofs.KeptFiles.{kept_after, kept_itself}
 use Rattle.segment_set.specs.Sets.{IsWell, SetData}
 use Rattle.segment_set.specs.Seen.{Sees}
-use Rattle.segment_set.specs.Kept.{AreCanonical, Follows, KeepsNamed, StaysButCache}
-use Rattle.index_opening.specs.Evidence.{IsEvidentOf}
+use Rattle.segment_set.specs.Kept.{AreCanonical, Follows, KeepsNamed}
 use Rattle.segment_set.specs.Damages.{IsEvidentIn}
 use Rattle.segment_set.specs.Losing.{KeepsCounts}
 use Rattle.segment_set.specs.Faithful.{IsFaithful}
-use Rattle.segment_set.proofs.Carried.{follows_same, keeps_calm}
 use Rattle.index_opening.proofs.Evident.{on_evident_less}
 use Rattle.segment_set.specs.Faults.{HasCauseOf, OnAddDamage}
 use Rattle.segment_set.specs.declared.faults.AddFault.{AddFault}
 use Rattle.segment_set.specs.declared.faults.AddFault.TheVariants as add
 use Rattle.index_core.specs.Lasting.{Lasts}
-use Rattle.index_core.specs.Sessions.{Guards, SessionData, Trusts}
+use Rattle.index_core.specs.Sessions.{SessionData, Trusts}
+use Rattle.segment_set.specs.AtOnce.{points_in}
 use Rattle.index_core.specs.Whole.{Adds, SessionMoment, add_result, with_point, with_points}
 use Rattle.index_core.proofs.Answering.{no_cause}
 use Rattle.index_core.proofs.FaultCauses.{fault_to, memory_cause}
 use Rattle.index_core.proofs.Bringing.{brings_same, brings_then, brings_written}
 use Rattle.index_core.proofs.Carrying.{carries_then, carries_written, stays_itself}
-use Rattle.index_core.proofs.Guarding.{Grows, grows_like, guards_after, kept_after_calls}
+use Rattle.index_core.proofs.Guarding.{Grows, guards_after, kept_after_calls}
 use Rattle.index_core.proofs.Lasting.{NoneGoes, lasts_itself}
 use Rattle.index_core.proofs.LosingNone.{lasts_then}
 use Rattle.index_core.proofs.Tracing.{traced_by, traced_shows}
@@ -61,8 +59,8 @@ adds_none D told at x = record {
   faults = record { cause = no_cause at.faults x; whole = λ t i seen. tt; evident = tt };
 }
 
-pub adds_empty : {T : Type 0} (D : ℕ) (told : Type 0) (points : List (Point D)) (at : SessionMoment) (x : T) → length points < 1
-    → Adds D told (coordinates_of points) at at (Ok x)
+pub adds_empty : {T : Type 0} (D : ℕ) (told : Type 0) (entries : List (Entry D)) (at : SessionMoment) (x : T) → length entries < 1
+    → Adds D told (points_in entries) at at (Ok x)
 adds_empty D told [] at x none = adds_none D told at x
 adds_empty D told (p ∷ ps) at x none = absurd (omega arith)
 
@@ -136,7 +134,26 @@ abbrev pub IsMergeOf : (D : ℕ) (told : Type 0) → (old new : SessionMoment) �
 IsMergeOf D told old new = IsEvidentIn D old.files old.session.set.parts (length old.session.set.buffer) old.session.set.points_given
     (told × IsFaithful D old.files old.session.set) new.files
 
--- what the set's call says, in a session whose other parts stay
+-- what a call of the set says that adds documents, in a session whose other parts stay
+pub record IsAdded {T : Type 0} (D : ℕ) (told : Type 0) (points : List (List ℤ)) (old new : SessionMoment) (r : Result T PageFault) : Type 0 where
+  pub commit : new.session.commit ≡ old.session.commit
+  pub refused : new.session.refused ≡ old.session.refused
+  pub grows : Grows old.session.set new.session.set
+  pub keeps : KeepsNamed told old.session.set.names new.session.set.names old.files new.files
+  pub follows : Follows old.session.set.names old.session.set.parts new.session.set.parts
+  pub well : IsWell D old.session.set
+  pub snapshots : new.session.set.snapshots ≡ old.session.set.snapshots
+  pub second : told → AreCanonical D new.files old.session.set.names new.session.set.parts
+  pub lasts : told → IsFaithful D old.files old.session.set → Lasts D NoneGoes old.files new.files old.session.set new.session.set
+  pub seen : told → (i : Index) → Sees D old.files old.session.set i → OnOk r (Sees D new.files new.session.set (with_points i points))
+  pub points_given : OnOk r (new.session.set.points_given ≡ old.session.set.points_given + length points)
+  pub cause : HasPageCause old.faults new.faults r
+  pub whole : told → (i : Index) → Sees D old.files old.session.set i → NotDamaged r
+  pub faithful : told → IsFaithful D old.files old.session.set → IsFaithful D new.files new.session.set
+  pub counts : told → IsFaithful D old.files old.session.set → KeepsCounts D old.files new.files old.session.set new.session.set
+  pub evident : OnDamage r (IsMergeOf D told old new)
+
+-- and one that adds one
 pub record IsPut (D : ℕ) (told : Type 0) (point : List ℤ) (old new : SessionMoment) (r : Result ℕ AddFault) : Type 0 where
   pub commit : new.session.commit ≡ old.session.commit
   pub refused : new.session.refused ≡ old.session.refused
@@ -176,11 +193,11 @@ put_ok P (Err add.Failed) p = tt
 put_ok P (Err (add.Damaged d)) p = tt
 put_ok P (Err add.Memory) p = tt
 
-pub adds_one : (D : ℕ) (told : Type 0) (point : List ℤ) (old new : SessionMoment) (r : Result ℕ AddFault) → IsPut D told point old new r
-    → Adds D told (point ∷ []) old new (add_result r)
-adds_one D told point old new r put = record {
-  seen = λ t i seen. put_ok (Sees D new.files new.session.set (with_point i point)) r (put.seen t i seen);
-  points_given = put_ok (new.session.set.points_given ≡ old.session.set.points_given + 1) r put.points_given;
+pub adds_put : {T : Type 0} (D : ℕ) (told : Type 0) (points : List (List ℤ)) (old new : SessionMoment) (r : Result T PageFault)
+    → IsAdded D told points old new r → Adds D told points old new r
+adds_put D told points old new r put = record {
+  seen = put.seen;
+  points_given = put.points_given;
   stays = record {
     guards = λ t guards. guards_after D told old.files new.files old.session new.session t put.commit put.refused put.keeps put.follows put.grows guards;
     faithful = put.faithful;
@@ -194,12 +211,32 @@ adds_one D told point old new r put = record {
   canon = λ t. brings_written D told old.files new.files old.session.set.names new.session.set.names old.session.set.parts new.session.set.parts t put.keeps
       put.follows (put.second t);
   faults = record {
-    cause = put_cause old.faults new.faults r put.cause;
-    whole = λ t i seen. put_shows (λ _. ⊥) r (put.whole t i seen);
-    evident = traced_shows D told old.files new.files old.session new.session.set.names (add_result r) put.keeps put.well.named
-        (put_shows (IsMergeOf D told old new) r put.evident);
+    cause = put.cause;
+    whole = put.whole;
+    evident = traced_shows D told old.files new.files old.session new.session.set.names r put.keeps put.well.named put.evident;
   };
 }
+
+pub adds_one : (D : ℕ) (told : Type 0) (point : List ℤ) (old new : SessionMoment) (r : Result ℕ AddFault) → IsPut D told point old new r
+    → Adds D told (point ∷ []) old new (add_result r)
+adds_one D told point old new r put = adds_put D told (point ∷ []) old new (add_result r) (record {
+  commit = put.commit;
+  refused = put.refused;
+  grows = put.grows;
+  keeps = put.keeps;
+  follows = put.follows;
+  well = put.well;
+  snapshots = put.snapshots;
+  second = put.second;
+  lasts = put.lasts;
+  seen = λ t i seen. put_ok (Sees D new.files new.session.set (with_point i point)) r (put.seen t i seen);
+  points_given = put_ok (new.session.set.points_given ≡ old.session.set.points_given + 1) r put.points_given;
+  cause = put_cause old.faults new.faults r put.cause;
+  whole = λ t i seen. put_shows (λ _. ⊥) r (put.whole t i seen);
+  faithful = put.faithful;
+  counts = put.counts;
+  evident = put_shows (IsMergeOf D told old new) r put.evident;
+})
 
 one_in_order : {K : Type 0} (R : K → K → Ordering) (o : IsTotalOrder R) (x : K) → in_order R (x ∷ []) ≡ x ∷ []
 one_in_order {K = K} R o x =
@@ -227,6 +264,12 @@ pub put_given : (P : Type 0) (point : List ℤ) (points : List (List ℤ)) (befo
 put_given P point points before now r is points_given =
     on_ok_weaker r (λ (both : P × (now ≡ before + length points)). both.1 ∙ ap (λ (ps : List (List ℤ)). before + length ps) is) points_given
 
+-- as many points are given as there are entries
+pub put_length : {D : ℕ} (entries : List (Entry D)) (P : Type 0) (before now : ℕ) {T E : Type 0} (r : Result T E)
+    → OnOk r (P × (now ≡ before + length entries)) → OnOk r (now ≡ before + length (points_in entries))
+put_length {D} entries P before now r gives = on_ok_weaker r (λ (both : P × (now ≡ before + length entries)).
+    both.1 ∙ ap (λ n. before + n) (sym (length-map entries (λ (e : Entry D). e.point.c)))) gives
+
 -- ---- of the session that the code opened
 
 pub adds_seen : {T : Type 0} (D : ℕ) (told : Type 0) (points : List (List ℤ)) (files : Files) (s u : SessionData) (faults : ℕ) (new : SessionMoment)
@@ -244,57 +287,3 @@ pub adds_as : {T : Type 0} (D : ℕ) (told : Type 0) (points : List (List ℤ)) 
     → Adds D told points old new r
     → Adds D told points old new q
 adds_as D told points old new r q is adds = subst (Adds D told points old new) (sym is) adds
-
--- ---- one point after the other
-
--- one point more of the list
-pub adds_more : {T U : Type 0} (D : ℕ) (told : Type 0) (points : List (Point D)) (k : ℕ) (p : Point D) (a b c : SessionMoment) (x : U) (r : Result T PageFault)
-    → k < length points → p ≡ get_or points k p
-    → Adds D told (coordinates_of (take k points)) a b (Ok x) → Adds D told (p.c ∷ []) b c r → Adds D told (coordinates_of (take (k + 1) points)) a c r
-adds_more D told points k p a b c x r inside is first second =
-    subst (λ (qs : List (List ℤ)). Adds D told qs a c r)
-    (sym (map-append (λ (q : Point D). q.c) (take k points) (p ∷ []))
-    ∙ sym (ap coordinates_of (take_more points k p inside ∙ ap (λ (q : Point D). take k points ++ q ∷ []) (sym is))))
-    (adds_then D told (coordinates_of (take k points)) (p.c ∷ []) a b c x r first second)
-
--- where as many were added as there are, all were
-pub adds_all : {T : Type 0} (D : ℕ) (told : Type 0) (points : List (Point D)) (k : ℕ) (a b : SessionMoment) (r : Result T PageFault) → length points ≤ k
-    → Adds D told (coordinates_of (take k points)) a b r
-    → Adds D told (coordinates_of points) a b r
-adds_all D told points k a b r long adds = subst (λ (qs : List (Point D)). Adds D told (coordinates_of qs) a b r) (take_all k points long) adds
-
--- there is room for the next one
-pub room_for_next : (D : ℕ) (points : List (Point D)) (k before now : ℕ) → k < length points → before + length points ≤ 2 ^ 24
-    → now ≡ before + length (coordinates_of (take k points)) → now + 1 ≤ 2 ^ 24
-room_for_next D points k before now inside fits is =
-    let long = length-map (take k points) (λ (q : Point D). q.c) in
-    let cut = length-take-le k points (omega (arith, inside)) in
-    omega (arith, inside, fits, is, long, cut)
-
--- ---- calls that only read
-
-pub guards_cache : (D : ℕ) (told : Type 0) (f g : Files) (s u : SessionData) (t : SetData) → u ≡ s → told → StaysButCache u.set t → (told → g ≡ f)
-    → Guards D f s
-    → Guards D g (record { set = t; commit = u.commit; refused = u.refused })
-guards_cache D told f g s u t is h stays same guards = guards_after D told f g u (record { set = t; commit = u.commit; refused = u.refused }) h refl refl
-    (keeps_calm told u.set.names t.names f g (ap (λ (v : SetData). v.names) stays.is) same)
-    (follows_same u.set.names u.set.parts t.parts (ap (λ (v : SetData). v.parts) stays.is))
-    (grows_like u.set t (record u.set { cache = t.cache }) stays.is refl refl refl) (subst (Guards D f) (sym is) guards)
-
-pub faithful_seen : (D : ℕ) (f g : Files) (s u : SessionData) (t : SetData) → u ≡ s → (IsFaithful D f u.set → IsFaithful D g t) → IsFaithful D f s.set
-    → IsFaithful D g t
-faithful_seen D f g s u t is faithful was = faithful (subst (λ (v : SessionData). IsFaithful D f v.set) (sym is) was)
-
-pub evident_seen : {T : Type 0} (D : ℕ) (told : Type 0) (f g : Files) (s u : SessionData) (r : Result T PageFault) → u ≡ s
-    → OnDamage r (IsEvidentOf u.set.parts (told × IsFaithful D f u.set) g)
-    → OnDamage r (IsEvidentOf s.set.parts (told × IsFaithful D f s.set) g)
-evident_seen D told f g s u r is evident = subst (λ (v : SessionData). OnDamage r (IsEvidentOf v.set.parts (told × IsFaithful D f v.set) g)) is evident
-
--- ---- a call that gives no name
-
-pub guards_same : (D : ℕ) (files : Files) (s u : SessionData) (t : SetData) → u ≡ s → t.names ≡ u.set.names → Grows u.set t
-    → Follows u.set.names u.set.parts t.parts → Guards D files s
-    → Guards D files (record { set = t; commit = u.commit; refused = u.refused })
-guards_same D files s u t is names grows follows guards =
-    guards_after D (Unit {0}) files files u (record { set = t; commit = u.commit; refused = u.refused }) tt refl refl
-    (keeps_calm (Unit {0}) u.set.names t.names files files names (λ told. refl)) follows grows (subst (Guards D files) (sym is) guards)

@@ -68,12 +68,12 @@ grows_alone s t stays = grows_same s t stays.leaf_size stays.next stays.points_g
 pub grows_like : (s t u : SetData) → t ≡ u → u.leaf_size ≡ s.leaf_size → u.next ≡ s.next → u.points_given ≡ s.points_given → Grows s t
 grows_like s t u is leaf_size next points_given = subst (Grows s) (sym is) (grows_same s u leaf_size next points_given)
 
--- a document was added, or after a fault none
-pub grows_added : {T E : Type 0} (s t : SetData) (points : ℕ) (r : Result T E) → t.leaf_size ≡ s.leaf_size
-    → OnOk r ((t.next ≡ s.next + 1) × (t.points_given ≡ s.points_given + points)) → OnErr r (StaysAlone s t) → Grows s t
-grows_added s t points (Ok x) leaf_size points_given stays =
+-- documents were added, or after a fault none
+pub grows_added : {T E : Type 0} (s t : SetData) (count points : ℕ) (r : Result T E) → t.leaf_size ≡ s.leaf_size
+    → OnOk r ((t.next ≡ s.next + count) × (t.points_given ≡ s.points_given + points)) → OnErr r (StaysAlone s t) → Grows s t
+grows_added s t count points (Ok x) leaf_size points_given stays =
     record { leaf_size = leaf_size; next = omega (arith, points_given.0); points_given = omega (arith, points_given.1) }
-grows_added s t points (Err e) leaf_size points_given stays = grows_alone s t stays
+grows_added s t count points (Err e) leaf_size points_given stays = grows_alone s t stays
 
 pub set_after : (D : ℕ) (told : Type 0) (f g : Files) (s t : SetData) → told → KeepsNamed told s.names t.names f g → Grows s t → GuardsSet D f s
     → GuardsSet D g t

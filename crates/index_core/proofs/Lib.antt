@@ -12,6 +12,8 @@ pub mod SnapshotChanges
 pub mod Sizes
 pub mod Leaving
 pub mod Adding
+pub mod AddingEach
+pub mod Calming
 pub mod Bringing
 pub mod Carrying
 pub mod Showing

@@ -1,5 +1,5 @@
 -- What commands that are done as a whole leave: documents are added without a line for each, and one text answers all.
-use Rattle.std.specs.Prelude.{◌≡◌, ◌⊎◌, ◌+◌, ℕ, Bool, cond, List, [], ◌∷◌, ◌++◌, length, fold, Contains, Result, Ok}
+use Rattle.std.specs.Prelude.{◌≡◌, ◌⊎◌, ◌+◌, ℕ, Bool, cond, List, ◌++◌, length, Contains, Result, Ok}
 use Rattle.std.specs.Prelude.{Err, OnOk, ℤ}
 use Rattle.outer_io.specs.declared.file_name.FileName.TheVariants.{Commit, Segment}
 use Rattle.outer_io.specs.Files.{Files, bytes_of}
@@ -13,6 +13,7 @@ use Rattle.index_model.specs.State.{Index, State}
 use Rattle.index_model.specs.Script.{Answer}
 use Rattle.stored_index.specs.Kept.{ListsFile, SameKept}
 use Rattle.stored_index.specs.Stored.{HasHead, IsStored}
+pub use Rattle.segment_set.specs.AtOnce.{with_point, with_points}
 use Rattle.segment_set.specs.Faithful.{IsFaithful}
 use Rattle.segment_set.specs.Kept.{HasCanonical}
 use Rattle.segment_set.specs.Seen.{Sees}
@@ -22,20 +23,6 @@ use Rattle.index_core.specs.Sessions.{Guards, SessionData, StaysTrue}
 use Rattle.index_core.specs.Effects.{BringsCanonical}
 use Rattle.index_core.specs.Lasting.{Lasts}
 use Rattle.index_core.specs.Calls.{ShowsFault}
-
--- the index with a document of one point more
-abbrev pub with_point : Index → List ℤ → Index
-with_point i point =
-    record i {
-      next = i.next + 1;
-      points_given = i.points_given + 1;
-      docs = i.docs ++ record { number = i.next; points = point ∷ [] }
-          ∷ [];
-    }
-
--- and with one for each point, in their order
-abbrev pub with_points : Index → List (List ℤ) → Index
-with_points i points = fold with_point i points
 
 -- a session between two calls: with the files of its folder, and the folder's faults
 pub record SessionMoment : Type 0 where

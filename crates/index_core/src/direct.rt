@@ -2,7 +2,6 @@
 
 ghost use Rattle.std.specs.Prelude.{◌≡◌, ◌≤◌, ◌+◌, ◌^◌, ◌∷◌, [], length, IsTrue, IfOk};
 ghost use Rattle.outer_io.specs.Files.{Files};
-ghost use Rattle.point_codec.specs.Seen.{coordinates_of};
 ghost use Rattle.page_cache.specs.Causes.{HasPageCause};
 ghost use Rattle.page_cache.specs.Evidence.{NotDamaged, OnDamage};
 ghost use Rattle.documents.specs.Documents.{docs_without, hits, is_live};
@@ -11,6 +10,7 @@ ghost use Rattle.index_model.specs.State.{Index};
 ghost use Rattle.nearest_query.specs.Segments.{AreNearLeaves, bound_of};
 ghost use Rattle.segment_view.specs.LiveSegments.{heads_of};
 ghost use Rattle.segment_view.specs.Costs.{IsCostOf};
+ghost use Rattle.segment_set.specs.AtOnce.{AreNumbered, points_in};
 ghost use Rattle.segment_set.specs.Seen.{Sees};
 ghost use Rattle.index_opening.specs.Evidence.{IsEvidentOf};
 ghost use Rattle.segment_set.specs.Faithful.{IsFaithful};
@@ -24,8 +24,8 @@ use bkd_build::Gate;
 use cell_relate::Shape;
 use outer_io::Folder;
 use page_cache::PageFault;
-use point_codec::{Point, Points, View};
-use segment_set::AddFault;
+use point_codec::{Entry, Point, Points, View};
+use segment_set::{AddFault, MOST_BUFFERED};
 use segment_view::{Nearest, Visit};
 use std::alloc::Global;
 use std::marker::Sync;
@@ -71,65 +71,94 @@ impl<const D: usize> Session<D> {
         add_result(self.set.add(rt, alloc, folder, &Points::of(list), gate))
     }
 
-    /// Adds a document for each point, in their order, without a copy of them. It takes memory for one document's list,
-    /// however many there are. After a fault some are added.
-    pub fn add_points<R: Threads + Sync, F: Folder, G: Gate>(
+    /// Adds a document for each entry, whose number it must have: the next one, and so on. One segment is built of more
+    /// than the buffer holds; fewer wait in it, one after another. The slice holds the same entries in some order
+    /// afterwards. After a fault some may be added.
+    pub fn add_entries<R: Threads + Sync, F: Folder, G: Gate>(
         &mut self,
         rt: &R,
         alloc: Global,
         folder: &mut F,
-        points: &[Point<D>],
+        entries: &mut [Entry<D>],
         gate: &G,
     ) -> Result<(), PageFault>
-        requires { self.old.set.points_given + length points.now ≤ 2 ^ 24 }
-        ensures { Adds D (IsTrue F.told) (coordinates_of points.now)
+        requires numbered { AreNumbered self.old.set.next entries.old }
+        requires fits { self.old.set.points_given + length entries.old ≤ 2 ^ 24 }
+        ensures { Adds D (IsTrue F.told) (points_in entries.old)
             (record { files = F.files folder.old; session = self.old; faults = F.faults folder.old })
             (record { files = F.files folder.new; session = self.new; faults = F.faults folder.new }) result }
     {
-        match points {
-            [] => Ok(()),
-            [first, ..] => self.add_all(rt, alloc, folder, first, points, gate),
+        let first = match &*entries {
+            [] => return Ok(()),
+            [entry, ..] => entry.point,
+        };
+        if entries.len() > MOST_BUFFERED {
+            self.add_whole(rt, alloc, folder, entries, gate)
+        } else {
+            self.add_all(rt, alloc, folder, &first, entries, gate)
         }
     }
 
-    /// The same by way of one document's list, which has the first point at first.
+    /// Adds them as one segment.
+    fn add_whole<R: Threads + Sync, F: Folder, G: Gate>(
+        &mut self,
+        rt: &R,
+        alloc: Global,
+        folder: &mut F,
+        entries: &mut [Entry<D>],
+        gate: &G,
+    ) -> Result<(), PageFault>
+        requires some { 1 ≤ length entries.old }
+        requires numbered { AreNumbered self.old.set.next entries.old }
+        requires fits { self.old.set.points_given + length entries.old ≤ 2 ^ 24 }
+        ensures { Adds D (IsTrue F.told) (points_in entries.old)
+            (record { files = F.files folder.old; session = self.old; faults = F.faults folder.old })
+            (record { files = F.files folder.new; session = self.new; faults = F.faults folder.new }) result }
+    {
+        // its segments are all named
+        let _leaf_size = self.set.leaf_size();
+        self.set.add_entries(rt, alloc, folder, entries, gate)
+    }
+
+    /// Adds them one after the other by way of one document's list, which has the first point at first: so it takes
+    /// memory for one document, however many there are.
     fn add_all<R: Threads + Sync, F: Folder, G: Gate>(
         &mut self,
         rt: &R,
         alloc: Global,
         folder: &mut F,
         first: &Point<D>,
-        points: &[Point<D>],
+        entries: &[Entry<D>],
         gate: &G,
     ) -> Result<(), PageFault>
-        requires { self.old.set.points_given + length points.now ≤ 2 ^ 24 }
-        ensures { Adds D (IsTrue F.told) (coordinates_of points.now)
+        requires { self.old.set.points_given + length entries.now ≤ 2 ^ 24 }
+        ensures { Adds D (IsTrue F.told) (points_in entries.now)
             (record { files = F.files folder.old; session = self.old; faults = F.faults folder.old })
             (record { files = F.files folder.new; session = self.new; faults = F.faults folder.new }) result }
     {
         let mut list = Vec::with_capacity(alloc, 1)?;
         list.push_reserved(*first);
         let mut one = Points::of(list);
-        self.add_each(rt, alloc, folder, points, &mut one, gate)
+        self.add_each(rt, alloc, folder, entries, &mut one, gate)
     }
 
-    /// The same by way of `one`, which is each point in turn.
+    /// The same by way of `one`, which is each entry's point in turn.
     fn add_each<R: Threads + Sync, F: Folder, G: Gate>(
         &mut self,
         rt: &R,
         alloc: Global,
         folder: &mut F,
-        points: &[Point<D>],
+        entries: &[Entry<D>],
         one: &mut Points<D>,
         gate: &G,
     ) -> Result<(), PageFault>
-        requires { self.old.set.points_given + length points.now ≤ 2 ^ 24 }
-        ensures { Adds D (IsTrue F.told) (coordinates_of points.now)
+        requires { self.old.set.points_given + length entries.now ≤ 2 ^ 24 }
+        ensures { Adds D (IsTrue F.told) (points_in entries.now)
             (record { files = F.files folder.old; session = self.old; faults = F.faults folder.old })
             (record { files = F.files folder.new; session = self.new; faults = F.faults folder.new }) result }
     {
-        for point in points {
-            self.add_by(rt, alloc, folder, point, one, gate)?;
+        for entry in entries {
+            self.add_by(rt, alloc, folder, &entry.point, one, gate)?;
         }
         Ok(())
     }

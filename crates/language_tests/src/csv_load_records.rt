@@ -1,6 +1,6 @@
 use crate::asserts::{same, same_at};
 use byte_cursor::Bytes;
-use csv_load::{CsvFault, check_points, read_points};
+use csv_load::{CsvFault, check_points, read_entries};
 use std::alloc::Global;
 use std::fmt::Write;
 use std::test::Fail;
@@ -29,10 +29,11 @@ fn loads_points(rt: HostRuntime) -> Result<(), Fail> {
         (b"\n\nx,y\n\n1,2\n\n", &[[1, 2]]),
     ] {
         check_points::<2>(rt.alloc(), text, &columns)?;
-        let loaded = read_points::<2>(rt.alloc(), text, &columns)?;
+        let loaded = read_entries::<2>(rt.alloc(), text, &columns, 7)?;
         same_at(&rt, loaded.len(), points.len(), &text);
-        for (point, c) in loaded.iter().zip(points) {
-            same_at(&rt, point.c, *c, &text);
+        for (k, entry) in loaded.iter().enumerate() {
+            same_at(&rt, entry.doc, 7 + k as u32, &text);
+            same_at(&rt, entry.point.c, points[k], &text);
         }
     }
     Ok(())
@@ -60,7 +61,7 @@ fn names_the_first_fault(rt: HostRuntime) -> Result<(), Fail> {
         (b"x,y\n,5\n", CsvFault::Value { row: 1, column: 0 }),
         (b"x,y\n\xff,5\n", CsvFault::Value { row: 1, column: 0 }),
     ] {
-        let loaded = read_points::<2>(rt.alloc(), text, &columns);
+        let loaded = read_entries::<2>(rt.alloc(), text, &columns, 0);
         same_at(&rt, loaded.err(), Some(fault), &text);
         let checked = check_points::<2>(rt.alloc(), text, &columns);
         same_at(&rt, checked.err(), Some(fault), &text);
@@ -73,18 +74,18 @@ fn loads_cities_and_many_records(rt: HostRuntime) -> Result<(), Fail> {
     let places = columns(rt.alloc(), b"lon", b"lat")?;
     let cities =
         b"name,lon,lat\nBerlin,13404954,52520008\nParis,2352222,48856613\nRome,12496366,41902782\n";
-    let loaded = read_points::<2>(rt.alloc(), cities, &places)?;
+    let loaded = read_entries::<2>(rt.alloc(), cities, &places, 0)?;
     assert_eq!(rt; loaded.len(), 3);
-    same(&rt, loaded[0].c, [13_404_954, 52_520_008]);
-    same(&rt, loaded[2].c, [12_496_366, 41_902_782]);
+    same(&rt, loaded[0].point.c, [13_404_954, 52_520_008]);
+    same(&rt, loaded[2].point.c, [12_496_366, 41_902_782]);
 
     let mut text = String::from_str(rt.alloc(), "x,y\n")?;
     for i in 0..334 {
         writeln!(text, "{i},0")?;
     }
     let pair = columns(rt.alloc(), b"x", b"y")?;
-    let loaded = read_points::<2>(rt.alloc(), text.as_bytes(), &pair)?;
+    let loaded = read_entries::<2>(rt.alloc(), text.as_bytes(), &pair, 0)?;
     assert_eq!(rt; loaded.len(), 334);
-    same(&rt, loaded[333].c, [333, 0]);
+    same(&rt, loaded[333].point.c, [333, 0]);
     Ok(())
 }

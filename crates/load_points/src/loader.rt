@@ -4,13 +4,13 @@ ghost use Rattle.std.specs.Prelude.{◌≡◌, ◌≤◌, ◌<◌, ◌+◌, ◌^
 ghost use Rattle.std.specs.Prelude.{IfOk, OnOk};
 ghost use Rattle.outer_io.specs.Files.{bytes_of};
 ghost use Rattle.outer_io.specs.declared.file_name.FileName.TheVariants.{Commit as CommitName};
-ghost use Rattle.point_codec.specs.Seen.{coordinates_of};
 ghost use Rattle.page_cache.specs.Causes.{HasPageCause};
 ghost use Rattle.page_cache.specs.Evidence.{OnDamage};
 ghost use Rattle.commit_list.specs.CommitFiles.{IsCommitFile};
 ghost use Rattle.index_model.specs.State.{State};
 ghost use Rattle.stored_index.specs.Stored.{IsStored};
 ghost use Rattle.index_opening.specs.Evidence.{IsEvident};
+ghost use Rattle.segment_set.specs.AtOnce.{AreNumbered, points_in};
 ghost use Rattle.index_core.specs.Brought.{KeepsCommit};
 ghost use Rattle.index_core.specs.KeptLive.{KeepsLive};
 ghost use Rattle.index_core.specs.Light.{KeepsLevels};
@@ -24,12 +24,12 @@ use crate::texts::{put_full, put_loaded};
 use bkd_build::Gate;
 use byte_cursor::Bytes;
 use commit_list::{Commit, read_commit};
-use csv_load::{CsvFault, read_points};
+use csv_load::{CsvFault, read_entries};
 use index_core::{Session, Work};
 use leaf_codec::greatest_leaf;
 use outer_io::Folder;
 use page_cache::PageFault;
-use point_codec::{MOST_POINTS, Point};
+use point_codec::{Entry, MOST_POINTS};
 use std::alloc::AllocError;
 use std::marker::Sync;
 use std::thread::Threads;
@@ -216,8 +216,8 @@ fn load_into<const D: usize, R: Threads + Sync, F: Folder, G: Gate>(
         (record { files = F.files folder.old; faults = F.faults folder.old; text = text.old.items })
         (record { files = F.files folder.new; faults = F.faults folder.new; text = text.new.items }) result }
 {
-    match read_points::<D>(work.alloc, input, columns) {
-        Ok(points) => add_all(work, session, points.as_slice(), folder, text),
+    match read_entries::<D>(work.alloc, input, columns, session.next()) {
+        Ok(mut entries) => add_all(work, session, entries.as_mut_slice(), folder, text),
         Err(CsvFault::Memory) => Err(PageFault::Memory),
         Err(fault) => refuse_file(text, columns, &fault),
     }
@@ -227,18 +227,20 @@ fn load_into<const D: usize, R: Threads + Sync, F: Folder, G: Gate>(
 fn add_all<const D: usize, R: Threads + Sync, F: Folder, G: Gate>(
     work: &Work<'_, R, G>,
     session: &mut Session<D>,
-    points: &[Point<D>],
+    entries: &mut [Entry<D>],
     folder: &mut F,
     text: &mut Vec<u8>,
 ) -> Result<bool, PageFault>
-    requires { D ≤ 8 }
+    requires few { D ≤ 8 }
+    requires numbered { session.old.set.points_given + length entries.old ≤ 2 ^ 24
+        → AreNumbered session.old.set.next entries.old }
     ensures { Loads (IsTrue F.told) (HasKept D (F.files folder.old) session.old)
-        (IsLoading D (F.files folder.old) session.old) (λ stored. columns_answer D stored (coordinates_of points.now))
+        (IsLoading D (F.files folder.old) session.old) (λ stored. columns_answer D stored (points_in entries.old))
         (record { files = F.files folder.old; faults = F.faults folder.old; text = text.old.items })
         (record { files = F.files folder.new; faults = F.faults folder.new; text = text.new.items }) result }
 {
-    match fitting(session.points_given(), points.len()) {
-        Some(count) => add_fitting(work, session, points, count, folder, text),
+    match fitting(session.points_given(), entries.len()) {
+        Some(count) => add_fitting(work, session, entries, count, folder, text),
         None => {
             put_full(text)?;
             Ok(true)
@@ -261,21 +263,22 @@ fn fitting(points_given: u32, count: usize) -> Option<u32>
 fn add_fitting<const D: usize, R: Threads + Sync, F: Folder, G: Gate>(
     work: &Work<'_, R, G>,
     session: &mut Session<D>,
-    points: &[Point<D>],
+    entries: &mut [Entry<D>],
     count: u32,
     folder: &mut F,
     text: &mut Vec<u8>,
 ) -> Result<bool, PageFault>
     requires few { D ≤ 8 }
-    requires counted { count ≡ length points.now }
-    requires fits { session.old.set.points_given + length points.now ≤ 2 ^ 24 }
+    requires numbered { AreNumbered session.old.set.next entries.old }
+    requires counted { count ≡ length entries.old }
+    requires fits { session.old.set.points_given + length entries.old ≤ 2 ^ 24 }
     ensures { Loads (IsTrue F.told) (HasKept D (F.files folder.old) session.old)
-        (IsLoading D (F.files folder.old) session.old) (λ stored. columns_answer D stored (coordinates_of points.now))
+        (IsLoading D (F.files folder.old) session.old) (λ stored. columns_answer D stored (points_in entries.old))
         (record { files = F.files folder.old; faults = F.faults folder.old; text = text.old.items })
         (record { files = F.files folder.new; faults = F.faults folder.new; text = text.new.items }) result }
 {
     put_loaded(text, count, session.next() + count)?;
-    session.add_points(work.rt, work.alloc, folder, points, work.gate)?;
+    session.add_entries(work.rt, work.alloc, folder, entries, work.gate)?;
     session.commit(work.rt, work.alloc, folder, work.gate)?;
     Ok(false)
 }

@@ -17,7 +17,7 @@ use Rattle.segment_view.specs.LiveSegments.{LiveSegment, parts_among, parts_but}
 use Rattle.segment_build.specs.NewSegments.{NewSegmentData, HasEntries}
 use Rattle.file_names.specs.Names.{NameList}
 use Rattle.index_opening.specs.Evidence.{AreOfSome, IsHeldOrNone}
-use Rattle.segment_set.specs.Sets.{BegunMerge, IsNamed, IsWell, SetData, set_but, set_with}
+use Rattle.segment_set.specs.Sets.{BegunMerge, IsNamed, IsWellTo, SetData, set_but, set_with}
 use Rattle.segment_set.specs.Kept.{StaysButCache}
 use Rattle.segment_set.specs.Losing.{HoldsNoMore, KeepsCounts}
 use Rattle.segment_set.specs.Merges.{Replaces, Swaps, part_at}
@@ -103,7 +103,7 @@ fits_inputs D files inputs buffer n h = record {
 }
 
 module _ (D : ℕ) (told : Type 0) (files new_files : Files) (s : SetData) (names : NameList) (ids : List ℕ) (parts : List LiveSegment) (left : List Item)
-    (m : Moves D told files new_files s names ids parts left) (is_told : told) (well : IsWell D s) where
+    (m : Moves D told files new_files s names ids parts left) (is_told : told) {most : ℕ} (well : IsWellTo most D s) where
   others_before : (items : List Item) → AreOfSome D new_files (parts_but ids s.parts) items → AreOfSome D files (parts_but ids s.parts) items
   others_before items held = some_alike D files new_files (parts_but ids s.parts) items
       (λ p there. m.kept.files is_told (Segment p.head.id) (All-contains (IsNamed s.names) s.parts p well.named

@@ -22,7 +22,7 @@ use Rattle.stored_index.specs.Segments.{places}
 use Rattle.stored_index.proofs.Places.{entry_there}
 use Rattle.segment_view.specs.LiveSegments.{lives_of}
 use Rattle.document_checks.specs.Crowded.{AreFew}
-use Rattle.segment_set.specs.Sets.{IsWell, SetData, set_with}
+use Rattle.segment_set.specs.Sets.{IsWellTo, SetData, set_with}
 use Rattle.segment_set.proofs.Well.{left_of}
 
 -- ---- what every set keeps to
@@ -168,9 +168,9 @@ ordered_with n buffer (p ∷ ps) below up =
     more : (x : Item) → Contains (buffer ++ entry_of n p ∷ []) x → x.doc ≤ n
     more x h = ⊎_elim (below x) (λ e. subst (λ (y : Item). y.doc ≤ n) e (omega arith)) (Contains-push_cases buffer (entry_of n p) x h)
 
-pub well_with : (D : ℕ) (s : SetData) (points : List (List ℤ)) → ArePoints points → length s.buffer + length points ≤ 16384
+pub well_with : {most : ℕ} (D : ℕ) (s : SetData) (points : List (List ℤ)) → ArePoints points → length s.buffer + length points ≤ most
     → s.points_given + length points ≤ 2 ^ 24
-    → IsWell D s → IsWell D (set_with points s)
+    → IsWellTo most D s → IsWellTo most D (set_with points s)
 well_with D s points ok room points_given well = record {
   some_dims = well.some_dims;
   few_dims = well.few_dims;

@@ -15,7 +15,7 @@ use Rattle.segment_file.specs.Segments.{IsHeadOf}
 use Rattle.segment_file.proofs.Unique.{head_of_segment}
 use Rattle.segment_view.specs.LiveSegments.{LiveSegment, parts_among}
 use Rattle.file_names.specs.Names.{NameList, is_named}
-use Rattle.segment_set.specs.Sets.{BegunMerge, IsNamed, IsWell, NamedView, SetData, inputs_of, set_but}
+use Rattle.segment_set.specs.Sets.{BegunMerge, IsNamed, IsWell, IsWellTo, NamedView, SetData, inputs_of, set_but}
 use Rattle.segment_set.specs.Kept.{AreCanonical, Follows, HasCanonical, KeepsNamed}
 use Rattle.segment_set.specs.Merged.{Rearranges}
 use Rattle.segment_set.specs.Faithful.{HasFileHead, IsFaithful}
@@ -56,12 +56,13 @@ faithful_parts D f g names old new named same follows canon has =
 -- ---- the set
 
 -- the files of its segments are those of names
-pub part_files : (D : ℕ) {f g : Files} (s : SetData) → IsWell D s → ((m : FileName) → is_named s.names.names m ≡ true → g m ≡ f m) → (p : LiveSegment)
+pub part_files : {most : ℕ} (D : ℕ) {f g : Files} (s : SetData) → IsWellTo most D s → ((m : FileName) → is_named s.names.names m ≡ true → g m ≡ f m)
+    → (p : LiveSegment)
     → Contains s.parts p → g (Segment p.head.id) ≡ f (Segment p.head.id)
 part_files D s well same p there = same (Segment p.head.id) (All-contains (IsNamed s.names) s.parts p well.named there)
 
 -- where merges and flushes arranged it anew
-pub faithful_rearranged : (D : ℕ) (told : Type 0) (f g : Files) (s t : SetData) → IsWell D s → Rearranges D told f g s t → told
+pub faithful_rearranged : {most : ℕ} (D : ℕ) (told : Type 0) (f g : Files) (s t : SetData) → IsWellTo most D s → Rearranges D told f g s t → told
     → (Agrees f s.cache → Agrees g t.cache) → IsFaithful D f s → IsFaithful D g t
 faithful_rearranged D told f g s t well moves is_told agrees is = record {
   pages = agrees is.pages;

@@ -51,6 +51,8 @@ pub mod Viewing
 pub mod Trusted
 pub mod Settled
 pub mod Shows
+pub mod Loaded
+pub mod LoadedSet
 pub mod Exits
 pub mod Pushed
 pub mod WholeFiles

@@ -23,7 +23,7 @@ use Rattle.segment_view.specs.LiveSegments.{LiveSegment, Contents, has_live, ids
 use Rattle.document_checks.specs.Crowded.{AreFew}
 use Rattle.segment_build.specs.NewSegments.{NewSegmentData, HasEntries, IsCanonical}
 use Rattle.file_names.specs.Names.{NameList, is_named}
-use Rattle.segment_set.specs.Sets.{BegunMerge, SetData, IsBuiltOf, IsNamed, IsWell, built_of, inputs_of, is_live_in}
+use Rattle.segment_set.specs.Sets.{BegunMerge, SetData, IsBuiltOf, IsNamed, IsWell, IsWellTo, built_of, inputs_of, is_live_in}
 use Rattle.segment_set.specs.Seen.{BegunStands, MergesInto, Sees}
 use Rattle.segment_set.specs.Kept.{KeepsNamed, StaysAlone, Follows, AreCanonical}
 use Rattle.segment_set.specs.Merges.{MakesLive, IsMade, part_at, Replaces}
@@ -56,7 +56,7 @@ module _ (D : ℕ) (told : Type 0) (files new_files : Files) (s : SetData) (name
   -- ---- the set alone
 
   -- of these ids none is an input of the begun merge, whose inputs stay then
-  pub inputs_stay : IsWell D s → ((id : ℕ) → is_among ids id ≡ true → is_among (inputs_of s.begun) id ≡ false)
+  pub inputs_stay : {most : ℕ} → IsWellTo most D s → ((id : ℕ) → is_among ids id ≡ true → is_among (inputs_of s.begun) id ≡ false)
       → parts_among (inputs_of s.begun) parts ≡ parts_among (inputs_of s.begun) s.parts
   inputs_stay well apart =
       among_replaced D told s.names names new_files ids s.parts parts (inputs_of s.begun) m.built m.replaces apart (λ id among. named id among)
@@ -75,7 +75,8 @@ module _ (D : ℕ) (told : Type 0) (files new_files : Files) (s : SetData) (name
           follows_placed s.names (part_at r.id n) s.parts (parts_but ids s.parts) parts r.placed r.fresh
           (follows_filter s.names (λ p. not (is_among ids p.head.id)) s.parts)
 
-  pub well_moved : IsWell D s → (begun : Option BegunMerge) (cache : PageCache) → length parts ≤ 200 → length left ≤ 16384 → IsNonDecreasingBy (λ x. x.doc) left
+  pub well_moved : {most : ℕ} → IsWellTo most D s → (begun : Option BegunMerge) (cache : PageCache) → length parts ≤ 200 → length left ≤ 16384
+      → IsNonDecreasingBy (λ x. x.doc) left
       → NoneTwice left → AreFew left
       → All (λ id. is_among (ids_of parts) id ≡ true) (inputs_of begun) → length (inputs_of begun) ≤ 64
       → ((n : NewSegmentData) → built_of begun ≡ Some n → IsBuiltOf D s.leaf_size (parts_among (inputs_of begun) parts) n)
@@ -143,7 +144,7 @@ module _ (D : ℕ) (told : Type 0) (files new_files : Files) (s : SetData) (name
 
   -- ---- the segments
 
-  pub canon_moved : told → IsWell D s → AreCanonical D new_files s.names parts
+  pub canon_moved : {most : ℕ} → told → IsWellTo most D s → AreCanonical D new_files s.names parts
   canon_moved is_told well = by m.built m.replaces m.made
     where
       canonical : (id : ℕ) (n : NewSegmentData) (items : List Item) → HasEntries D items n → IsCanonical D (part_at id n).head items
@@ -170,7 +171,7 @@ module _ (D : ℕ) (told : Type 0) (files new_files : Files) (s : SetData) (name
 
   -- ---- how it is seen
 
-  pub seen_moved : told → IsWell D s → (i : Index) (h : Sees D files s i) (entries : List Item) → MakesLive D entries m.built
+  pub seen_moved : {most : ℕ} → told → IsWellTo most D s → (i : Index) (h : Sees D files s i) (entries : List Item) → MakesLive D entries m.built
       → SameTotals (live_in_parts h.contents (parts_among ids s.parts) ++ s.buffer) (entries ++ left)
       → (begun : Option BegunMerge) (cache : PageCache)
       → ((d : Contents) → IsAlike s.names files new_files h.contents d → BegunStands D d parts begun)
@@ -201,7 +202,7 @@ module _ (D : ℕ) (told : Type 0) (files new_files : Files) (s : SetData) (name
           m.replaces
 
   -- a begun merge whose inputs stay stands
-  pub begun_moved : IsWell D s → ((id : ℕ) → is_among ids id ≡ true → is_among (inputs_of s.begun) id ≡ false) → (c d : Contents)
+  pub begun_moved : {most : ℕ} → IsWellTo most D s → ((id : ℕ) → is_among ids id ≡ true → is_among (inputs_of s.begun) id ≡ false) → (c d : Contents)
       → IsAlike s.names files new_files c d
       → BegunStands D c s.parts s.begun → BegunStands D d parts s.begun
   begun_moved well apart c d alike stands = by s.begun refl (alike_begun D s.names files new_files c d s.parts s.begun alike well.named stands)

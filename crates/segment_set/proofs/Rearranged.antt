@@ -22,7 +22,7 @@ use Rattle.stored_index.proofs.Places.{entry_there}
 use Rattle.segment_view.specs.LiveSegments.{LiveSegment, ids_of, live_in_parts, parts_among}
 use Rattle.segment_view.specs.Damages.{IsReadDamage}
 use Rattle.file_names.specs.Names.{NameList, is_named}
-use Rattle.segment_set.specs.Sets.{BegunMerge, SetData, IsNamed, IsWell, inputs_of}
+use Rattle.segment_set.specs.Sets.{BegunMerge, SetData, IsNamed, IsWell, IsWellTo, inputs_of}
 use Rattle.segment_set.specs.Kept.{KeepsNamed}
 use Rattle.segment_set.specs.Merged.{KeepsEntries, Rearranges}
 use Rattle.segment_set.specs.Merges.{IsMerged}
@@ -171,7 +171,7 @@ doubt_same points_given xs ys same d h = doubt_more points_given xs ys (omega (a
 -- ---- what waits in the buffer
 
 -- each number that waits is below 2 ^ 24
-pub waiting_below : {D : ℕ} (s : SetData) → IsWell D s → All (λ x. x.doc < 2 ^ 24) s.buffer
+pub waiting_below : {most D : ℕ} (s : SetData) → IsWellTo most D s → All (λ x. x.doc < 2 ^ 24) s.buffer
 waiting_below s well = All-weaker (Contains s.buffer) (λ (x : Item). x.doc < 2 ^ 24) below s.buffer (All-contains_itself s.buffer)
   where
     below : (x : Item) → Contains s.buffer x → x.doc < 2 ^ 24

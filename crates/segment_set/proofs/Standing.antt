@@ -19,7 +19,7 @@ use Rattle.segment_view.specs.LiveSegments.{LiveSegment, Contents, AreRead, ids_
 use Rattle.segment_view.proofs.Living.{live_alike, read_alike}
 use Rattle.segment_build.specs.NewSegments.{NewSegmentData}
 use Rattle.file_names.specs.Names.{NameList, is_named}
-use Rattle.segment_set.specs.Sets.{BegunMerge, IsNamed, IsWell, NamedView, SetData}
+use Rattle.segment_set.specs.Sets.{BegunMerge, IsNamed, IsWell, IsWellTo, NamedView, SetData}
 use Rattle.segment_set.specs.Seen.{BegunStands, MergesInto, Sees, ShowsSnapshot, StandsOver, entries_seen}
 use Rattle.segment_set.specs.Kept.{KeepsNamed}
 
@@ -176,7 +176,7 @@ pub record IsLike (s t : SetData) : Type 0 where
   pub snapshots : t.snapshots ≡ s.snapshots
 
 -- another set over other files, with the same entries in whatever order
-pub sees_moved : (D : ℕ) (old new : Files) (s t : SetData) (i : Index) (d : Contents) (seen : Sees D old s i) → IsWell D s
+pub sees_moved : {most : ℕ} (D : ℕ) (old new : Files) (s t : SetData) (i : Index) (d : Contents) (seen : Sees D old s i) → IsWellTo most D s
     → IsAlike s.names old new seen.contents d
     → StandsOver D new d t → IsLike s t → SameTotals (entries_seen seen.contents s.parts s.buffer) (entries_seen d t.parts t.buffer)
     → Sees D new t (record i { begun = is_some t.begun })

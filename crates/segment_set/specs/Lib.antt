@@ -8,6 +8,7 @@ pub mod Merged
 pub mod Damages
 pub mod Merges
 pub mod Settles
+pub mod AtOnce
 pub mod Runs
 pub mod Waiting
 pub mod Saved

@@ -106,7 +106,7 @@ abbrev pub living : Option NewSegmentData → Option NewSegmentData
 living None = None
 living (Some n) = with_live n.live.live n
 
--- the buffer went to a segment, all of whose entries are live
+-- these entries, as those of the buffer, went to a segment, all of whose entries are live
 pub record IsBufferWritten (D : ℕ) (told : Type 0) (leaf_size : ℕ) (before after : NameList) (new_files : Files)
     (buffer : List Item) (old new : List LiveSegment) : Type 0 where
   pub n : NewSegmentData

@@ -184,7 +184,8 @@ pub record IsBuiltOf (D size : ℕ) (inputs : List LiveSegment) (n : NewSegmentD
   pub fits : length n.live.live ≤ n.entries
   pub within : (number : ℕ) → is_live n.live number ≡ true → list_any (λ p. is_live p.live number) inputs ≡ true
 
-pub record IsWell (D : ℕ) (s : SetData) : Type 0 where
+-- what every set keeps to, where at most so many entries wait
+pub record IsWellTo (most D : ℕ) (s : SetData) : Type 0 where
   pub some_dims : 1 ≤ D
   pub few_dims : D ≤ 8
   pub least_leaf : 2 ≤ s.leaf_size
@@ -192,7 +193,7 @@ pub record IsWell (D : ℕ) (s : SetData) : Type 0 where
   pub numbered : s.next ≤ s.points_given
   pub most_given : s.points_given ≤ 2 ^ 24
   pub spread : IsSpread s.next s.parts s.buffer
-  pub room : length s.buffer ≤ 16384
+  pub room : length s.buffer ≤ most
   pub ordered : IsNonDecreasingBy (λ x. x.doc) s.buffer
   pub once : NoneTwice s.buffer
   pub sixteen : AreFew s.buffer
@@ -210,3 +211,7 @@ pub record IsWell (D : ℕ) (s : SetData) : Type 0 where
       → IsBuiltOf D s.leaf_size (parts_among (inputs_of s.begun) s.parts) n
   pub cached : (id : ℕ) → KeepsFile s.cache id → is_named s.names.names (Segment id) ≡ true
   pub unhidden : All (HidesNoneOf D s.cache) s.parts
+
+-- a buffer has 16,384 entries at most
+abbrev pub IsWell : ℕ → SetData → Type 0
+IsWell D s = IsWellTo 16384 D s

@@ -134,6 +134,15 @@ impl<const D: usize> Buffer<D> {
         self.entries.as_slice()
     }
 
+    /// Passes over so many numbers, which documents have whose entries never wait here.
+    pub(crate) fn pass(&mut self, count: u32)
+        requires { self.old.next + count ≤ 2 ^ 24 }
+        ensures next { self.new.next ≡ self.old.next + count }
+        ensures items { self.new.items ≡ self.old.items }
+    {
+        self.next += count;
+    }
+
     /// Takes all entries out. The next document's number stays.
     pub(crate) fn clear(&mut self)
         ensures items { self.new.items ≡ [] }

@@ -18,7 +18,7 @@ use std::marker::Sync;
 use std::thread::Threads;
 
 /// The greatest number of entries in the buffer.
-const MOST_BUFFERED: usize = 16384;
+pub const MOST_BUFFERED: usize = 16384;
 
 impl<const D: usize> SegmentSet<D> {
     ghost use Rattle.segment_set.specs.Faults.{HasCauseOf, OnAddDamage};

@@ -8,8 +8,8 @@ ghost use Rattle.merge_policy.specs.Choice.{IsChoice, free_count};
 ghost use Rattle.segment_view.specs.LiveSegments.{ids_of, parts_among};
 
 use crate::choosing::{chosen, inputs_of};
-use crate::rewriting::write_buffer;
 use crate::set::SegmentSet;
+use crate::writing::write_buffer;
 use bkd_build::Gate;
 use outer_io::Folder;
 use page_cache::{Memory, PageFault};

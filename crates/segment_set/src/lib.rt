@@ -15,6 +15,7 @@ mod choosing;
 mod deletions;
 mod faults;
 mod flushing;
+mod loading;
 mod merges;
 mod queries;
 mod rewriting;
@@ -23,7 +24,9 @@ mod set;
 mod settings;
 mod snapshots;
 mod sweep;
+mod writing;
 
+pub use changes::MOST_BUFFERED;
 pub use faults::{AddFault, BeginFault, EndFault, SnapFault};
 pub use set::SegmentSet;
 pub use settings::Settings;

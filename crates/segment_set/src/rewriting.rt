@@ -1,6 +1,6 @@
 //! Live entries of segments are gathered, a segment is built of them, and it takes their place.
 
-ghost use Rattle.std.specs.Prelude.{◌≡◌, ◌≤◌, ◌<◌, ◌^◌, ℕ, List, true, [], None, Some, length};
+ghost use Rattle.std.specs.Prelude.{◌≡◌, ◌≤◌, ◌<◌, ◌^◌, ℕ, List, true, None, Some, length};
 ghost use Rattle.std.specs.Prelude.{All, IsTrue, IfOk, OnOk, OnErr, IsErrOf};
 ghost use Rattle.std.specs.List.Sorted.{IsPermutation};
 ghost use Rattle.std.specs.Option.{option_copied};
@@ -14,17 +14,16 @@ ghost use Rattle.page_cache.specs.Causes.{HasPageCause};
 ghost use Rattle.page_cache.specs.Evidence.{OnDamage, NotDamaged};
 ghost use Rattle.page_cache.specs.declared.faults.PageFault.TheVariants as fault;
 ghost use Rattle.segment_view.specs.LiveSegments.{Contents, AreRead, live_in_parts, parts_among};
-ghost use Rattle.document_checks.specs.Crowded.{AreFew, AreUncrowded};
+ghost use Rattle.document_checks.specs.Crowded.{AreUncrowded};
 ghost use Rattle.segment_build.specs.NewSegments.{NewSegmentData, HasEntries};
 ghost use Rattle.file_names.specs.Names.{NameList, is_named};
 ghost use Rattle.segment_set.specs.Sets.{AreAlone, IsNamed};
 ghost use Rattle.segment_set.specs.Kept.{KeepsNamed};
-ghost use Rattle.segment_set.specs.Merges.{IsGathered, IsMerged, Swaps, IsBufferWritten, LosesNone, MakesLive};
+ghost use Rattle.segment_set.specs.Merges.{IsGathered, IsMerged, Swaps, LosesNone, MakesLive};
 ghost use Rattle.segment_set.specs.Merges.{Replaces, living};
 ghost use Rattle.segment_set.specs.Damages.{IsDoubt, IsEvidentIn, IsMergeDamage, IsMergeDamageOf};
 ghost use Rattle.segment_set.specs.Faithful.{HasFileHead};
 
-use crate::buffer::Buffer;
 use crate::build_plan::BuildPlan;
 use bkd_build::Gate;
 use document_checks::{doubled, fits_docs};
@@ -136,7 +135,7 @@ pub(crate) fn gathered<const D: usize, R: Threads + Sync, F: Pages, G: Gate>(
 }
 
 /// Writes a segment under a new name, and puts it in place of the segments of these ids. A refusal leaves the segments.
-fn swap<const D: usize, F: Folder>(
+pub(crate) fn swap<const D: usize, F: Folder>(
     alloc: Global,
     folder: &mut F,
     names: &mut FileNames,
@@ -230,49 +229,4 @@ pub(crate) fn merge<const D: usize, R: Threads + Sync, F: Folder, G: Gate>(
 {
     let built = gathered(rt, alloc, segments, ids, folder, plan, gate)?;
     replace(alloc, folder, names, segments, built.as_ref(), ids)
-}
-
-/// Writes what waits in the buffer as a segment, and empties the buffer. A refusal leaves segments and buffer.
-pub(crate) fn write_buffer<const D: usize, R: Threads + Sync, F: Folder, G: Gate>(
-    rt: &R,
-    alloc: Global,
-    folder: &mut F,
-    names: &mut FileNames,
-    segments: &mut Segments<D>,
-    buffer: &mut Buffer<D>,
-    plan: &BuildPlan<D>,
-    gate: &G,
-) -> Result<(), PageFault>
-    requires dims { D ≤ 8 }
-    requires named { All (IsNamed names.old) segments.old }
-    requires some { 1 ≤ length buffer.old.items }
-    requires few { length buffer.old.items ≤ 16384 }
-    requires numbers { All (λ x. x.doc < 2 ^ 24) buffer.old.items }
-    requires once { NoneTwice buffer.old.items }
-    requires sixteen { AreFew buffer.old.items }
-    ensures written { OnOk result
-        (IsBufferWritten D (IsTrue F.told) plan.now.leaf_size names.old names.new (F.files folder.new)
-        buffer.old.items segments.old segments.new) }
-    ensures emptied { OnOk result (buffer.new.items ≡ []) }
-    ensures next { buffer.new.next ≡ buffer.old.next }
-    ensures refused { OnErr result ((segments.new ≡ segments.old) × (buffer.new.items ≡ buffer.old.items)) }
-    ensures kept { KeepsNamed (IsTrue F.told) names.old names.new (F.files folder.old) (F.files folder.new) }
-    ensures reads { F.reads folder.new ≡ F.reads folder.old }
-    ensures cause { HasPageCause (F.faults folder.old) (F.faults folder.new) result }
-    ensures whole { NotDamaged result }
-{
-    buffer.settle();
-    // a build leaves its entries in another order
-    let mut copy = Vec::from_slice(alloc, buffer.as_slice())?;
-    let new = build_segment(
-        rt,
-        alloc,
-        copy.as_mut_slice(),
-        plan.leaf_size,
-        plan.forks,
-        gate,
-    )?;
-    swap(alloc, folder, names, segments, &new, &[])?;
-    buffer.clear();
-    Ok(())
 }

@@ -1,6 +1,6 @@
 //! Removes the files that neither the commit nor a view needs.
 
-ghost use Rattle.std.specs.Prelude.{◌≡◌, ◌<◌, ◌+◌, ◌-◌, ◌^◌, ◌↔◌, ◌&&◌, ℕ, true, false};
+ghost use Rattle.std.specs.Prelude.{◌≡◌, ◌<◌, ◌+◌, ◌-◌, ◌^◌, ℕ, true, false};
 ghost use Rattle.std.specs.Prelude.{take, length, slice_get, All, Some, None, IsTrue, IfOk, OnOk};
 ghost use Rattle.std.specs.List.{list_any};
 ghost use Rattle.outer_io.specs.Faults.{HasCause};
@@ -9,7 +9,6 @@ ghost use Rattle.outer_io.specs.declared.file_name.FileName.{FileName};
 ghost use Rattle.outer_io.specs.declared.file_name.FileName.TheVariants.{Segment};
 ghost use Rattle.page_cache.specs.Cache.{Agrees, KeepsFile, MarksGo};
 ghost use Rattle.documents.specs.Entries.{is_among};
-ghost use Rattle.stored_index.specs.Kept.{ListsFile};
 ghost use Rattle.index_model.specs.State.{Index};
 ghost use Rattle.segment_view.specs.LiveSegments.{ids_of};
 ghost use Rattle.file_names.specs.Names.{is_named};
@@ -19,6 +18,7 @@ use crate::snapshots::Snapshot;
 use commit_list::Commit;
 use outer_io::{Failed, FileName, Folder};
 use page_cache::PageCache;
+use stored_index::lists_file;
 
 impl<const D: usize> SegmentSet<D> {
     ghost use Rattle.segment_set.specs.Seen.{Sees};
@@ -147,23 +147,6 @@ fn any_has<const D: usize>(snapshots: &[Snapshot<D>], id: u64) -> bool
         }
     }
     false
-}
-
-/// Whether the commit lists the file.
-fn lists_file(c: &Commit, name: &FileName) -> bool
-    ensures { (result ≡ true) ↔ ListsFile c.now name.now }
-{
-    match *name {
-        FileName::Segment(id) => c.listed().iter().any(|s| s.segment == id),
-        FileName::Live {
-            segment,
-            generation,
-        } => c
-            .listed()
-            .iter()
-            .any(|s| s.segment == segment && s.generation == generation),
-        FileName::Commit | FileName::CommitNew => false,
-    }
 }
 
 /// Takes out what is kept of the file.

@@ -3,9 +3,9 @@ use Rattle.std.proofs.Common.{Err, sym, ap, ◌∙◌, arith}
 use Rattle.std.proofs.lemmas.List.{length-map}
 use Rattle.std.proofs.lemmas.Result.{err_from_is_err_and}
 use Rattle.page_cache.specs.declared.faults.PageFault.{PageFault}
-use Rattle.point_codec.specs.Seen.{coordinates_of}
-use Rattle.point_codec.specs.declared.coordinates.Point.{Point}
-use Rattle.segment_set.proofs.Sizes.{point_fits}
+use Rattle.segment_set.specs.AtOnce.{points_in}
+use Rattle.point_codec.specs.declared.entries.Entry.{Entry}
+use Rattle.point_codec.proofs.Sizes.{entry_fits}
 use Rattle.index_core.proofs.Sizes.{session_fits}
 use Rattle.load_points.proofs.Loading.{adding_stopped, all_loaded, commit_stopped, loads_no_memory}
 use Rattle.load_points.proofs.LoadAnswers.{told_count}
@@ -14,8 +14,8 @@ use Rattle.load_points.proofs.loader.add_fitting.Goals as goal
 pub next-requires : goal.next-requires
 next-requires g c = session_fits g.row.D c.requires.few
 
-pub add_points-requires-after_bounds : goal.add_points-requires-after_bounds
-add_points-requires-after_bounds g c κs = λ _. (session_fits g.row.D c.requires.few, (point_fits g.row.D c.requires.few, c.requires.fits))
+pub add_entries-requires-after_bounds : goal.add_entries-requires-after_bounds
+add_entries-requires-after_bounds g c κs = λ _. (session_fits g.row.D c.requires.few, (entry_fits g.row.D c.requires.few, (c.requires.numbered, c.requires.fits)))
 
 pub commit-requires-after_bounds : goal.commit-requires-after_bounds
 commit-requires-after_bounds g c κs = λ _. session_fits g.row.D c.requires.few
@@ -25,18 +25,18 @@ returns-in_err-put_loaded g c =
     let p = err_from_is_err_and c.from_residual.result c.from_residual.ensures.1 in
     loads_no_memory _ _ _ _ _ _ _ _ _ (p.1 ∙ ap (λ (e : PageFault). Err e) p.2) (λ stored l. l.keeps)
 
-pub returns-in_err-add_points : goal.returns-in_err-add_points
-returns-in_err-add_points g c =
-    let p = err_from_is_err_and c.from_residual-in_err-add_points.result c.from_residual-in_err-add_points.ensures.1 in
-    adding_stopped g.row.D _ _ (coordinates_of c.args.points.now) _ _ _ _ c.in_err-add_points.field-0.0 _ (p.1 ∙ ap (λ (e : PageFault). Err e) p.2)
-    c.in_err-add_points.ensures
+pub returns-in_err-add_entries : goal.returns-in_err-add_entries
+returns-in_err-add_entries g c =
+    let p = err_from_is_err_and c.from_residual-in_err-add_entries.result c.from_residual-in_err-add_entries.ensures.1 in
+    adding_stopped g.row.D _ _ (points_in c.args.entries.now) _ _ _ _ c.in_err-add_entries.field-0.0 _ (p.1 ∙ ap (λ (e : PageFault). Err e) p.2)
+    c.in_err-add_entries.ensures
 
 pub returns-in_err-commit : goal.returns-in_err-commit
 returns-in_err-commit g c =
     let p = err_from_is_err_and c.from_residual-in_err-commit.result c.from_residual-in_err-commit.ensures.1 in
-    let long = length-map c.args.points.now (λ (q : Point g.row.D). q.c) in
-    commit_stopped g.row.D _ (coordinates_of c.args.points.now) _ _ _ tt _ _ c.in_err-commit.field-0.0 _ (p.1 ∙ ap (λ (e : PageFault). Err e) p.2)
-    (omega (arith, c.requires.fits, long)) c.in_ok-add_points.ensures
+    let long = length-map c.args.entries.now (λ (q : Entry g.row.D). q.point.c) in
+    commit_stopped g.row.D _ (points_in c.args.entries.now) _ _ _ tt _ _ c.in_err-commit.field-0.0 _ (p.1 ∙ ap (λ (e : PageFault). Err e) p.2)
+    (omega (arith, c.requires.fits, long)) c.in_ok-add_entries.ensures
     (record {
       seen = c.in_err-commit.ensures.seen;
       stays = c.in_err-commit.ensures.stays;
@@ -48,9 +48,9 @@ returns-in_err-commit g c =
 
 pub returns : goal.returns
 returns g c =
-    let long = length-map c.args.points.now (λ (q : Point g.row.D). q.c) in
-    all_loaded g.row.D _ (coordinates_of c.args.points.now) _ _ _ tt tt c.next.result _ _ (omega (arith, c.requires.fits, long)) c.next.ensures.value
-    (told_count _ _ c.args.count _ _ c.in_ok-put_loaded.ensures (c.requires.counted ∙ sym long)) c.in_ok-add_points.ensures
+    let long = length-map c.args.entries.now (λ (q : Entry g.row.D). q.point.c) in
+    all_loaded g.row.D _ (points_in c.args.entries.now) _ _ _ tt tt c.next.result _ _ (omega (arith, c.requires.fits, long)) c.next.ensures.value
+    (told_count _ _ c.args.count _ _ c.in_ok-put_loaded.ensures (c.requires.counted ∙ sym long)) c.in_ok-add_entries.ensures
     (record {
       seen = c.in_ok-commit.ensures.seen;
       stays = c.in_ok-commit.ensures.stays;

@@ -52,7 +52,7 @@ returns-clause-applies g c =
     (record {
       commit = refl;
       refused = refl;
-      grows = grows_added _ _ _ c.add.result c.add.ensures.rest.leaf_size c.add.ensures.gives.points_given c.add.ensures.left.stays;
+      grows = grows_added _ _ _ _ c.add.result c.add.ensures.rest.leaf_size c.add.ensures.gives.points_given c.add.ensures.left.stays;
       keeps = c.add.ensures.rewrites.kept;
       follows = c.add.ensures.rewrites.follows;
       brings = λ told. brings_written _ _ _ _ _ _ _ _ told c.add.ensures.rewrites.kept c.add.ensures.rewrites.follows (c.add.ensures.rewrites.canon told);

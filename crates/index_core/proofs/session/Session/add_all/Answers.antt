@@ -4,6 +4,7 @@ use Rattle.std.proofs.lemmas.Result.{err_from_is_err_and}
 use Rattle.page_cache.specs.declared.faults.PageFault.{PageFault}
 use Rattle.point_codec.specs.declared.coordinates.Point.{Point}
 use Rattle.segment_set.proofs.Sizes.{point_fits}
+use Rattle.point_codec.proofs.Sizes.{entry_fits}
 use Rattle.index_core.proofs.Sizes.{session_fits}
 use Rattle.index_core.proofs.Adding.{adds_memory_as}
 use Rattle.index_core.proofs.session.Session.add_all.Goals as goal
@@ -16,7 +17,7 @@ of-one-requires g c =
 pub add_each-requires-after_bounds : goal.add_each-requires-after_bounds
 add_each-requires-after_bounds g c κs = λ _. (
   session_fits g.row.D c.args.first.now.high,
-  (point_fits g.row.D c.args.first.now.high, (lit< tt, c.requires)),
+  (entry_fits g.row.D c.args.first.now.high, (lit< tt, c.requires)),
 )
 
 pub returns-in_err-list : goal.returns-in_err-list

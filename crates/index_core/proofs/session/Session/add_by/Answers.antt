@@ -22,7 +22,7 @@ returns g c =
     (adds_one _ _ _ _ _ c.add.result (record {
       commit = refl;
       refused = refl;
-      grows = grows_added _ _ _ c.add.result c.add.ensures.rest.leaf_size c.add.ensures.gives.points_given c.add.ensures.left.stays;
+      grows = grows_added _ _ _ _ c.add.result c.add.ensures.rest.leaf_size c.add.ensures.gives.points_given c.add.ensures.left.stays;
       keeps = c.add.ensures.rewrites.kept;
       follows = c.add.ensures.rewrites.follows;
       well = c.leaf_size-leaf_size.ensures.well;

@@ -39,7 +39,7 @@ returns g c =
     (adds_one _ _ _ _ _ c.add-2.result (record {
       commit = refl;
       refused = refl;
-      grows = grows_added _ _ _ c.add-2.result c.add-2.ensures.rest.leaf_size c.add-2.ensures.gives.points_given c.add-2.ensures.left.stays;
+      grows = grows_added _ _ _ _ c.add-2.result c.add-2.ensures.rest.leaf_size c.add-2.ensures.gives.points_given c.add-2.ensures.left.stays;
       keeps = c.add-2.ensures.rewrites.kept;
       follows = c.add-2.ensures.rewrites.follows;
       well = c.leaf_size-leaf_size.ensures.well;

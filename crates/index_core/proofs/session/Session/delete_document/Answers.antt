@@ -5,7 +5,7 @@ use Rattle.segment_set.specs.Seen.{Sees}
 use Rattle.segment_set.proofs.Sizes.{set_fits}
 use Rattle.segment_view.specs.LiveSegments.{cleared_parts}
 use Rattle.index_core.specs.Sessions.{SessionData}
-use Rattle.index_core.proofs.Adding.{faithful_seen, guards_same}
+use Rattle.index_core.proofs.Calming.{faithful_seen, guards_same}
 use Rattle.index_core.proofs.Bringing.{brings_cleared}
 use Rattle.index_core.proofs.Tracing.{traced_cleared}
 use Rattle.index_core.proofs.Guarding.{grows_same}

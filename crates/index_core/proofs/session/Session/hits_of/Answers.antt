@@ -6,7 +6,7 @@ use Rattle.segment_set.specs.Seen.{Sees}
 use Rattle.segment_set.specs.Kept.{StaysButCache}
 use Rattle.segment_set.proofs.Sizes.{set_fits}
 use Rattle.index_core.specs.Sessions.{SessionData}
-use Rattle.index_core.proofs.Adding.{evident_seen, faithful_seen, guards_cache}
+use Rattle.index_core.proofs.Calming.{evident_seen, faithful_seen, guards_cache}
 use Rattle.index_core.proofs.session.Session.hits_of.Goals as goal
 
 pub visit-requires : goal.visit-requires

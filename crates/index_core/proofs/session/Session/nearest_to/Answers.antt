@@ -6,7 +6,7 @@ use Rattle.segment_set.specs.Seen.{Sees}
 use Rattle.segment_set.specs.Kept.{StaysButCache}
 use Rattle.segment_set.proofs.Sizes.{point_fits, set_fits}
 use Rattle.index_core.specs.Sessions.{SessionData}
-use Rattle.index_core.proofs.Adding.{evident_seen, faithful_seen, guards_cache}
+use Rattle.index_core.proofs.Calming.{evident_seen, faithful_seen, guards_cache}
 use Rattle.index_core.proofs.session.Session.nearest_to.Goals as goal
 
 pub nearest-requires : goal.nearest-requires
