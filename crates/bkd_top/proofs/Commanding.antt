@@ -4,7 +4,7 @@ use Rattle.std.proofs.lemmas.Bool.{false≢true}
 use Rattle.outer_io.specs.Files.{Files}
 use Rattle.script_lang.specs.Lines.{lines_of}
 use Rattle.stored_index.specs.Stored.{IsStored}
-use Rattle.command_words.specs.Commands.{Task, Run, Load, Explain, Check, Generate, Session, Count, Ranges, Batch, MergingBatch, task_of}
+use Rattle.command_words.specs.Commands.{Task, Run, Load, Explain, Check, Generate, Session, Count, Ranges, Batch, MergingBatch, Export, Info, task_of}
 use Rattle.command_words.specs.declared.Words.{Words}
 use Rattle.drawn_points.specs.Generated.{generate_answer}
 use Rattle.explain_queries.specs.Explained.{IsScope, Scope, TellsLine}
@@ -15,7 +15,8 @@ use Rattle.batch_queries.specs.Batched.{TellsBatch}
 use Rattle.batch_queries.specs.Ends.{EndsBatch}
 use Rattle.batch_queries.specs.Merging.{EndsMerging, MergeLeaves}
 use Rattle.bkd_top.specs.Calls.{Call, LeavesTask, OnTask, TakesInput, WholeLeaves}
-use Rattle.bkd_top.specs.Checking.{EndsCheck}
+use Rattle.export_points.specs.Ends.{EndsExport}
+use Rattle.bkd_top.specs.Checking.{EndsCheck, EndsInfo}
 use Rattle.bkd_top.specs.Commands.{Before, EndsTask, EndsWhole, reads_input, reads_whole}
 use Rattle.run_status.specs.Causes.{ReadsInput}
 use Rattle.index_core.proofs.LosingNone.{keeps_same}
@@ -62,6 +63,8 @@ no_memory_ends told (Load columns forks) b files new keeps same still = record {
 no_memory_ends told (Explain cache) b files new keeps same still =
     λ scope is. record { done = []; rest = lines_of b.input; whole = refl; of_done = silence; all = refl; text = λ t. still t ∙ sym (append-nil b.written) }
 no_memory_ends told Check b files new keeps same still = (same, still)
+no_memory_ends told (Export as_ranges) b files new keeps same still = (same, inl still)
+no_memory_ends told Info b files new keeps same still = (same, still)
 no_memory_ends told (Generate docs seed forks) b files new keeps same still = record { text = still; stored = inl keeps }
 no_memory_ends told (Session cache forks) b files new keeps same still =
     stops_here {told = told} (meaning language.Points) (start b.state (lines_of b.input) b.written) files new still (inl keeps)
@@ -93,6 +96,8 @@ whole_reads (Run cache forks) e = refl
 whole_reads (Load columns forks) e = refl
 whole_reads (Explain cache) e = refl
 whole_reads Check e = e
+whole_reads (Export as_ranges) e = e
+whole_reads Info e = e
 whole_reads (Generate docs seed forks) e = e
 whole_reads (Session cache forks) e = refl
 whole_reads (Count cache) e = refl
@@ -116,6 +121,13 @@ module _ (told : Type 0) (w : Words) (b : Before) (files : Files) (new : List �
 
   pub check_ends : task_of w ≡ Check → (files ≡ b.files) × EndsCheck told b.files b.written new s → EndsTask told (task_of w) b files new s
   check_ends is ends = subst (λ (a : Task). EndsTask told a b files new s) (sym is) ends
+
+  pub export_ends : (as_ranges : Bool) → task_of w ≡ Export as_ranges → (files ≡ b.files) × EndsExport told as_ranges b.files b.written new s
+      → EndsTask told (task_of w) b files new s
+  export_ends as_ranges is ends = subst (λ (a : Task). EndsTask told a b files new s) (sym is) ends
+
+  pub info_ends : task_of w ≡ Info → (files ≡ b.files) × EndsInfo told b.files b.written new s → EndsTask told (task_of w) b files new s
+  info_ends is ends = subst (λ (a : Task). EndsTask told a b files new s) (sym is) ends
 
   pub generate_ends : (docs seed forks : ℕ) → task_of w ≡ Generate docs seed forks → EndsWhole told b (generate_answer b.state docs seed) files new s
       → EndsTask told (task_of w) b files new s
@@ -161,6 +173,8 @@ taken_whole (Run cache forks) left now s e takes = takes
 taken_whole (Load columns forks) left now s e takes = takes
 taken_whole (Explain cache) left now s e takes = takes
 taken_whole Check left now s e takes = absurd (false≢true e)
+taken_whole (Export as_ranges) left now s e takes = absurd (false≢true e)
+taken_whole Info left now s e takes = absurd (false≢true e)
 taken_whole (Generate docs seed forks) left now s e takes = absurd (false≢true e)
 taken_whole (Session cache forks) left now s e takes = absurd (false≢true e)
 taken_whole (Count cache) left now s e takes = takes
@@ -178,6 +192,8 @@ none_taken (Some (Run cache forks)) left now = no_input left now
 none_taken (Some (Load columns forks)) left now = no_input left now
 none_taken (Some (Explain cache)) left now = no_input left now
 none_taken (Some Check) left now = tt
+none_taken (Some (Export as_ranges)) left now = tt
+none_taken (Some Info) left now = tt
 none_taken (Some (Generate docs seed forks)) left now = tt
 none_taken (Some (Session cache forks)) left now = λ answer. absurd answer
 none_taken (Some (Count cache)) left now = no_input left now
@@ -237,6 +253,9 @@ none_left_of (MergingBatch forks) source sink input written files reads =
 none_left_of (Load columns forks) source sink input written files reads = no_whole files
 none_left_of (Generate docs seed forks) source sink input written files reads = no_whole files
 none_left_of Check source sink input written files reads = record { ends = λ told. refl; files = refl; reads = λ pages is. omega arith; named = tt }
+none_left_of (Export as_ranges) source sink input written files reads =
+    record { ends = inl (λ told. refl); files = refl; reads = λ pages is. omega arith; named = tt }
+none_left_of Info source sink input written files reads = record { ends = λ told. refl; files = refl; reads = λ pages is. omega arith; named = tt }
 
 pub none_left : (o : Option Task) (source sink : Bool) (input written : List ℕ) (files : Files) (reads : ℕ)
     → OnTask (λ a. LeavesTask a

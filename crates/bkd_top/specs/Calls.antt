@@ -4,7 +4,7 @@ use Rattle.std.specs.Prelude.{ℕ, ◌≡◌, ◌≤◌, ◌^◌, ◌⊎◌, Boo
 use Rattle.outer_io.specs.Files.{Files}
 use Rattle.script_lang.specs.Lines.{lines_of}
 use Rattle.command_words.specs.Commands.{Task, Run, Load, Explain, Check, Generate, Session, Count, Ranges, Batch}
-use Rattle.command_words.specs.Commands.{MergingBatch}
+use Rattle.command_words.specs.Commands.{MergingBatch, Export, Info}
 use Rattle.index_model.specs.State.{State}
 use Rattle.stored_index.specs.Opening.{IsOpening}
 use Rattle.stored_index.specs.Stored.{IsStored}
@@ -25,7 +25,8 @@ use Rattle.explain_queries.specs.Explained.{IsScope, TellsLine}
 use Rattle.count_queries.specs.Counted as counts
 use Rattle.batch_queries.specs.Ends.{LeavesNoText, ReadsOnce, StoresSome, TellsStored}
 use Rattle.batch_queries.specs.Merging.{MergeLeaves}
-use Rattle.bkd_top.specs.Checking.{Checks}
+use Rattle.export_points.specs.Ends.{Exports}
+use Rattle.bkd_top.specs.Checking.{Checks, Informs}
 use Rattle.bkd_top.specs.Commands.{Before, EndsTask, does, reads_input, reads_whole}
 
 -- words of no command are told as that, unless memory was wanting, and no others are
@@ -52,6 +53,8 @@ TakesInput (Ranges cache forks) left now s = ReadsInput left now s
 TakesInput (Batch forks) left now s = ReadsInput left now s
 TakesInput (MergingBatch forks) left now s = ReadsInput left now s
 TakesInput Check left now s = Unit {0}
+TakesInput (Export as_ranges) left now s = Unit {0}
+TakesInput Info left now s = Unit {0}
 TakesInput (Generate docs seed forks) left now s = Unit {0}
 
 -- ---- damage
@@ -120,6 +123,9 @@ LeavesTask (Count cache) c s =
 LeavesTask (Batch forks) c s = BatchLeaves c s
 LeavesTask (MergingBatch forks) c s = MergingLeaves c s
 LeavesTask Check c s = Checks (IsTrue c.sink) c.old c.new c.written c.written_now c.before c.now s
+LeavesTask (Export as_ranges) c s =
+    Exports (IsTrue c.sink) as_ranges c.old c.new c.written c.written_now c.before c.now s
+LeavesTask Info c s = Informs (IsTrue c.sink) c.old c.new c.written c.written_now c.before c.now s
 
 -- ---- the program
 

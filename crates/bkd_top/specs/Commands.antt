@@ -8,7 +8,7 @@ use Rattle.index_model.specs.State.{State}
 use Rattle.index_model.specs.Script.{Answer}
 use Rattle.stored_index.specs.Stored.{IsStored}
 use Rattle.command_words.specs.Commands.{Task, Run, Load, Explain, Check, Generate, Session, Count, Ranges, Batch}
-use Rattle.command_words.specs.Commands.{MergingBatch}
+use Rattle.command_words.specs.Commands.{MergingBatch, Export, Info}
 use Rattle.load_points.specs.Loaded.{load_answer}
 use Rattle.drawn_points.specs.Generated.{generate_answer}
 use Rattle.explain_queries.specs.Explained.{Scope, IsScope, TellsLine}
@@ -22,7 +22,8 @@ use Rattle.script_run.specs.Progress.{start}
 use Rattle.script_run.specs.RangeScript.{AreRanges, EndsRanges}
 use Rattle.script_run.specs.Runs.{Ends, EndsSession}
 use Rattle.script_run.specs.declared.language.Language.TheVariants as language
-use Rattle.bkd_top.specs.Checking.{EndsCheck}
+use Rattle.export_points.specs.Ends.{EndsExport}
+use Rattle.bkd_top.specs.Checking.{EndsCheck, EndsInfo}
 use Rattle.run_status.specs.declared.status.Status.{Status}
 use Rattle.run_status.specs.declared.status.Status.TheVariants as status
 
@@ -40,6 +41,8 @@ reads_input (Count cache) = true
 reads_input (Ranges cache forks) = true
 reads_input (Batch forks) = true
 reads_input (MergingBatch forks) = true
+reads_input (Export as_ranges) = false
+reads_input Info = false
 
 -- its lines are done as they come, and no input is too large
 abbrev pub is_session : Task → Bool
@@ -101,8 +104,8 @@ EndsWhole told b a files new status.TooLarge = Rests told b files new
 
 -- ---- the program
 
--- Explaining, checking, counting and answering a batch leave what is stored. Of a script of ranges it is said over
--- points that are ranges.
+-- Explaining, checking, counting, answering a batch and exporting leave what is stored. Of a script of ranges it is
+-- said over points that are ranges.
 abbrev pub EndsTask : (told : Type 0) → Task → Before → Files → List ℕ → Status → Type 0
 EndsTask told (Run cache forks) b files new s =
     Ends (meaning language.Points) told (start b.state (lines_of b.input) b.written) files new s
@@ -122,3 +125,5 @@ EndsTask told (Ranges cache forks) b files new s =
 EndsTask told (Batch forks) b files new s = EndsBatch told (TellsBatch b.state) (lines_of b.input) b.written new s
 EndsTask told (MergingBatch forks) b files new s =
     EndsMerging told (TellsBatch b.state) (lines_of b.input) b.written new s
+EndsTask told (Export as_ranges) b files new s = (files ≡ b.files) × EndsExport told as_ranges b.files b.written new s
+EndsTask told Info b files new s = (files ≡ b.files) × EndsInfo told b.files b.written new s

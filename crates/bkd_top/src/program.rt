@@ -13,7 +13,7 @@ ghost use Rattle.bkd_top.specs.Headline.{IsRun, script_end, script_text};
 ghost use Rattle.run_status.specs.Ends.{IsAnswer};
 ghost use Rattle.bkd_top.specs.Commands.{EndsTask, does, is_session, reads_input, reads_whole};
 
-use crate::check::run_check;
+use crate::check::{run_check, run_info};
 use crate::loads::{run_generate, run_load};
 use crate::scripts::{run_ranges, run_script, run_session};
 use batch_queries::{run_batch, run_merging_batch};
@@ -21,6 +21,7 @@ use bkd_build::Gate;
 use command_words::{Words, WordsFault, read_words};
 use count_queries::run_count;
 use explain_queries::run_explain;
+use export_points::run_export;
 use index_core::Settings;
 use outer_io::{Folder, Sink, Source};
 use run_status::Status;
@@ -41,6 +42,8 @@ use std::thread::Threads;
 /// | `count` | says how many live points lie in a box, or in each bucket of a grid |
 /// | `ranges` | does the lines of a script over documents that have ranges, as `run` does those over points |
 /// | `batch` | answers queries from a copy of the index in memory by threads; segments may be merged beside that |
+/// | `export` | writes all live documents as CSV, a record for each point |
+/// | `info` | says how large the index is, by what opening it reads |
 ///
 /// **The headline.** On a folder that stores an index, or none, what `run` writes is, line for line, what a scan of the
 /// live documents answers to the script's adds, deletes and queries, whatever flushes, merges, snapshots and
@@ -166,5 +169,7 @@ fn run_command<S: Source, F: Folder, K: Sink, R: Threads + Sync, G: Gate>(
         Words::MergingBatch { forks } => {
             run_merging_batch(rt, alloc, forks, input, folder, out, gate)
         }
+        Words::Export { as_ranges } => run_export(alloc, as_ranges, folder, out),
+        Words::Info => run_info(alloc, folder, out),
     }
 }

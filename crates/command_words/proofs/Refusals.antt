@@ -7,6 +7,7 @@ use Rattle.clap.specs.Words.{App, HasKind, Kinds, Row, fault_of, kind_of, matche
 use Rattle.clap.specs.declared.error.Error.{Error}
 use Rattle.clap.specs.declared.error.kind.ErrorKind.TheVariants.{OutOfMemory}
 use Rattle.command_words.specs.Commands.{task_in, batch, check, count, explain, found_by, generate, load, run, unless_refused, ranges, session}
+use Rattle.command_words.specs.Commands.{export, info}
 
 pub rows_found : (command : App) (words : List (List ℕ)) (rows : List Row) → fault_of command words ≡ []
     → rows ≡ matches_of command words → found_by command words ≡ Some rows
@@ -27,11 +28,12 @@ refused command words e has other = refused_by (fault_of command words) e (match
 pub unknown : (texts : List (List ℕ)) (name : List ℕ) → 2 ≤ length texts → get_or texts 1 name ≡ name
     → (name ≡ run.name → ⊥) → (name ≡ load.name → ⊥) → (name ≡ explain.name → ⊥) → (name ≡ check.name → ⊥) → (name ≡ generate.name → ⊥)
     → (name ≡ session.name → ⊥) → (name ≡ count.name → ⊥)
-    → (name ≡ ranges.name → ⊥) → (name ≡ batch.name → ⊥)
+    → (name ≡ ranges.name → ⊥) → (name ≡ batch.name → ⊥) → (name ≡ export.name → ⊥) → (name ≡ info.name → ⊥)
     → task_in texts ≡ None
-unknown [] name two second no_run no_load no_explain no_check no_generate no_session no_count no_ranges no_batch = absurd (omega arith)
-unknown (folder ∷ []) name two second no_run no_load no_explain no_check no_generate no_session no_count no_ranges no_batch = absurd (omega arith)
-unknown (folder ∷ word ∷ options) name two second no_run no_load no_explain no_check no_generate no_session no_count no_ranges no_batch =
+unknown [] name two second no_run no_load no_explain no_check no_generate no_session no_count no_ranges no_batch no_export no_info = absurd (omega arith)
+unknown (folder ∷ []) name two second no_run no_load no_explain no_check no_generate no_session no_count no_ranges no_batch no_export no_info =
+    absurd (omega arith)
+unknown (folder ∷ word ∷ options) name two second no_run no_load no_explain no_check no_generate no_session no_count no_ranges no_batch no_export no_info =
     rw (
       differs run.name no_run,
       differs load.name no_load,
@@ -42,6 +44,8 @@ unknown (folder ∷ word ∷ options) name two second no_run no_load no_explain 
       differs count.name no_count,
       differs ranges.name no_ranges,
       differs batch.name no_batch,
+      differs export.name no_export,
+      differs info.name no_info,
     ) refl
   where
     differs : (form : List ℕ) → (name ≡ form → ⊥) → bytes_eq word form ≡ false

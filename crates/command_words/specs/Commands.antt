@@ -23,6 +23,8 @@ pub data Task : Type 0 where
   Ranges : (cache forks : ℕ) → Task
   Batch : (forks : ℕ) → Task
   MergingBatch : (forks : ℕ) → Task
+  Export : (as_ranges : Bool) → Task
+  Info : Task
 
 -- ---- the options
 
@@ -60,6 +62,9 @@ seed = required_option (number_option (codes "seed") 1 2147483646)
 
 abbrev pub merge : Rule
 merge = flag (codes "merge")
+
+abbrev pub as_ranges : Rule
+as_ranges = flag (codes "as-ranges")
 
 -- ---- what is found for them
 
@@ -170,8 +175,22 @@ batch = record {
   asks = λ found. Some (if is_set merge.id found then MergingBatch (forks_by found) else Batch (forks_by found));
 }
 
+abbrev pub export : Form
+export = record {
+  name = codes "export";
+  options = as_ranges ∷ [];
+  asks = λ found. Some (Export (is_set as_ranges.id found));
+}
+
+abbrev pub info : Form
+info = record {
+  name = codes "info";
+  options = [];
+  asks = λ found. Some Info;
+}
+
 abbrev pub forms : List Form
-forms = run ∷ load ∷ explain ∷ check ∷ generate ∷ session ∷ count ∷ ranges ∷ batch ∷ []
+forms = run ∷ load ∷ explain ∷ check ∷ generate ∷ session ∷ count ∷ ranges ∷ batch ∷ export ∷ info ∷ []
 
 -- ---- the words
 
@@ -211,6 +230,8 @@ task_of (words.Count cache_pages) = Count cache_pages
 task_of (words.Ranges cache_pages forks) = Ranges cache_pages forks
 task_of (words.Batch forks) = Batch forks
 task_of (words.MergingBatch forks) = MergingBatch forks
+task_of (words.Export as_ranges) = Export as_ranges
+task_of words.Info = Info
 
 -- ---- the ranges
 
@@ -230,3 +251,5 @@ IsWithin (words.Count cache_pages) = (1 ≤ cache_pages) × (cache_pages ≤ 655
 IsWithin (words.Ranges cache_pages forks) = (1 ≤ cache_pages) × (cache_pages ≤ 65536) × (forks ≤ 6)
 IsWithin (words.Batch forks) = forks ≤ 6
 IsWithin (words.MergingBatch forks) = forks ≤ 6
+IsWithin (words.Export as_ranges) = Unit {0}
+IsWithin words.Info = Unit {0}

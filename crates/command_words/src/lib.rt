@@ -12,8 +12,8 @@ ghost use Rattle.command_words.specs.Commands.{IsWithin, task_in, task_of};
 use byte_cursor::Bytes;
 pub use reading::CACHE_PAGES;
 use reading::{
-    read_batch, read_check, read_count, read_explain, read_generate, read_load, read_ranges,
-    read_run, read_session,
+    read_batch, read_check, read_count, read_explain, read_export, read_generate, read_info,
+    read_load, read_ranges, read_run, read_session,
 };
 use std::alloc::{AllocError, AllocFailed, Global};
 
@@ -40,6 +40,10 @@ pub enum Words {
     Batch { forks: u8 },
     /// The same, and merges the segments beside it.
     MergingBatch { forks: u8 },
+    /// Writes all live documents as CSV, those of ranges by their lower and upper ends.
+    Export { as_ranges: bool },
+    /// Says how large the index is, and reads no leaf.
+    Info,
 }
 
 /// Why words are no command.
@@ -85,6 +89,8 @@ impl<T: Drop> From<AllocFailed<T>> for WordsFault {
 /// | `FOLDER count [--cache N]` | cache 1,024 |
 /// | `FOLDER ranges [--cache N] [--forks N]` | cache 1,024; forks 1 |
 /// | `FOLDER batch [--forks N] [--merge]` | forks 1; nothing is merged |
+/// | `FOLDER export [--as-ranges]` | columns of points |
+/// | `FOLDER info` | |
 pub fn read_words(alloc: Global, words: &[String]) -> Result<Words, WordsFault>
     ensures words { IfOk result (λ w. task_in (map string_bytes words.now) ≡ Some (task_of w)) }
     ensures usage { result ≡ Err WordsFault.Usage → task_in (map string_bytes words.now) ≡ None }
@@ -104,6 +110,8 @@ pub fn read_words(alloc: Global, words: &[String]) -> Result<Words, WordsFault>
         "count" => read_count(alloc, command),
         "ranges" => read_ranges(alloc, command),
         "batch" => read_batch(alloc, command),
+        "export" => read_export(alloc, command),
+        "info" => read_info(alloc, command),
         _ => Err(WordsFault::Usage),
     }
 }

@@ -21,6 +21,9 @@ pub(crate) const COLUMNS: &str = "columns";
 /// The flag that merges segments beside a batch.
 pub(crate) const MERGE: &str = "merge";
 
+/// The flag that names the columns of an export as those of ranges.
+pub(crate) const AS_RANGES: &str = "as-ranges";
+
 /// An option that takes a number from `least` to `greatest`, as `--cache 16`.
 #[derive(Clone, Copy)]
 pub(crate) struct NumberOption {

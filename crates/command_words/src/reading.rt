@@ -4,10 +4,11 @@ ghost use Rattle.std.specs.Prelude.{◌≡◌, ◌≢◌, Some, None, true, IfOk
 ghost use Rattle.clap.specs.Words.{app_of, found_of, kind_of, rows_of};
 ghost use Rattle.command_words.specs.Commands.{IsWithin, task_by, command_of, task_of, found_by, run, load, explain};
 ghost use Rattle.command_words.specs.Commands.{check, generate, session, count, ranges, batch};
+ghost use Rattle.command_words.specs.Commands.{export, info};
 ghost use Rattle.command_words.specs.Found.{AreOptionTexts, is_plain};
 
 use crate::options::{
-    CACHE, COLUMNS, DOCS, FORKS, MERGE, SEED, columns_by, flag, has_flag, text_option,
+    AS_RANGES, CACHE, COLUMNS, DOCS, FORKS, MERGE, SEED, columns_by, flag, has_flag, text_option,
 };
 use crate::{Words, WordsFault};
 use clap::error::ErrorKind;
@@ -142,6 +143,29 @@ pub(crate) fn read_batch(alloc: Global, words: &[String]) -> Result<Words, Words
     }
 }
 
+/// Reads the words `export [--as-ranges]`.
+pub(crate) fn read_export(alloc: Global, words: &[String]) -> Result<Words, WordsFault>
+    ensures words { IfOk result (λ w. task_by export (map string_bytes words.now) ≡ Some (task_of w)) }
+    ensures usage { result ≡ Err WordsFault.Usage → task_by export (map string_bytes words.now) ≡ None }
+    ensures ranges { IfOk result IsWithin }
+{
+    let command = export_command(alloc)?;
+    let matches = parse(command, words)?;
+    Ok(Words::Export {
+        as_ranges: has_flag(&matches, AS_RANGES),
+    })
+}
+
+/// Reads the word `info`, which has no options.
+pub(crate) fn read_info(alloc: Global, words: &[String]) -> Result<Words, WordsFault>
+    ensures words { IfOk result (λ w. task_by info (map string_bytes words.now) ≡ Some (task_of w)) }
+    ensures usage { result ≡ Err WordsFault.Usage → task_by info (map string_bytes words.now) ≡ None }
+    ensures ranges { IfOk result IsWithin }
+{
+    parse(Command::new(alloc, "info"), words)?;
+    Ok(Words::Info)
+}
+
 fn run_command<'a>(alloc: Global) -> Result<Command<'a>, AllocError>
     ensures { IfOk result (λ c. app_of c ≡ command_of run) }
 {
@@ -201,6 +225,12 @@ fn batch_command<'a>(alloc: Global) -> Result<Command<'a>, AllocError>
     Command::new(alloc, "batch")
         .arg(FORKS.arg(alloc))?
         .arg(flag(alloc, MERGE))
+}
+
+fn export_command<'a>(alloc: Global) -> Result<Command<'a>, AllocError>
+    ensures { IfOk result (λ c. app_of c ≡ command_of export) }
+{
+    Command::new(alloc, "export").arg(flag(alloc, AS_RANGES))
 }
 
 /// What the command finds in the words.

@@ -10,6 +10,8 @@ pub mod Found
 pub mod First
 pub mod Lines
 pub mod Leaves
+pub mod KeptEntries
 pub mod Crowded
 pub mod Pages
 pub mod Whole
+pub mod OpenedParts

@@ -1,3 +1,4 @@
 pub mod Found
 pub mod First
 pub mod Checked
+pub mod Informed

@@ -1,10 +1,13 @@
 //! The check of a folder.
 
-ghost use Rattle.std.specs.Prelude.{◌≡◌, ◌≤◌, ◌<◌, ◌+◌, ◌^◌, ◌++◌, ℕ, List, sum_by, IsTrue, IfOk, OnOk, OnErr};
+ghost use Rattle.std.specs.Prelude.{◌≡◌, ◌≤◌, ◌<◌, ◌+◌, ◌^◌, ◌++◌, ℕ, List, [], sum_by, true, IsTrue};
+ghost use Rattle.std.specs.Prelude.{IfOk, OnOk, OnErr};
 ghost use Rattle.outer_io.specs.Files.{bytes_of};
 ghost use Rattle.outer_io.specs.declared.file_name.FileName.TheVariants.{Commit as CommitName};
 ghost use Rattle.live_bits.specs.LiveSet.{LiveSet};
+ghost use Rattle.point_codec.specs.Seen.{items_of};
 ghost use Rattle.documents.specs.Documents.{Document};
+ghost use Rattle.documents.specs.Entries.{AreDocs};
 ghost use Rattle.page_cache.specs.Causes.{HasPageCause};
 ghost use Rattle.page_cache.specs.Evidence.{OnDamage, NotDamaged};
 ghost use Rattle.commit_list.specs.CommitFiles.{IsCommitFile};
@@ -22,6 +25,7 @@ use commit_list::{Commit, Listed, read_commit};
 use index_opening::open_index;
 use outer_io::Folder;
 use page_cache::PageFault;
+use point_codec::Entry;
 use segment_file::one_segment;
 use std::alloc::Global;
 
@@ -138,15 +142,85 @@ pub fn check_index<const D: usize, F: Folder>(
         (IsEvident (IsTrue F.told × IsCommitFile (bytes_of (F.files folder.old CommitName)) c.now)
         (F.files folder.old)) }
 {
+    // they are at most 8
+    let _dims = c.dims();
+    let mut none = Vec::new(alloc);
+    look_through::<D, F>(alloc, folder, c, false, &mut none)
+}
+
+/// The live entries of the segments that a commit of `D` dimensions lists, in the order of the segments and of their
+/// leaves. It looks at all that `check_index` looks at, and answers the same damages; each page is read once at most.
+pub fn stored_entries<const D: usize, F: Folder>(
+    alloc: Global,
+    folder: &mut F,
+    c: &Commit,
+) -> Result<Vec<Entry<D>>, PageFault>
+    requires { c.now.dims ≡ D }
+    ensures entries { IsTrue F.told → IsCommitFile (bytes_of (F.files folder.old CommitName)) c.now
+        → IfOk result (λ v. (docs : List Document) × HoldsIndex (F.files folder.old) c.now docs
+        × AreDocs c.now.next (items_of v.items) docs) }
+    ensures files { IsTrue F.told → F.files folder.new ≡ F.files folder.old }
+    ensures reads { IsTrue F.told → (heads : List Head) (sets : List LiveSet)
+        → HaveHeads (F.files folder.old) c.now heads
+        → HaveLive (F.files folder.old) c.now sets
+        → F.reads folder.new ≤ F.reads folder.old + sum_by (both_pages (F.files folder.old)) c.now.listed }
+    ensures cause { HasPageCause (F.faults folder.old) (F.faults folder.new) result }
+    ensures undefined { IsTrue F.told → IsCommitFile (bytes_of (F.files folder.old CommitName)) c.now
+        → OnDamage result (λ _. IsUndefined (F.files folder.old)) }
+    ensures named { IsTrue F.told → IsCommitFile (bytes_of (F.files folder.old CommitName)) c.now
+        → OnDamage result (IsFound (F.files folder.old)) }
+    ensures first { IsTrue F.told → OnDamage result (IsFirstOfCommit (IsTrue F.told) (F.files folder.old) c.now) }
+    ensures evident { OnDamage result
+        (IsEvident (IsTrue F.told × IsCommitFile (bytes_of (F.files folder.old CommitName)) c.now)
+        (F.files folder.old)) }
+{
+    // where each document has one point, the list is never moved
+    let room = live_documents(c.listed()).saturating_add(u64::from(c.leaf_size()));
+    let mut entries = Vec::with_capacity(alloc, room as usize)?;
+    look_through::<D, F>(alloc, folder, c, true, &mut entries)?;
+    Ok(entries)
+}
+
+/// Looks at the segments that a commit of `D` dimensions lists. Where `keeps` is set their live entries are put behind
+/// those of `kept`.
+fn look_through<const D: usize, F: Folder>(
+    alloc: Global,
+    folder: &mut F,
+    c: &Commit,
+    keeps: bool,
+    kept: &mut Vec<Entry<D>>,
+) -> Result<(), PageFault>
+    requires { c.now.dims ≡ D }
+    ensures holds { IsTrue F.told → IsCommitFile (bytes_of (F.files folder.old CommitName)) c.now
+        → OnOk result ((docs : List Document) × HoldsIndex (F.files folder.old) c.now docs) }
+    ensures kept { keeps ≡ true → IsTrue F.told → IsCommitFile (bytes_of (F.files folder.old CommitName)) c.now
+        → kept.old.items ≡ []
+        → OnOk result ((docs : List Document) × HoldsIndex (F.files folder.old) c.now docs
+        × AreDocs c.now.next (items_of kept.new.items) docs) }
+    ensures files { IsTrue F.told → F.files folder.new ≡ F.files folder.old }
+    ensures reads { IsTrue F.told → (heads : List Head) (sets : List LiveSet)
+        → HaveHeads (F.files folder.old) c.now heads
+        → HaveLive (F.files folder.old) c.now sets
+        → F.reads folder.new ≤ F.reads folder.old + sum_by (both_pages (F.files folder.old)) c.now.listed }
+    ensures cause { HasPageCause (F.faults folder.old) (F.faults folder.new) result }
+    ensures undefined { IsTrue F.told → IsCommitFile (bytes_of (F.files folder.old CommitName)) c.now
+        → OnDamage result (λ _. IsUndefined (F.files folder.old)) }
+    ensures named { IsTrue F.told → IsCommitFile (bytes_of (F.files folder.old CommitName)) c.now
+        → OnDamage result (IsFound (F.files folder.old)) }
+    ensures first { IsTrue F.told → OnDamage result (IsFirstOfCommit (IsTrue F.told) (F.files folder.old) c.now) }
+    ensures evident { OnDamage result
+        (IsEvident (IsTrue F.told × IsCommitFile (bytes_of (F.files folder.old CommitName)) c.now)
+        (F.files folder.old)) }
+{
     let segments = open_index::<D, F>(alloc, folder, c)?;
-    let findings = read_leaves(alloc, folder, &segments)?;
+    let findings = read_leaves(alloc, folder, &segments, keeps, kept)?;
     // the entries of a file are one list
     one_segment();
     judge(c.listed(), c.points_given(), findings.as_slice())
 }
 
 /// How many documents are live, by what the commit says of its segments.
-fn live_documents(listed: &[Listed]) -> u64
+pub(crate) fn live_documents(listed: &[Listed]) -> u64
     requires { sum_by (λ s. s.live) listed.now < 2 ^ 64 }
     ensures { result ≡ sum_by (λ s. s.live) listed.now }
 {

@@ -4,7 +4,9 @@
 
 mod checking;
 mod findings;
+mod informing;
 mod reading;
 mod texts;
 
-pub use checking::{check, check_index};
+pub use checking::{check, check_index, stored_entries};
+pub use informing::info;

@@ -30,6 +30,8 @@ mod eight_dimensions;
 #[cfg(test)]
 mod explaining;
 #[cfg(test)]
+mod exporting;
+#[cfg(test)]
 mod gates;
 #[cfg(test)]
 mod generating;
@@ -37,6 +39,8 @@ mod generating;
 mod load_faults;
 #[cfg(test)]
 mod loading;
+#[cfg(test)]
+mod loading_many;
 #[cfg(test)]
 mod other_words;
 #[cfg(test)]

@@ -37,6 +37,10 @@ const OTHER_WORDS: &[&[&str]] = &[
     &[".", "generate", "--docs", "1", "--seed", "2147483647"],
     &[".", "generate", "--docs", "1"],
     &[".", "check", "more"],
+    &[".", "export", "more"],
+    &[".", "export", "--as-ranges", "--as-ranges"],
+    &[".", "export", "--forks", "1"],
+    &[".", "info", "--as-ranges"],
 ];
 
 #[test]

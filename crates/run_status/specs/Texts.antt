@@ -19,7 +19,8 @@ number_of status.TooLarge = 8
 -- the line on standard error
 unfoldable pub line_of : Status → List ℕ
 line_of status.Done = []
-line_of status.Usage = codes "usage: bkd FOLDER run|load|explain|check|generate|session|count|ranges|batch [options]\n"
+line_of status.Usage =
+    codes "usage: bkd FOLDER run|load|explain|check|generate|session|count|ranges|batch|export|info [options]\n"
 line_of (status.SomeRefused count) = codes "refused " ++ decimal count ++ codes "\n"
 line_of status.SourceFault = codes "source fault\n"
 line_of status.FolderFault = codes "folder fault\n"

@@ -12,4 +12,4 @@ returns-in_default-as_str-clause-usage c e =
     ∙ (ap string_bytes (sym c.name-item.is) ∙ sym c.as_str.ensures.value) in
     unknown texts c.as_str.result.now two second c.in_default-as_str.not-run c.in_default-as_str.not-load c.in_default-as_str.not-explain
     c.in_default-as_str.not-check c.in_default-as_str.not-generate c.in_default-as_str.not-session c.in_default-as_str.not-count
-    c.in_default-as_str.not-ranges c.in_default-as_str.not-batch
+    c.in_default-as_str.not-ranges c.in_default-as_str.not-batch c.in_default-as_str.not-export c.in_default-as_str.not-info

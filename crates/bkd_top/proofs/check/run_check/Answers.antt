@@ -1,5 +1,6 @@
 -- What there is to tell was sent, or cut, or a fault came before.
 use Rattle.std.proofs.Common.{Err, IsTrue, refl, sym, ap, subst, ◌∙◌}
+use Rattle.folder_check.specs.Checked.{IsChecked}
 use Rattle.index_opening.specs.Evidence.{IsEvident, IsEvidentSince, IsFound}
 use Rattle.index_opening.proofs.Evident.{on_evident_files}
 use Rattle.run_status.specs.Ends.{DoesNothing, IsDamaged}
@@ -19,7 +20,8 @@ returns-clause-done g c = λ d. does_lines c.stopped.result (subst DoesNothing c
 pub returns-in-Ok-clause-checks : goal.returns-in-Ok-clause-checks
 returns-in-Ok-clause-checks g c = λ told. record {
   ends = rw c.status_of.ensures
-      (sent_check (IsTrue g.K.Sink.told) (g.F.Pages.files c.args.folder.now) (g.K.Sink.written c.args.out.now) (g.K.Sink.written c.send.new.out)
+      (sent_check (IsChecked (g.F.Pages.files c.args.folder.now)) (IsTrue g.K.Sink.told) (g.F.Pages.files c.args.folder.now) (g.K.Sink.written c.args.out.now)
+      (g.K.Sink.written c.send.new.out)
       c.as_slice.result.now c.send.result (told_text _ _ _ _ c.new-text.ensures.items c.as_slice.ensures.value (rw c.in-Ok.is at (c.check.ensures.tells told)))
       c.send.ensures.text c.send.ensures.known c.send.ensures.cause);
   files = c.check.ensures.files told;
@@ -31,7 +33,8 @@ returns-in-Ok-clause-checks g c = λ told. record {
 pub returns-clause-checks : goal.returns-clause-checks
 returns-clause-checks g c = λ told. record {
   ends = rw c.status_of-in-Err.ensures
-      (rw c.stopped.ensures (fault_check (IsTrue g.K.Sink.told) (g.F.Pages.files c.args.folder.now) (g.K.Sink.written c.args.out.now)
+      (rw c.stopped.ensures
+      (fault_check (IsChecked (g.F.Pages.files c.args.folder.now)) (IsTrue g.K.Sink.told) (g.F.Pages.files c.args.folder.now) (g.K.Sink.written c.args.out.now)
       (g.K.Sink.written c.args.out.now) c.in-Err.fault (rw c.in-Err.is at (c.check.ensures.undefined told)) (λ sink. refl)));
   files = c.check.ensures.files told;
   reads = c.check.ensures.reads told;

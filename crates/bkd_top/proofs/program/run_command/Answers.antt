@@ -4,57 +4,38 @@ use Rattle.command_words.specs.Commands.{Task, task_of}
 use Rattle.bkd_top.specs.Commands.{is_session, reads_input, reads_whole}
 use Rattle.run_status.specs.Ends.{DoesNothing}
 use Rattle.bkd_top.proofs.Commanding.{batch_ends, called, check_ends, count_ends, explain_ends, generate_ends, is_so, left_by, load_ends, ranges_ends, run_ends}
-use Rattle.bkd_top.proofs.Commanding.{merging_ends, session_asked, taken_by}
+use Rattle.bkd_top.proofs.Commanding.{export_ends, info_ends, merging_ends, session_asked, taken_by}
 use Rattle.index_core.proofs.Brought.{commit_equal}
 use Rattle.script_run.proofs.Starting.{canonical_still}
 use Rattle.script_run.proofs.Shown.{status_since}
 use Rattle.bkd_top.proofs.program.run_command.Goals as goal
 
-pub returns-in-Generate-clause-ends : goal.returns-in-Generate-clause-ends
-returns-in-Generate-clause-ends g c = λ told state h source.
-    generate_ends (IsTrue g.K.Sink.told) c.args.words
-    (record { state = state; files = g.F.Pages.files c.args.folder.now; input = g.S.Source.left c.args.input.now; written = g.K.Sink.written c.args.out.now })
-    (g.F.Pages.files c.run_generate.new.folder) (g.K.Sink.written c.run_generate.new.out) c.run_generate.result
-    _ _ _ (ap task_of c.in-Generate.is) (c.run_generate.ensures.ends told state h (g.S.Source.left c.args.input.now))
-
-pub returns-in-Generate-clause-canon : goal.returns-in-Generate-clause-canon
-returns-in-Generate-clause-canon g c = c.run_generate.ensures.canon
-
-pub returns-in-Generate-clause-causes : goal.returns-in-Generate-clause-causes
-returns-in-Generate-clause-causes g c = record {
-  source = λ e. absurd (c.run_generate.ensures.done (subst DoesNothing (sym e) tt));
-  folder = c.run_generate.ensures.folder_fault;
-  sink = c.run_generate.ensures.sink_fault;
-}
-
-pub returns-in-Generate-clause-large : goal.returns-in-Generate-clause-large
-returns-in-Generate-clause-large g c = λ e. absurd (c.run_generate.ensures.done (subst DoesNothing (sym e) tt))
-
-pub returns-in-Generate-clause-untouched : goal.returns-in-Generate-clause-untouched
-returns-in-Generate-clause-untouched g c = λ other d. absurd (c.run_generate.ensures.done d)
-
-pub returns-in-Generate-clause-input : goal.returns-in-Generate-clause-input
-returns-in-Generate-clause-input g c = λ told.
-    taken_by c.args.words _ (g.S.Source.left c.args.input.now) (g.S.Source.left c.args.input.now) c.run_generate.result (ap task_of c.in-Generate.is) tt
-
-pub returns-in-Generate-clause-leaves : goal.returns-in-Generate-clause-leaves
-returns-in-Generate-clause-leaves g c = λ told.
-    left_by c.args.words _
-    (called g.S.Source.told g.K.Sink.told (g.S.Source.left c.args.input.now) (g.F.Pages.files c.args.folder.now) (g.F.Pages.files c.run_generate.new.folder)
-    (g.K.Sink.written c.args.out.now) (g.K.Sink.written c.run_generate.new.out) (g.F.Pages.reads c.args.folder.now) (g.F.Pages.reads c.run_generate.new.folder))
-    c.run_generate.result (ap task_of c.in-Generate.is) (c.run_generate.ensures.whole told)
-
-pub returns-in-Generate-clause-lasting : goal.returns-in-Generate-clause-lasting
-returns-in-Generate-clause-lasting g c = c.run_generate.ensures.lasting
+pub returns-in-Generate : goal.returns-in-Generate
+returns-in-Generate g c =
+    let is = ap task_of c.in-Generate.is in let e = c.run_generate.ensures in let input = g.S.Source.left c.args.input.now in
+    let old = g.F.Pages.files c.args.folder.now in let new = g.F.Pages.files c.run_generate.new.folder in
+    let before = g.K.Sink.written c.args.out.now in let after = g.K.Sink.written c.run_generate.new.out in
+    record {
+      never_usage = λ u. absurd (e.done (subst DoesNothing (sym u) tt));
+      ends = λ told state h source. generate_ends (IsTrue g.K.Sink.told) c.args.words
+          (record { state = state; files = old; input = input; written = before }) new after c.run_generate.result _ _ _ is (e.ends told state h input);
+      input = λ told. taken_by c.args.words _ input input c.run_generate.result is tt;
+      unread = λ quiet. refl;
+      large = λ w. absurd (e.done (subst DoesNothing (sym w) tt));
+      untouched = λ other d. absurd (e.done d);
+      canon = e.canon;
+      leaves = λ told. left_by c.args.words _
+          (called g.S.Source.told g.K.Sink.told input old new before after (g.F.Pages.reads c.args.folder.now) (g.F.Pages.reads c.run_generate.new.folder))
+          c.run_generate.result is (e.whole told);
+      lasting = e.lasting;
+      damage = e.damage;
+      causes = record { source = λ w. absurd (e.done (subst DoesNothing (sym w) tt)); folder = e.folder_fault; sink = e.sink_fault };
+    }
 
 pub returns-in-Run : goal.returns-in-Run
 returns-in-Run g c =
-    let is = ap task_of c.in-Run.is in
-    let reads = ap (λ (a : Task). reads_input a) is in
-    let e = c.run_script.ensures in
-    let input = g.S.Source.left c.args.input.now in
-    let old = g.F.Pages.files c.args.folder.now in
-    let new = g.F.Pages.files c.run_script.new.folder in
+    let is = ap task_of c.in-Run.is in let reads = ap (λ (a : Task). reads_input a) is in let e = c.run_script.ensures in
+    let input = g.S.Source.left c.args.input.now in let old = g.F.Pages.files c.args.folder.now in let new = g.F.Pages.files c.run_script.new.folder in
     let before = g.K.Sink.written c.args.out.now in let after = g.K.Sink.written c.run_script.new.out in
     record {
       never_usage = e.never_usage;
@@ -75,12 +56,8 @@ returns-in-Run g c =
 
 pub returns-in-Load : goal.returns-in-Load
 returns-in-Load g c =
-    let is = ap task_of c.in-Load.is in
-    let reads = ap (λ (a : Task). reads_input a) is in
-    let e = c.run_load.ensures in
-    let input = g.S.Source.left c.args.input.now in
-    let old = g.F.Pages.files c.args.folder.now in
-    let new = g.F.Pages.files c.run_load.new.folder in
+    let is = ap task_of c.in-Load.is in let reads = ap (λ (a : Task). reads_input a) is in let e = c.run_load.ensures in
+    let input = g.S.Source.left c.args.input.now in let old = g.F.Pages.files c.args.folder.now in let new = g.F.Pages.files c.run_load.new.folder in
     let before = g.K.Sink.written c.args.out.now in let after = g.K.Sink.written c.run_load.new.out in
     record {
       never_usage = e.never_usage;
@@ -102,12 +79,8 @@ returns-in-Load g c =
 
 pub returns-in-Explain : goal.returns-in-Explain
 returns-in-Explain g c =
-    let is = ap task_of c.in-Explain.is in
-    let reads = ap (λ (a : Task). reads_input a) is in
-    let e = c.run_explain.ensures.looked in
-    let input = g.S.Source.left c.args.input.now in
-    let old = g.F.Pages.files c.args.folder.now in
-    let new = g.F.Pages.files c.run_explain.new.folder in
+    let is = ap task_of c.in-Explain.is in let reads = ap (λ (a : Task). reads_input a) is in let e = c.run_explain.ensures.looked in
+    let input = g.S.Source.left c.args.input.now in let old = g.F.Pages.files c.args.folder.now in let new = g.F.Pages.files c.run_explain.new.folder in
     let before = g.K.Sink.written c.args.out.now in let after = g.K.Sink.written c.run_explain.new.out in
     record {
       never_usage = e.never_usage;
@@ -128,12 +101,8 @@ returns-in-Explain g c =
 
 pub returns-in-Session : goal.returns-in-Session
 returns-in-Session g c =
-    let is = ap task_of c.in-Session.is in
-    let reads = ap (λ (a : Task). reads_input a) is in
-    let e = c.run_session.ensures in
-    let input = g.S.Source.left c.args.input.now in
-    let old = g.F.Pages.files c.args.folder.now in
-    let new = g.F.Pages.files c.run_session.new.folder in
+    let is = ap task_of c.in-Session.is in let reads = ap (λ (a : Task). reads_input a) is in let e = c.run_session.ensures in
+    let input = g.S.Source.left c.args.input.now in let old = g.F.Pages.files c.args.folder.now in let new = g.F.Pages.files c.run_session.new.folder in
     let before = g.K.Sink.written c.args.out.now in let after = g.K.Sink.written c.run_session.new.out in
     record {
       never_usage = λ u. e.never (inl u);
@@ -154,11 +123,8 @@ returns-in-Session g c =
 
 pub returns-in-Check : goal.returns-in-Check
 returns-in-Check g c =
-    let is = ap task_of c.in-Check.is in
-    let e = c.run_check.ensures in
-    let input = g.S.Source.left c.args.input.now in
-    let old = g.F.Pages.files c.args.folder.now in
-    let new = g.F.Pages.files c.run_check.new.folder in
+    let is = ap task_of c.in-Check.is in let e = c.run_check.ensures in let input = g.S.Source.left c.args.input.now in
+    let old = g.F.Pages.files c.args.folder.now in let new = g.F.Pages.files c.run_check.new.folder in
     let before = g.K.Sink.written c.args.out.now in let after = g.K.Sink.written c.run_check.new.out in
     record {
       never_usage = λ u. e.done (subst DoesNothing (sym u) tt);
@@ -178,14 +144,56 @@ returns-in-Check g c =
       causes = record { source = λ w. absurd (e.done (subst DoesNothing (sym w) tt)); folder = e.folder_fault; sink = e.sink_fault };
     }
 
+pub returns-in-Export : goal.returns-in-Export
+returns-in-Export g c =
+    let is = ap task_of c.in-Export.is in let e = c.run_export.ensures in let input = g.S.Source.left c.args.input.now in
+    let old = g.F.Pages.files c.args.folder.now in let new = g.F.Pages.files c.run_export.new.folder in
+    let before = g.K.Sink.written c.args.out.now in let after = g.K.Sink.written c.run_export.new.out in
+    record {
+      never_usage = λ u. e.done (subst DoesNothing (sym u) tt);
+      ends = λ told state h source. export_ends (IsTrue g.K.Sink.told) c.args.words
+          (record { state = state; files = old; input = input; written = before }) new after c.run_export.result _ is
+          ((e.exports told).files, (e.exports told).ends);
+      input = λ told. taken_by c.args.words _ input input c.run_export.result is tt;
+      unread = λ quiet. refl;
+      large = λ w. absurd (e.done (subst DoesNothing (sym w) tt));
+      untouched = λ other d. absurd (e.done d);
+      canon = λ told state h a. canonical_still _ _ (e.exports told).files;
+      leaves = λ told. left_by c.args.words _
+          (called g.S.Source.told g.K.Sink.told input old new before after (g.F.Pages.reads c.args.folder.now) (g.F.Pages.reads c.run_export.new.folder))
+          c.run_export.result is (e.exports told);
+      lasting = λ told. commit_equal old new (e.exports told).files;
+      damage = record { never = e.whole; evident = status_since _ _ _ _ e.evident };
+      causes = record { source = λ w. absurd (e.done (subst DoesNothing (sym w) tt)); folder = e.folder_fault; sink = e.sink_fault };
+    }
+
+pub returns-in-Info : goal.returns-in-Info
+returns-in-Info g c =
+    let is = ap task_of c.in-Info.is in let e = c.run_info.ensures in let input = g.S.Source.left c.args.input.now in
+    let old = g.F.Pages.files c.args.folder.now in let new = g.F.Pages.files c.run_info.new.folder in
+    let before = g.K.Sink.written c.args.out.now in let after = g.K.Sink.written c.run_info.new.out in
+    record {
+      never_usage = λ u. e.done (subst DoesNothing (sym u) tt);
+      ends = λ told state h source. info_ends (IsTrue g.K.Sink.told) c.args.words
+          (record { state = state; files = old; input = input; written = before }) new after c.run_info.result is
+          ((e.informs told).files, (e.informs told).ends);
+      input = λ told. taken_by c.args.words _ input input c.run_info.result is tt;
+      unread = λ quiet. refl;
+      large = λ w. absurd (e.done (subst DoesNothing (sym w) tt));
+      untouched = λ other d. absurd (e.done d);
+      canon = λ told state h a. canonical_still _ _ (e.informs told).files;
+      leaves = λ told. left_by c.args.words _
+          (called g.S.Source.told g.K.Sink.told input old new before after (g.F.Pages.reads c.args.folder.now) (g.F.Pages.reads c.run_info.new.folder))
+          c.run_info.result is (e.informs told);
+      lasting = λ told. commit_equal old new (e.informs told).files;
+      damage = e.damage;
+      causes = record { source = λ w. absurd (e.done (subst DoesNothing (sym w) tt)); folder = e.folder_fault; sink = e.sink_fault };
+    }
+
 pub returns-in-Count : goal.returns-in-Count
 returns-in-Count g c =
-    let is = ap task_of c.in-Count.is in
-    let reads = ap (λ (a : Task). reads_input a) is in
-    let e = c.run_count.ensures.looked in
-    let input = g.S.Source.left c.args.input.now in
-    let old = g.F.Pages.files c.args.folder.now in
-    let new = g.F.Pages.files c.run_count.new.folder in
+    let is = ap task_of c.in-Count.is in let reads = ap (λ (a : Task). reads_input a) is in let e = c.run_count.ensures.looked in
+    let input = g.S.Source.left c.args.input.now in let old = g.F.Pages.files c.args.folder.now in let new = g.F.Pages.files c.run_count.new.folder in
     let before = g.K.Sink.written c.args.out.now in let after = g.K.Sink.written c.run_count.new.out in
     record {
       never_usage = e.never_usage;
@@ -206,12 +214,8 @@ returns-in-Count g c =
 
 pub returns-in-Ranges : goal.returns-in-Ranges
 returns-in-Ranges g c =
-    let is = ap task_of c.in-Ranges.is in
-    let reads = ap (λ (a : Task). reads_input a) is in
-    let e = c.run_ranges.ensures in
-    let input = g.S.Source.left c.args.input.now in
-    let old = g.F.Pages.files c.args.folder.now in
-    let new = g.F.Pages.files c.run_ranges.new.folder in
+    let is = ap task_of c.in-Ranges.is in let reads = ap (λ (a : Task). reads_input a) is in let e = c.run_ranges.ensures in
+    let input = g.S.Source.left c.args.input.now in let old = g.F.Pages.files c.args.folder.now in let new = g.F.Pages.files c.run_ranges.new.folder in
     let before = g.K.Sink.written c.args.out.now in let after = g.K.Sink.written c.run_ranges.new.out in
     record {
       never_usage = e.never_usage;
@@ -232,12 +236,8 @@ returns-in-Ranges g c =
 
 pub returns-in-Batch : goal.returns-in-Batch
 returns-in-Batch g c =
-    let is = ap task_of c.in-Batch.is in
-    let reads = ap (λ (a : Task). reads_input a) is in
-    let e = c.run_batch.ensures in
-    let input = g.S.Source.left c.args.input.now in
-    let old = g.F.Pages.files c.args.folder.now in
-    let new = g.F.Pages.files c.run_batch.new.folder in
+    let is = ap task_of c.in-Batch.is in let reads = ap (λ (a : Task). reads_input a) is in let e = c.run_batch.ensures in
+    let input = g.S.Source.left c.args.input.now in let old = g.F.Pages.files c.args.folder.now in let new = g.F.Pages.files c.run_batch.new.folder in
     let before = g.K.Sink.written c.args.out.now in let after = g.K.Sink.written c.run_batch.new.out in
     record {
       never_usage = e.never_usage;
@@ -259,12 +259,8 @@ returns-in-Batch g c =
 
 pub returns-in-MergingBatch : goal.returns-in-MergingBatch
 returns-in-MergingBatch g c =
-    let is = ap task_of c.in-MergingBatch.is in
-    let reads = ap (λ (a : Task). reads_input a) is in
-    let e = c.run_merging_batch.ensures in
-    let input = g.S.Source.left c.args.input.now in
-    let old = g.F.Pages.files c.args.folder.now in
-    let new = g.F.Pages.files c.run_merging_batch.new.folder in
+    let is = ap task_of c.in-MergingBatch.is in let reads = ap (λ (a : Task). reads_input a) is in let e = c.run_merging_batch.ensures in
+    let input = g.S.Source.left c.args.input.now in let old = g.F.Pages.files c.args.folder.now in let new = g.F.Pages.files c.run_merging_batch.new.folder in
     let before = g.K.Sink.written c.args.out.now in let after = g.K.Sink.written c.run_merging_batch.new.out in
     record {
       never_usage = e.never_usage;

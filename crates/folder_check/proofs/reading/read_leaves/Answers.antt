@@ -1,15 +1,18 @@
-use Rattle.std.proofs.Common.{◌∙◌, ap, length, sym, subst, arith}
-use Rattle.std.proofs.lemmas.List.{length_push}
+use Rattle.std.proofs.Common.{◌∙◌, ◌≡◌, ◌++◌, List, ap, length, sym, subst, arith}
+use Rattle.std.proofs.lemmas.List.{length_push, take_all}
 use Rattle.std.proofs.lemmas.List.Elements.{All-contains}
 use Rattle.std.proofs.lemmas.Result.{err_from_is_err_and}
 use Rattle.outer_io.specs.Files.{Files}
+use Rattle.point_codec.specs.Points.{Item}
+use Rattle.point_codec.specs.Seen.{items_of}
 use Rattle.page_cache.specs.Cache.{Agrees}
 use Rattle.segment_file.specs.Damages.{IsLeafDamageOf}
 use Rattle.page_cache.specs.Evidence.{FaultShows}
-use Rattle.segment_view.specs.Held.{HasOwnHead}
-use Rattle.segment_view.specs.LiveSegments.{live_segment}
+use Rattle.segment_view.specs.Held.{AreHeld, HasOwnHead}
+use Rattle.segment_view.specs.LiveSegments.{LiveSegment, live_segment}
 use Rattle.segment_view.proofs.Living.{part_in}
 use Rattle.folder_check.specs.Found.{HasSegment, IsFinding}
+use Rattle.folder_check.proofs.KeptEntries.{held_pushed}
 use Rattle.folder_check.proofs.Leaves.{fault_of_part, found_more}
 use Rattle.folder_check.proofs.Pages.{one_read, pages_more, pages_upto}
 use Rattle.folder_check.proofs.First.{first_leaf}
@@ -33,6 +36,12 @@ loop-i-preserved g c =
           let there = part_in parts c.loop-i.i p c.part.ensures in
           let here = one_read g.row.D files (g.F.Pages.files c.loop-i.folder) parts p _ _ (was.files told) own there (one.reads told) in
           omega (arith, step, before, here);
+      kept = λ keeps told own.
+          held_pushed g.row.D files (g.F.Pages.files c.loop-i.folder) parts c.loop-i.i p (items_of c.args.kept.now.items) (items_of c.loop-i.kept.items)
+          (items_of c.read_segment.new.kept.items) c.part.ensures (was.files told) (was.kept keeps told own)
+          (one.kept keeps told (subst (λ (f : Files). Agrees f c.loop-i.cache) (sym (was.files told)) (was.agrees told))
+          (subst (λ (f : Files). HasOwnHead g.row.D f p) (sym (was.files told))
+          (All-contains (HasOwnHead g.row.D files) parts p own (part_in parts c.loop-i.i p c.part.ensures))));
       each =
           let is = ap length c.in_ok-extend_from_slice.ensures.items in
           let more = length_push c.loop-i.findings.items c.in_ok-finding.finding in
@@ -107,3 +116,10 @@ returns-in_err-finding-clause-first g c = λ told own.
     rw (e.1, e.2)
     (first_leaf g.row.D (g.F.Pages.files c.args.folder.now) c.args.segments.now c.loop-i.i p c.loop-i.findings.items c.in_err-finding.field-0.0 c.part.ensures
     (c.loop-i.invariant.found told own) c.in_err-finding.ensures.shown)
+
+pub returns-clause-kept : goal.returns-clause-kept
+returns-clause-kept g c = λ keeps told own.
+    subst (λ (ps : List LiveSegment). (more : List Item) × (items_of c.loop-i.kept.items ≡ items_of c.args.kept.now.items ++ more)
+    × AreHeld g.row.D (g.F.Pages.files c.args.folder.now) ps more)
+    (take_all c.loop-i.i c.args.segments.now (omega (arith, c.loop-i-test.false, c.len-i-end.ensures.value)))
+    (c.loop-i.invariant.kept keeps told own)

@@ -9,7 +9,7 @@ use Rattle.document_checks.specs.Crowded.{AreFew, IsLeastCrowded}
 use Rattle.segment_view.proofs.Shown.{read_shown}
 use Rattle.folder_check.proofs.Found.{found_of}
 use Rattle.folder_check.proofs.Pages.{leaves_read}
-use Rattle.folder_check.proofs.reading.read_segment.Goals as goal
+use Rattle.folder_check.proofs.reading.count_entries.Goals as goal
 
 pub returns-in_err-entries-clause-shown : goal.returns-in_err-entries-clause-shown
 returns-in_err-entries-clause-shown g c =

@@ -1,0 +1,75 @@
+-- What there is to tell was sent, or cut, or a fault came before.
+use Rattle.std.proofs.Common.{Err, IsTrue, refl, sym, ap, subst, ◌∙◌}
+use Rattle.folder_check.specs.Informed.{IsInformed}
+use Rattle.index_opening.specs.Evidence.{IsEvident, IsEvidentSince, IsFound}
+use Rattle.index_opening.proofs.Evident.{on_evident_files}
+use Rattle.run_status.specs.Ends.{DoesNothing, IsDamaged}
+use Rattle.run_status.specs.Stops.{status_of, stop_of}
+use Rattle.script_run.proofs.Shown.{fault_status, status_since}
+use Rattle.bkd_top.proofs.Finished.{fault_no_sink, fault_rose, sent_no_folder, sent_undamaged}
+use Rattle.bkd_top.proofs.Verdict.{fault_check, fault_whole, sent_check, told_text}
+use Rattle.bkd_top.proofs.check.run_info.Goals as goal
+use Rattle.run_status.proofs.Ending.{does_lines, folder_stopped, sink_stopped, sink_shows, status_shows}
+
+pub returns-in-Ok-clause-done : goal.returns-in-Ok-clause-done
+returns-in-Ok-clause-done g c = λ d. does_lines c.send.result (subst DoesNothing c.status_of.ensures d)
+
+pub returns-clause-done : goal.returns-clause-done
+returns-clause-done g c = λ d. does_lines c.stopped.result (subst DoesNothing c.status_of-in-Err.ensures d)
+
+pub returns-in-Ok-clause-informs : goal.returns-in-Ok-clause-informs
+returns-in-Ok-clause-informs g c = λ told. record {
+  ends = rw c.status_of.ensures
+      (sent_check (IsInformed (g.F.Pages.files c.args.folder.now)) (IsTrue g.K.Sink.told) (g.F.Pages.files c.args.folder.now) (g.K.Sink.written c.args.out.now)
+      (g.K.Sink.written c.send.new.out)
+      c.as_slice.result.now c.send.result (told_text _ _ _ _ c.new-text.ensures.items c.as_slice.ensures.value (rw c.in-Ok.is at (c.info.ensures.tells told)))
+      c.send.ensures.text c.send.ensures.known c.send.ensures.cause);
+  files = c.info.ensures.files told;
+  reads = c.info.ensures.reads told;
+  named = let P = IsFound (g.F.Pages.files c.args.folder.now) in
+      rw c.status_of.ensures (status_shows P c.send.result (sink_shows P c.send.result c.send.ensures.cause));
+}
+
+pub returns-clause-informs : goal.returns-clause-informs
+returns-clause-informs g c = λ told. record {
+  ends = rw c.status_of-in-Err.ensures
+      (rw c.stopped.ensures
+      (fault_check (IsInformed (g.F.Pages.files c.args.folder.now)) (IsTrue g.K.Sink.told) (g.F.Pages.files c.args.folder.now) (g.K.Sink.written c.args.out.now)
+      (g.K.Sink.written c.args.out.now) c.in-Err.fault (rw c.in-Err.is at (c.info.ensures.undefined told)) (λ sink. refl)));
+  files = c.info.ensures.files told;
+  reads = c.info.ensures.reads told;
+  named = rw c.status_of-in-Err.ensures (rw c.stopped.ensures (fault_status (IsFound (g.F.Pages.files c.args.folder.now)) c.in-Err.fault
+      (rw c.in-Err.is at (c.info.ensures.named told))));
+}
+
+pub returns-in-Ok-clause-damage : goal.returns-in-Ok-clause-damage
+returns-in-Ok-clause-damage g c = record {
+  never = λ told state h d. sent_undamaged c.send.result c.send.ensures.cause (subst IsDamaged c.status_of.ensures d);
+  evident = let P = IsEvidentSince (g.F.Pages.files c.args.folder.now) (IsTrue g.F.Pages.told) (g.F.Pages.files c.info.new.folder) in
+      rw c.status_of.ensures (status_shows P c.send.result (sink_shows P c.send.result c.send.ensures.cause));
+}
+
+pub returns-clause-damage : goal.returns-clause-damage
+returns-clause-damage g c = record {
+  never = λ told state h d. fault_whole (g.F.Pages.files c.args.folder.now) state c.in-Err.fault h (rw c.in-Err.is at (c.info.ensures.undefined told))
+      (subst IsDamaged (c.status_of-in-Err.ensures ∙ ap status_of c.stopped.ensures) d);
+  evident =
+      rw c.status_of-in-Err.ensures (rw c.stopped.ensures (status_since _ _ _ (status_of (Err (stop_of c.in-Err.fault)))
+      (fault_status (IsEvident (IsTrue g.F.Pages.told) (g.F.Pages.files c.info.new.folder)) c.in-Err.fault
+      (rw c.in-Err.is at (on_evident_files (IsTrue g.F.Pages.told) (IsTrue g.F.Pages.told) (g.F.Pages.files c.args.folder.now)
+      (g.F.Pages.files c.info.new.folder)
+      c.info.result (λ told. told) c.info.ensures.files c.info.ensures.evident)))));
+}
+
+pub returns-in-Ok-clause-folder_fault : goal.returns-in-Ok-clause-folder_fault
+returns-in-Ok-clause-folder_fault g c = λ e. sent_no_folder c.send.result c.send.ensures.cause (folder_stopped c.send.result (sym c.status_of.ensures ∙ e))
+
+pub returns-clause-folder_fault : goal.returns-clause-folder_fault
+returns-clause-folder_fault g c = λ e.
+    fault_rose _ _ c.in-Err.fault (rw c.in-Err.is at c.info.ensures.cause) (sym (c.status_of-in-Err.ensures ∙ ap status_of c.stopped.ensures) ∙ e)
+
+pub returns-in-Ok-clause-sink_fault : goal.returns-in-Ok-clause-sink_fault
+returns-in-Ok-clause-sink_fault g c = λ e. c.send.ensures.sink (sink_stopped c.send.result (sym c.status_of.ensures ∙ e))
+
+pub returns-clause-sink_fault : goal.returns-clause-sink_fault
+returns-clause-sink_fault g c = λ e. fault_no_sink c.in-Err.fault (sym (c.status_of-in-Err.ensures ∙ ap status_of c.stopped.ensures) ∙ e)
