@@ -227,6 +227,29 @@ stacked_on edges listed levels held outer cell now corner beside l h some there 
     (level_on edges first more outer cell corner beside l (outer_stands edges listed levels held outer h some there is) lies refl corner_is turned same)
     (ap (λ (m : Level). m.end) same))
 
+-- a part: a level for a cell within that of some level, on top of all
+pub parted : (edges : List EdgeEnds) (listed : List Edge) (levels : List Level) (held : ℕ) (outer : Level) (cell : Cell 2) (now : List Edge) (start : ℕ)
+    (corner beside : Bool) (l : Level)
+    → AreLevels edges listed levels → 0 < held → held ≤ length levels → outer ≡ get_or levels (held - 1) outer
+    → within (region_of cell) (region_of outer.cell) ≡ true → start ≡ length listed
+    → now ≡ listed ++ meeting (region_of cell) (slice_range listed outer.first outer.end)
+    → is_odd edges cell.lo.c ≡ corner → turn_oddly cell.lo.c cell.lo.c (map ends_of (slice_range now start (length now))) ≡ beside
+    → l ≡ record { cell = cell; first = start; end = length now; odd = differ corner beside } → AreLevels edges now (levels ++ l ∷ [])
+parted edges listed levels held outer cell now start corner beside l h some there is lies begins gathered corner_is beside_is l_is =
+    let more : List Edge = meeting (region_of cell) (slice_range listed outer.first outer.end) in
+    let top : IsLevel edges listed outer = subst (IsLevel edges listed) (sym is) (h.each (held - 1) outer (omega (arith, some, there))) in
+    let range : slice_range (listed ++ more) start (length (listed ++ more)) ≡ more =
+    ap (λ k. slice_range (listed ++ more) k (length (listed ++ more))) begins ∙ range_added listed more in
+    let turned : turn_oddly cell.lo.c cell.lo.c (map ends_of more) ≡ beside =
+    ap (λ (es : List Edge). turn_oddly cell.lo.c cell.lo.c (map ends_of es)) (sym range)
+    ∙ ap (λ (es : List Edge). turn_oddly cell.lo.c cell.lo.c (map ends_of (slice_range es start (length es)))) (sym gathered) ∙ beside_is in
+    let same : l ≡ record { cell = cell; first = length listed; end = length (listed ++ more); odd = differ corner beside } =
+    l_is ∙ ap (λ (k : ℕ). record { cell = cell; first = k; end = length now; odd = differ corner beside }) begins
+    ∙ ap (λ (es : List Edge). record { cell = cell; first = length listed; end = length es; odd = differ corner beside }) gathered in
+    subst (λ (es : List Edge). AreLevels edges es (levels ++ l ∷ [])) (sym gathered)
+    (levels_pushed edges listed more levels l h (level_on edges listed more outer cell corner beside l top lies refl corner_is turned same)
+    (ap (λ (m : Level). m.end) same))
+
 -- the edges of that level settle whether some edge meets the cell
 pub met_by_outer : (edges : List EdgeEnds) (listed kept : List Edge) (levels : List Level) (held : ℕ) (outer : Level) (cell : Cell 2) (meets : Bool)
     → AreLevels edges listed levels → 0 < held → held ≤ length levels → outer ≡ get_or levels (held - 1) outer

@@ -66,4 +66,4 @@ pub record IsLocator (edges : List EdgeEnds) (listed : List Edge) (levels : List
   pub closed : AreClosed edges
   pub are_levels : AreLevels edges listed levels
   pub room_taken : room ≡ room_for edges
-  pub places_taken : places ≡ 64
+  pub places_taken : places ≡ 84

@@ -112,6 +112,7 @@ pub fn gather(
     ensures meets { result.meets ≡ any_meets (map ends_of (slice_range listed.old.items first end)) (region_of c.now) }
     ensures whole { IsTrue result.whole → listed.new.items ≡ listed.old.items ++ meeting (region_of c.now)
         (slice_range listed.old.items first end) }
+    ensures all { end - first ≤ most → IsTrue result.whole }
     ensures kept { take (vec_len listed.old) listed.new.items ≡ listed.old.items }
     ensures room { vec_capacity listed.new ≡ vec_capacity listed.old }
 {

@@ -11,6 +11,7 @@ pub mod level;
 pub mod locator;
 pub mod nodes;
 pub mod outline;
+pub mod quarters;
 pub mod runs;
 pub mod tree;
 

@@ -9,14 +9,18 @@ ghost use Rattle.edge_tree.specs.Levels.{AreLevels};
 
 use crate::level::{Level, gather, innermost, turned};
 use crate::nodes::location_in;
+use crate::quarters::{Places, QUARTERED, innermost_part, places_of, quarter_of, quarter_round};
 use crate::tree::EdgeTree;
 use point_codec::{Cell, Point};
 use ring_parity::{Edge, Rings};
 use std::alloc::{AllocError, Global};
 use std::marker::Model;
 
-/// How many levels there are at most.
-const MOST_LEVELS: usize = 64;
+/// How many levels there are at most, parts counted.
+const MOST_LEVELS: usize = 84;
+
+/// So few edges are asked for each point, and more are parted.
+const FEW: usize = 8;
 
 /// A tree of edges, with levels: cells within cells that were asked for, and the edges near each.
 ///
@@ -30,6 +34,8 @@ pub struct Locator {
     /// The edges of each level, behind those of the levels below it.
     listed: Vec<Edge>,
     levels: Vec<Level>,
+    /// The parts of the level that was asked for last.
+    places: Places,
 }
 
 impl Model for Locator {
@@ -62,6 +68,7 @@ impl Locator {
             tree,
             listed,
             levels,
+            places: places_of(1),
         })
     }
 
@@ -88,14 +95,19 @@ impl Locator {
     }
 
     /// The point is in the polygon: on an edge, or counted by an odd number of them.
-    pub fn contains(&self, p: &Point<2>) -> bool
-        ensures { result ≡ is_within self.now p.now.c }
+    pub fn contains(&mut self, p: &Point<2>) -> bool
+        ensures told { result ≡ is_within self.old p.now.c }
+        ensures same { self.new ≡ self.old }
     {
-        let held = innermost(self.levels.as_slice(), p, p);
-        if held < 2 {
+        let part = innermost_part(self.levels.as_slice(), &self.places, p);
+        if part.held < 2 {
             return self.tree.contains(p);
         }
-        let place = self.levels[held - 1].locate(self.listed.as_slice(), p);
+        let level = self.levels[part.held - 1];
+        let place = level.locate(self.listed.as_slice(), p);
+        if part.number < QUARTERED && level.end - level.first > FEW {
+            self.part(p);
+        }
         place.on || place.odd
     }
 
@@ -112,6 +124,7 @@ impl Locator {
         let outer = self.levels[held - 1];
         self.levels.truncate(held);
         self.listed.truncate(outer.end);
+        self.places = places_of(held);
         let room = self.listed.capacity() - outer.end;
         let most = room.min(fewer(outer.end - outer.first));
         let found = gather(&mut self.listed, outer.first, outer.end, c, most);
@@ -128,7 +141,39 @@ impl Locator {
             end,
             odd: corner.odd != beside.odd,
         });
+        self.places = places_of(held + 1);
         found.meets
+    }
+
+    /// Makes the quarter round the point of the smallest part round it a part of its own, where there is room for all
+    /// its edges.
+    fn part(&mut self, p: &Point<2>)
+        ensures { self.new ≡ self.old }
+    {
+        let part = innermost_part(self.levels.as_slice(), &self.places, p);
+        if part.held == 0 || part.number >= QUARTERED {
+            return;
+        }
+        let outer = self.levels[part.held - 1];
+        let Some(c) = quarter_round(&outer.cell, p) else {
+            return;
+        };
+        let start = self.listed.len();
+        let most = outer.end - outer.first;
+        if self.listed.capacity() - start < most || self.levels.len() == MOST_LEVELS {
+            return;
+        }
+        gather(&mut self.listed, outer.first, outer.end, &c, most);
+        let end = self.listed.len();
+        let least = outer.locate(self.listed.as_slice(), &c.lo);
+        let beside = turned(&self.listed[start..end], &c.lo, &c.lo);
+        self.places[4 * part.number + 1 + quarter_of(&outer.cell, p)] = self.levels.len() + 1;
+        self.levels.push_reserved(Level {
+            cell: c,
+            first: start,
+            end,
+            odd: least.odd != beside.odd,
+        });
     }
 }
 

@@ -10,7 +10,7 @@ use std::test::Fail;
 
 /// Draws by the minimal standard generator of Park and Miller.
 #[derive(Drop)]
-struct Draws(u64);
+pub struct Draws(pub u64);
 
 impl Draws {
     fn coordinate(&mut self) -> i32 {
@@ -18,7 +18,7 @@ impl Draws {
         (self.0 % 200_001) as i32 - 100_000
     }
 
-    fn point(&mut self) -> Point<2> {
+    pub fn point(&mut self) -> Point<2> {
         Point {
             c: [self.coordinate(), self.coordinate()],
         }
@@ -26,7 +26,7 @@ impl Draws {
 }
 
 /// A ring of a thousand drawn positions.
-fn drawn(alloc: Global, draws: &mut Draws) -> Result<Rings, Fail> {
+pub fn drawn(alloc: Global, draws: &mut Draws) -> Result<Rings, Fail> {
     let first = draws.point();
     let mut at = Vec::new(alloc);
     at.push(first)?;

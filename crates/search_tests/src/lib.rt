@@ -25,6 +25,8 @@ mod nearest_entries;
 #[cfg(test)]
 mod nearest_ones;
 #[cfg(test)]
+mod nested_cells;
+#[cfg(test)]
 mod number_rows;
 #[cfg(test)]
 mod one_leaf;

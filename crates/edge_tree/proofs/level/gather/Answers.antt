@@ -22,12 +22,14 @@ loop-i-preserved c =
         all = gathered_one (region_of c.args.c.now) old c.loop-i.listed.items w.push_reserved.new.self.items c.args.first c.loop-i.i c.index.result.now
             c.loop-i.auto.i there c.loop-i.invariant.all c.index.ensures (sym c.misses.ensures ∙ w.if-not-misses.true) w.push_reserved.ensures.items;
         longer = omega (arith, c.loop-i.invariant.longer, w.push_reserved.ensures.len);
+        few = omega (arith, c.loop-i.invariant.few, w.push_reserved.ensures.len);
         room = w.push_reserved.ensures.capacity ∙ c.loop-i.invariant.room;
       })
       | else-not-misses w ↦ rw w.listed-is (record {
         all = left_one (region_of c.args.c.now) old c.loop-i.listed.items c.args.first c.loop-i.i c.index.result.now
             c.loop-i.auto.i there c.loop-i.invariant.all c.index.ensures (sym c.misses.ensures ∙ w.if-not-misses.false);
         longer = c.loop-i.invariant.longer;
+        few = omega (arith, c.loop-i.invariant.few);
         room = c.loop-i.invariant.room;
       })
     ]
