@@ -155,18 +155,23 @@ def shard(count):
     with tempfile.TemporaryDirectory() as top, \
             LocalCluster(n_workers=WORKERS, threads_per_worker=1, dashboard_address=None) as cluster, \
             Client(cluster, direct_to_workers=True) as client:
-        with Clock() as plain, bkd.open(os.path.join(top, "plain"), create=True, arrays=True) as index:
-            index.add_many(points)
-        print(f"  a plain index: added and committed {plain.seconds:6.1f} s")
-        with bkd.open(os.path.join(top, "plain"), arrays=True) as index:
+        taken = {}
+        for turn in range(3 if count <= 1_000_000 else 1):
+            with Clock() as clock, bkd.open(os.path.join(top, f"plain {turn}"), create=True, arrays=True) as index:
+                index.add_many(points)
+            taken.setdefault("a plain index", []).append(clock.seconds)
+            for folders in (1, WORKERS, 2 * WORKERS):
+                path = os.path.join(top, f"{folders} {turn}.json")
+                shards.create(path, [os.path.join(top, f"{folders}-{i} {turn}") for i in range(folders)], by="cells")
+                with shards.open(path, client, program=bkd.find().words) as index, Clock() as clock:
+                    index.add_many(points)
+                taken.setdefault(f"{folders} folders", []).append(clock.seconds)
+        for name, spent in taken.items():
+            print(f"  {name}: added and committed in {', '.join(f'{one:.1f}' for one in spent)} s")
+        with bkd.open(os.path.join(top, "plain 0"), read=True, arrays=True) as index:
             asked(index, "a session")
         for folders in (1, WORKERS, 2 * WORKERS):
-            path = os.path.join(top, f"{folders}.json")
-            shards.create(path, [os.path.join(top, f"{folders}-{i}") for i in range(folders)], by="cells")
-            with shards.open(path, client, program=bkd.find().words) as index:
-                with Clock() as added:
-                    index.add_many(points)
-                print(f"  {folders} folders: added and committed {added.seconds:6.1f} s")
+            with shards.open(os.path.join(top, f"{folders} 0.json"), client, program=bkd.find().words) as index:
                 asked(index, f"{folders} folders")
 
 

@@ -19,7 +19,7 @@ from .damage import Damage
 from .errors import (BadAnswer, Closed, Damaged, Died, Error, Fault, FolderFault, Hung, Locked, NoIndex, NotFound,
                      OtherKind, OutOfMemory, ReadOnly, Reentered, Refused, SinkFault, SourceFault, TooLarge,
                      Uncommitted, Unsupported, WorkerLost)
-from .exporting import export, export_csv
+from .exporting import export, export_csv, to_arrays
 from .index import Index
 from .opening import open
 from .program import Program, find
@@ -33,5 +33,5 @@ __all__ = [
     "Index", "Info", "Locked", "NoIndex", "NotFound", "OtherKind", "OutOfMemory", "Program", "Ranges", "ReadOnly",
     "Reentered", "Refused", "Scale", "SinkFault", "Snapshot", "SourceFault", "TooLarge", "Uncommitted", "Unsupported",
     "WorkerLost", "__version__", "batch", "check", "clean", "explain", "export", "export_csv", "find", "generate",
-    "geo", "info", "load", "open", "open_ranges", "ranges", "requests",
+    "geo", "info", "load", "open", "open_ranges", "ranges", "requests", "to_arrays",
 ]

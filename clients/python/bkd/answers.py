@@ -99,11 +99,14 @@ def rows_after(answer: Answer, head: bytes) -> int:
 
 def value_in(answer: Answer, text: bytes) -> Any:
     """The value of an answer that is just this text, or `PART` where it is less, or something else."""
-    at = text.find(b"\n")
-    words = text[:at].split(b" ")
-    if words[0] != answer.word:
-        return PART
     try:
+        if answer is HITS and len(text) < _LARGE:
+            word, count, *numbers = text.split()
+            return [*map(int, numbers)] if word == b"hits" and len(numbers) == int(count) and text[-1] == 10 else PART
+        at = text.find(b"\n")
+        words = text[:at].split(b" ")
+        if words[0] != answer.word:
+            return PART
         if text.count(b"\n") != (1 + int(words[1]) if answer.has_rows else 1) or text[-1:] != b"\n":
             return PART
         return answer.read(words, text[at + 1:])

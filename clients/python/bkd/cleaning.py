@@ -8,6 +8,7 @@ from .commands import Folder, Which
 from .errors import NoIndex, Unsupported
 from .formats import open_stored
 from .formats.pages import is_own_name
+from .lock import Held
 from .program import Program, find
 
 
@@ -30,7 +31,7 @@ def clean(folder: Folder, *, program: Which = None) -> list[str]:
         return left
 
 
-def _ask_program(path: str, program: Program, held: int) -> None:
+def _ask_program(path: str, program: Program, held: Held) -> None:
     """Has the program check the folder, where it has the command."""
     if "check" not in program.commands:
         return

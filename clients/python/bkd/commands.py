@@ -1,8 +1,9 @@
 """The program's commands that run once over a folder.
 
-Each takes `program` as `bkd.open` does, and the folder's lock, but where `held` is a descriptor that holds it. A
-command that the program doesn't list raises `Unsupported`. `timeout` is for how many seconds the program may run, or,
-where it reads lines, take and give nothing, before it is killed and `Hung` raised; None for ever.
+Each takes `program` as `bkd.open` does. The program holds the folder meanwhile, and `Locked` is raised where it can't;
+`held` says that it is held for it. A command that the program doesn't list raises `Unsupported`. `timeout` is for how
+many seconds the program may run, or, where it reads lines, take and give nothing, before it is killed and `Hung`
+raised; None for ever.
 """
 from __future__ import annotations
 
@@ -12,11 +13,12 @@ from collections.abc import Iterable, Sequence
 from dataclasses import dataclass
 from typing import IO, Any
 
-from . import options
+from . import kept, lock, options
 from .answers import BUCKETS, HITS, NEAR, POINTS, TESTED, TOUCHED, Answer
 from .errors import BadAnswer, NoIndex, Refused
 from .formats.commit import Commit, read_commit
 from .formats.pages import COMMIT_FILE, FileName
+from .lock import Held
 from .program import Program, find
 from .requests import Point, Request, coordinates
 from .talk import Asking
@@ -38,15 +40,17 @@ class Checked:
 
 
 def load(folder: Folder, columns: Sequence[str], table: bytes | str | IO[bytes], forks: int = 1, *,
-         program: Which = None, timeout: float | None = None) -> tuple[int, int]:
+         wait: float = options.WAIT, program: Which = None, timeout: float | None = None) -> tuple[int, int]:
     """Adds a document for each record of a CSV table, its points the columns of these 1 to 8 names, and commits.
 
     Answers how many were loaded and the next number. All of the table is loaded, or nothing is and `Refused` says why.
     `table` is its text, or a file that the program then reads by itself, from where the file stands. The folder is made
-    where it isn't there.
+    where it isn't there. Others that have it are waited for `wait` seconds.
     """
     words = ["load", "--columns", options.columns(columns), "--forks", str(options.forks(forks))]
+    words += options.waiting(wait)
     os.makedirs(folder, exist_ok=True)
+    lock.need_unopened(os.fspath(folder))
     source = table.encode() if isinstance(table, str) else table
     text = _told(find(program), folder, words, timeout, source)
     found = re.fullmatch(r"loaded (\d+)\nnext (\d+)\n", text)
@@ -71,16 +75,16 @@ def generate(folder: Folder, docs: int, seed: int, forks: int = 1, *, program: W
 
 
 def _told(program: Program, folder: Folder, words: Sequence[str], timeout: float | None,
-          source: bytes | IO[bytes] = b"", held: int | None = None) -> str:
+          source: bytes | IO[bytes] = b"", held: Held | None = None) -> str:
     """The text of a command that is refused as a whole or not at all."""
     status, text = program.output(os.fspath(folder), words, source, options.timeout(timeout), held)
     if status == 2:
-        raise Refused(" ".join(words), text.strip(), 1)
-    return text
+        raise Refused(" ".join(words), text.decode().strip(), 1)
+    return text.decode()
 
 
 def check(folder: Folder, *, program: Which = None, timeout: float | None = None,
-          held: int | None = None) -> Checked | None:
+          held: Held | None = None) -> Checked | None:
     """Reads every page that the folder's commit needs. None where there is no index; `Damaged` where it isn't whole."""
     text = _told(find(program), folder, ["check"], timeout, held=held)
     if text == "no index\n":
@@ -94,7 +98,8 @@ def check(folder: Folder, *, program: Which = None, timeout: float | None = None
 @dataclass(frozen=True, slots=True)
 class Info:
     """What is stored, as opening it finds: dimensions, leaf size, next number, points given, live documents, segments,
-    and the bytes of the files that the commit lists and of the commit itself."""
+    and the bytes of the files that the commit lists and of the commit itself; and the decimals that this client keeps
+    beside it, None of whole numbers."""
 
     dims: int
     leaf: int
@@ -103,9 +108,10 @@ class Info:
     live: int
     segments: int
     bytes: int
+    decimals: int | None = None
 
 
-def info(folder: Folder, *, program: Which = None, timeout: float | None = None, held: int | None = None) -> Info:
+def info(folder: Folder, *, program: Which = None, timeout: float | None = None, held: Held | None = None) -> Info:
     """What is stored, by the program's `info`, or by the commit's file where the program hasn't that command.
 
     Raises `NoIndex`.
@@ -113,13 +119,13 @@ def info(folder: Folder, *, program: Which = None, timeout: float | None = None,
     path, found = os.fspath(folder), find(program)
     if "info" not in found.commands:
         return _info_of(path, read_commit(path))
-    text = _told(found, path, ["info"], timeout, held=held)
-    if text == "no index\n":
+    _, text = found.output(path, ["info"], timeout=options.timeout(timeout), held=held)
+    if text == b"no index\n":
         raise NoIndex(f"{path} holds no index")
-    said = re.fullmatch(r"dims (\d+) leaf (\d+) next (\d+) points (\d+) live (\d+) segments (\d+) bytes (\d+)\n", text)
+    said = re.fullmatch(rb"dims (\d+) leaf (\d+) next (\d+) points (\d+) live (\d+) segments (\d+) bytes (\d+)\n", text)
     if said is None:
         raise BadAnswer(f"info answered {text[:100]!r}")
-    return Info(*map(int, said.groups()))
+    return Info(*map(int, said.groups()), decimals=kept.read(path).decimals)
 
 
 def _info_of(path: str, commit: Commit | None) -> Info:
@@ -129,18 +135,19 @@ def _info_of(path: str, commit: Commit | None) -> Info:
              *(FileName.live(one.segment, one.generation) for one in commit.listed)]
     size = sum(os.path.getsize(os.path.join(path, name.text)) for name in names)
     live = sum(one.live for one in commit.listed)
-    return Info(commit.dims, commit.leaf, commit.next, commit.given, live, len(commit.listed), size)
+    return Info(commit.dims, commit.leaf, commit.next, commit.given, live, len(commit.listed), size,
+                kept.read(path).decimals)
 
 
 def _asked(folder: Folder, words: Sequence[str], requests: Iterable[Request], program: Which, timeout: float | None,
-           held: int | None) -> list[Any]:
+           held: Held | None) -> list[Any]:
     talk = Asking(requests)
     find(program).run(os.fspath(folder), words, talk, options.timeout(timeout), held)
     return talk.values
 
 
 def explain(folder: Folder, queries: Iterable[Request], cache: int = 1024, *, program: Which = None,
-            timeout: float | None = None, held: int | None = None) -> list[Any]:
+            timeout: float | None = None, held: Held | None = None) -> list[Any]:
     """What queries read in the stored segments: an `Explained` for each, or the `Refused` of one that is refused.
 
     `cache` is how many pages are kept, 1 to 65,536.
@@ -150,7 +157,7 @@ def explain(folder: Folder, queries: Iterable[Request], cache: int = 1024, *, pr
 
 
 def batch(folder: Folder, queries: Iterable[Request], forks: int = 1, merge: bool = False, *, program: Which = None,
-          timeout: float | None = None, held: int | None = None) -> list[Any]:
+          timeout: float | None = None, held: Held | None = None) -> list[Any]:
     """The answers to queries, in order, from a copy of the stored index in memory, by `forks` levels of two threads
     each.
 
@@ -177,6 +184,6 @@ def _spelled(lo: Point, hi: Point) -> str:
 
 
 def count(folder: Folder, asked: Iterable[Request], cache: int = 1024, *, program: Which = None,
-          timeout: float | None = None, held: int | None = None) -> list[Any]:
+          timeout: float | None = None, held: Held | None = None) -> list[Any]:
     """The answers to `points_in` (a number) and `grid_over` (triples x, y, points), or the `Refused` in their place."""
     return _asked(folder, ["count", "--cache", str(options.cache(cache))], asked, program, timeout, held)

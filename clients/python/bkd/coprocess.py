@@ -17,21 +17,22 @@ from typing import Any, TypeVar
 from .answers import PART, value_in
 from .errors import BadAnswer, Closed, Died, Error, Reentered, fault_of
 from .pipes import READ, Pipes
-from .processes import started as started  # (whoever starts a program beside takes it from here)
 from .requests import Request
 from .sending import MARKER, Sending, Silence, ends_with
 from .talk import Asking, Talk
 
 # so many bytes are written whole, or not at all
 _ATOMIC = select.PIPE_BUF
+# so many pieces of answers are read before they are looked at, while there is more to send
+_SOME = 64
 _T = TypeVar("_T")
 
 
 class Coprocess(Pipes):
     """A running program that is called. Any thread may; each call is done whole before the next."""
 
-    def __init__(self, words: Sequence[str], timeout: float | None, held: int | None, guarded: bool = False) -> None:
-        super().__init__(words, timeout, held, guarded)
+    def __init__(self, words: Sequence[str], timeout: float | None, guarded: bool = False) -> None:
+        super().__init__(words, timeout, guarded)
         self._lock = threading.Lock()
         self._owner = 0
         self._unsettled: Talk | None = None
@@ -44,7 +45,7 @@ class Coprocess(Pipes):
 
         After an error of this package the program is over.
         """
-        if self._lock.locked() and self._owner == get_ident():
+        if self._owner == get_ident():
             raise Reentered("the index is in the middle of a call, which this one would cut in two")
         with self._lock:
             if self._is_over or not (self._is_fed or work == self._close):
@@ -106,7 +107,7 @@ class Coprocess(Pipes):
 
     def _exchange(self, talk: Talk) -> Exception | None:
         """Sends and receives; answers the exception of the talk's pieces, if there was one."""
-        first, answered = self._sending.last, 0
+        first = self._sending.last
         talk.begin(first + 1)
         self._unsettled = talk
         stopped_by, is_more = None, True
@@ -122,21 +123,20 @@ class Coprocess(Pipes):
             is_blocked = self._send()
             if is_more and not is_blocked and self._is_fed:
                 continue
-            if not is_blocked and answered == self._sending.last - first:
+            is_looking = not is_blocked or len(talk.inbox) > _SOME
+            if is_looking and talk.look() == self._sending.last - first and not is_more:
                 break
             if not self._receive(talk, is_blocked):
                 raise self._ended(talk, first)
-            answered = talk.look()
-        self._note(talk, answered)
+        self._note(talk, self._sending.last - first)
         self._unsettled = None
         return stopped_by
 
     def _single(self, request: Request, text: bytes) -> Any:
         """Writes a line at once, which the pipe has room for, since all before it are answered."""
         first = self._sending.last
-        silence = self._unsettled = Silence()
-        sending = self._sending = Sending(text, first + 1)
-        inbox = silence.inbox
+        sending = self._sending = self._unsettled = Sending(text, first + 1)
+        inbox = sending.inbox
         value = PART
         try:
             sending.written.extend(map(os.write, (self._in,), (text,)))

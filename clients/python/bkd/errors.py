@@ -36,7 +36,8 @@ class Unsupported(Error):
 
 
 class Locked(Error):
-    """Another run works on the folder, or this process has it open already; the text says which."""
+    """Another run works on the folder, or has changed it meanwhile, or this process has it open already; the text says
+    which."""
 
 
 class Closed(Error):
@@ -94,6 +95,14 @@ class Refused(Error):
         self.others = tuple(others)
         self.answers = answers
         self.cause = cause
+
+
+def unrefused(values: list[Any]) -> list[Any]:
+    """The values, of which none is a refusal; else the first is raised."""
+    for value in values:
+        if isinstance(value, Refused):
+            raise value
+    return values
 
 
 class Fault(Error):
@@ -179,7 +188,7 @@ def fault_of(status: int, said: str, done: int | None = None, last: str | None =
     if status == 1 and line.startswith("usage: "):
         return Unsupported(f"the program doesn't know these words: {cause or line}")
     if status == 4 and cause and _OTHERS.search(cause):
-        return Locked(cause)
+        return Locked(cause + ("; what wasn't committed is undone" if done else ""))
     if status == 6 and line.startswith("damaged: ") and (damage := Damage.read(line.removeprefix("damaged: "))):
         return Damaged(damage, done, last, cause)
     if status in _FAULTS:

@@ -9,12 +9,12 @@ from typing import Any, SupportsIndex
 from . import requests, spelling
 from .answers import DELETED, DOC
 from .errors import ReadOnly, Refused, Uncommitted
+from .many import Many
 from .program import Program
-from .queries import Numbers, Queries, Snapshot
+from .queries import Numbers, Queries, Snapshot, as_array
 from .requests import COMMIT, Point, Request
 from .scale import Scale
 from .stored import Stored
-from .talk import Many
 from .transport import Session
 
 _QUERIES = frozenset({"box", "polygon", "nearest", "snapshot", "release"})
@@ -62,8 +62,7 @@ class Index(Stored, Queries):
             self.abandon()
 
     def close(self) -> None:
-        """Commits what isn't committed, ends the program and gives the folder's lock back.
-        A second call does nothing."""
+        """Commits what isn't committed and ends the program. A second call does nothing."""
         self._session.close()
 
     def abandon(self) -> None:
@@ -84,8 +83,8 @@ class Index(Stored, Queries):
             self._session.ask((COMMIT,))
         return values
 
-    def _ask_one(self, request: Request) -> Any:
-        value = self._session.query(request)
+    def _query(self, request: Request) -> Any:
+        value = self._session.query(as_array(request) if self._arrays else request)
         if isinstance(value, Refused):
             raise value
         return value
@@ -212,7 +211,7 @@ class Index(Stored, Queries):
     def snapshot(self, name: str) -> Snapshot:
         """Keeps the documents as they are under a name of 1 to 32 letters, digits, `_` or `-`, until it is released or
         the index is closed. At most 16 are kept."""
-        self._ask_one(requests.snapshot(name))
+        self._query(requests.snapshot(name))
         return Snapshot(self, name)
 
     def flush(self) -> None:

@@ -5,8 +5,10 @@ be opened as either, and has no scale.
 """
 from __future__ import annotations
 
+import contextlib
 import json
 import os
+from collections.abc import Iterator
 from dataclasses import dataclass
 
 from .errors import FolderFault, OtherKind
@@ -43,19 +45,51 @@ def read(folder: str) -> Kept:
     return kept
 
 
-def write(folder: str, kept: Kept) -> None:
-    """Keeps it, whole or not at all."""
+@contextlib.contextmanager
+def written(folder: str, kept: Kept) -> Iterator[None]:
+    """Keeps it when the `with` ends, whole or not at all, where nothing is kept yet; an exception keeps nothing."""
     path = os.path.join(folder, NAME)
-    aside = path + ".new"
+    aside = f"{path}.{os.getpid()}.new"
     try:
         with open(aside, "w", encoding="utf-8") as file:
             json.dump({"holds": kept.holds, "decimals": kept.decimals}, file)
             file.write("\n")
             file.flush()
             os.fsync(file.fileno())
-        os.replace(aside, path)
+        yield
+        _name(aside, path)
+        sync_names(folder)
     except OSError as error:
         raise FolderFault(f"{path}: {error.strerror}") from error
+    finally:
+        with contextlib.suppress(OSError):
+            os.remove(aside)
+
+
+def _name(aside: str, path: str) -> None:
+    """Gives a file its name where none has it."""
+    try:
+        os.link(aside, path)
+    except FileExistsError:
+        pass
+    except OSError:  # a file system without second names
+        if not os.path.exists(path):
+            os.rename(aside, path)
+
+
+def forget(folder: str) -> None:
+    """Takes a note away that stands where no index is."""
+    with contextlib.suppress(FileNotFoundError):
+        os.remove(os.path.join(folder, NAME))
+
+
+def sync_names(folder: str) -> None:
+    """Brings the names in a directory to the disk."""
+    held = os.open(folder or ".", os.O_RDONLY | os.O_DIRECTORY)
+    try:
+        os.fsync(held)
+    finally:
+        os.close(held)
 
 
 def agreed(folder: str, wanted: Kept) -> Kept:

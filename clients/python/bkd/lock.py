@@ -1,8 +1,8 @@
-"""The lock on a folder: an advisory `flock` on the directory itself, shared by those who read.
+"""Which folders this process has open, and the lock on a folder where it is the client that works there.
 
-A program that locks its folder takes the same lock. For a session it is the client that takes it, when it opens the
-folder, so that who may write knows it before the first document; the program inherits it, so that it lasts as long as
-the program does. Folders that this process holds are noted here, so that it is told of its own second opening.
+It is the program that holds a folder: by an advisory `flock` on the directory, shared, and alone from its first change
+on (docs/CUSTODY.md). What an index has open is noted here, so that this process is told of its own second opening. The
+client takes the same lock only where it reads or changes files itself: `clean`, the page, the folders of `bkd.shards`.
 """
 from __future__ import annotations
 
@@ -14,6 +14,7 @@ import time
 import weakref
 from collections import Counter
 from collections.abc import Iterator
+from dataclasses import dataclass
 
 from .errors import FolderFault, Locked
 
@@ -29,14 +30,11 @@ class _Mine:
         self._writers: Counter[Place] = Counter()
         self._readers: Counter[Place] = Counter()
 
-    def need_room(self, place: Place, folder: str, shared: bool) -> None:
+    def add(self, place: Place, folder: str, shared: bool) -> None:
         """Raises `Locked` where one more isn't possible beside those that are there."""
         with self._lock:
             if self._writers[place] or (self._readers[place] and not shared):
                 raise _of_this_process(folder)
-
-    def add(self, place: Place, shared: bool) -> None:
-        with self._lock:
             (self._readers if shared else self._writers)[place] += 1
 
     def remove(self, place: Place, shared: bool) -> None:
@@ -67,47 +65,58 @@ def _place(folder: str) -> Place:
     return found.st_dev, found.st_ino
 
 
-class Hold:
-    """This process's hold of a folder: its lock, and the note of it. Let go by `release`, or where nobody has it."""
+class Opened:
+    """The note of a folder that an index has open, to ask it alone or to change it. It goes by `release`, or where
+    nobody has it."""
 
-    def __init__(self, folder: str, shared: bool, wait: float) -> None:
+    def __init__(self, folder: str, read: bool) -> None:
         place = _place(folder)
-        _mine.need_room(place, folder, shared)
-        self.descriptor = take(folder, shared, wait)
-        _mine.add(place, shared)
-        self._end = weakref.finalize(self, _let_go, self.descriptor, _mine, place, shared)
-        _holds.add(self)
+        _mine.add(place, folder, read)
+        self._end = weakref.finalize(self, _mine.remove, place, read)
+        _notes.add(self)
 
     def release(self) -> None:
         """A second call does nothing."""
         self._end()
 
     def _forked(self) -> None:
-        """In a process that comes of a fork, which has no part in the lock."""
-        if self._end.detach() is not None:
-            os.close(self.descriptor)
+        self._end.detach()
 
 
-_holds: weakref.WeakSet[Hold] = weakref.WeakSet()
-
-
-def _let_go(descriptor: int, mine: _Mine, place: Place, shared: bool) -> None:
-    mine.remove(place, shared)
-    release(descriptor)
+_notes: weakref.WeakSet[Opened] = weakref.WeakSet()
 
 
 def told(folder: str) -> Locked:
-    """What is raised where the lock of a folder can't be had."""
+    """What is raised where a folder can't be had."""
     if _mine.has(_place(folder)):
         return _of_this_process(folder)
     return Locked(f"another process works on {folder}")
 
 
-def take(folder: str, shared: bool = False, wait: float = 0.0) -> int:
-    """Takes the lock and answers its descriptor; `release` gives it back.
+def need_unopened(folder: str) -> None:
+    """Raises `Locked` where this process has the folder open, for which it would wait in vain."""
+    if _mine.has(_place(folder)):
+        raise _of_this_process(folder)
 
-    Any number may share it; who writes has it alone. Raises `Locked` where another process has it for longer than
-    `wait` seconds, and `FolderFault` where the folder can't be opened.
+
+@dataclass(frozen=True, slots=True)
+class Held:
+    """A folder that is held for a further program, which takes no lock of its own: by `descriptor`, which it inherits,
+    so that the lock lasts as long as it does; or, where that is None, by the program of an index."""
+
+    descriptor: int | None = None
+
+    def release(self) -> None:
+        """Gives the lock back. A program that inherited it holds it until it ends."""
+        if self.descriptor is not None:
+            os.close(self.descriptor)
+
+
+def take(folder: str, shared: bool = False, wait: float = 0.0) -> Held:
+    """Takes the lock: any number may share it, who changes files has it alone.
+
+    Raises `Locked` where another has it for longer than `wait` seconds, and `FolderFault` where the folder can't be
+    opened.
     """
     try:
         held = os.open(folder, os.O_RDONLY | os.O_DIRECTORY | os.O_CLOEXEC)
@@ -122,7 +131,7 @@ def take(folder: str, shared: bool = False, wait: float = 0.0) -> int:
     except BaseException:
         os.close(held)
         raise
-    return held
+    return Held(held)
 
 
 def _locks(held: int, shared: bool) -> bool:
@@ -133,25 +142,20 @@ def _locks(held: int, shared: bool) -> bool:
     return True
 
 
-def release(held: int) -> None:
-    """Gives a lock back. A program that inherited it holds it until it ends."""
-    os.close(held)
-
-
 @contextlib.contextmanager
-def locked(folder: str, shared: bool = False, wait: float = 0.0) -> Iterator[int]:
-    """Holds the lock within a `with`."""
+def locked(folder: str, shared: bool = False, wait: float = 0.0) -> Iterator[Held]:
+    """Has the lock within a `with`."""
     held = take(folder, shared, wait)
     try:
         yield held
     finally:
-        release(held)
+        held.release()
 
 
 def _after_fork() -> None:
-    for hold in list(_holds):
-        hold._forked()
-    _holds.clear()
+    for note in list(_notes):
+        note._forked()
+    _notes.clear()
     _mine.forget()
 
 

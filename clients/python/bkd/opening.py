@@ -7,11 +7,12 @@ import os
 from . import kept, options, requests
 from .commands import Folder, Which
 from .damage import Damage
-from .errors import Damaged, NoIndex, Refused
+from .errors import Damaged, NoIndex, unrefused
 from .formats.commit import Commit, read_commit
 from .formats.pages import COMMIT_FILE, is_own_name
 from .index import Index
 from .kept import Kept
+from .options import WAIT
 from .program import Program, find
 from .requests import COMMIT
 from .scale import MOST_DECIMALS, Scale
@@ -19,7 +20,7 @@ from .transport import Session
 
 
 def open(folder: Folder, dims: int | None = None, leaf: int | None = None, cache: int = 1024, forks: int = 1, *,
-         create: bool = False, read: bool = False, wait: float = 0.0, autocommit: bool = False,
+         create: bool = False, read: bool = False, wait: float = WAIT, autocommit: bool = False,
          decimals: int | None = None, program: Which = None, timeout: float | None = 600.0,
          arrays: bool = False) -> Index:
     """Opens the index of a folder; with `create` folder and index are made where they aren't there, and stored at once.
@@ -27,11 +28,12 @@ def open(folder: Folder, dims: int | None = None, leaf: int | None = None, cache
     `dims`, 1 to 8, is 2 for a new index where it is left out, and must be that of an index that is there; so `leaf`,
     the greatest number of entries of a leaf. With `decimals`, 0 to 9, a new index holds values to so many decimals, and
     that is kept beside its files. `cache` is how many pages of 4,096 bytes are kept, 1 to 65,536, `forks` how many
-    levels of a build run in two threads each, 0 to 6. With `read` it can only be asked, beside others who only read.
-    `wait` is for how many seconds a folder is waited for that another run holds, 0 to 3,600. With `autocommit` each
-    call that changes something is stored before it answers. `timeout` is for how many seconds the program may take and
-    give nothing before it is killed and `Hung` raised. `program` is a path, or words, else what `bkd.find` finds. With
-    `arrays` numbers are answered as numpy arrays of uint32.
+    levels of a build run in two threads each, 0 to 6. With `read` it can only be asked, beside others who only ask.
+    `wait` is for how many whole seconds, 0 to 3,600, another run is waited for that has the folder, when it is opened
+    and when its first change is to be written. With `autocommit` each call that changes something is stored before it
+    answers. `timeout` is for how many seconds beyond `wait` the program may take and give nothing before it is killed
+    and `Hung` raised. `program` is a path, or words, else what `bkd.find` finds. With `arrays` numbers are answered as
+    numpy arrays of uint32.
 
     Raises `NoIndex` where none is there, `Locked` where another run or this process works on the folder, `OtherKind`
     where it holds ranges or has another scale, `NotFound`, `Damaged` (also where the commit is gone and other files of
@@ -99,6 +101,9 @@ class Opening:
             self._need_empty()
             self._make()
             return
+        if self._create and there.next == 0 and kept.read(self.path) == Kept():
+            with kept.written(self.path, self.kept):
+                pass  # (whoever made the index may have been killed before it kept this)
         self.kept = kept.agreed(self.path, self.kept)
         if (self._asked or there.dims) != there.dims or (self._leaf or there.leaf) != there.leaf:
             raise ValueError(f"the index has {there.dims} dimensions and leaves of {there.leaf}")
@@ -113,12 +118,8 @@ class Opening:
             raise NoIndex(f"{self.path} holds no index; with create=True one is made")
 
     def _make(self) -> None:
-        kept.write(self.path, self.kept)
-        try:
-            for value in self._session.ask((requests.create(self.dims, self._leaf), COMMIT)):
-                if isinstance(value, Refused):
-                    raise value
-        except BaseException:
-            with contextlib.suppress(OSError):
-                os.remove(os.path.join(self.path, kept.NAME))
-            raise
+        """Stores the index, which nobody else may have then, and after that the note beside it. (A note that is there
+        is none of this index, nor of one that another process makes, which would have the folder alone by then.)"""
+        kept.forget(self.path)
+        with kept.written(self.path, self.kept):
+            unrefused(self._session.ask((requests.create(self.dims, self._leaf), COMMIT)))

@@ -1,9 +1,12 @@
 """The options of calls, checked before anything is started: what is wrong raises TypeError or ValueError."""
 from __future__ import annotations
 
+import math
 import operator
 from typing import SupportsIndex
 
+# seconds that others are waited for where nothing is said, as long as sqlite3's `timeout`
+WAIT = 5.0
 MOST_CACHE = 65_536
 MOST_FORKS = 6
 MOST_DIMS = 8
@@ -55,6 +58,11 @@ def wait(value: float) -> float:
     if not 0 <= value <= MOST_WAIT:
         raise ValueError(f"wait is 0 to {MOST_WAIT:,} seconds, not {value!r}")
     return value
+
+
+def waiting(value: float) -> list[str]:
+    """The words by which the program waits for so many seconds."""
+    return ["--wait", str(math.ceil(wait(value)))]
 
 
 def columns(names: object) -> str:

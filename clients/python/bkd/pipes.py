@@ -17,7 +17,8 @@ from .processes import close, fileno, guard_of, left_open, polled, started, stre
 from .sending import Sending
 from .talk import Talk
 
-READ = 1 << 18
+# (a larger buffer is mapped and unmapped for each read, which takes longer than the reading)
+READ = 1 << 16
 _PIPE = 1 << 20
 _KEPT = 1 << 16
 
@@ -25,22 +26,21 @@ _KEPT = 1 << 16
 class Pipes:
     """A running program, its pipes and its end.
 
-    `timeout` is for how many seconds it may take and give nothing while it is waited for, None for ever. `held` is the
-    folder's lock, which it inherits, so that the lock lasts as long as the program does. With `guarded` it is killed
-    when this process ends without closing it. `done` counts the lines that are done, `last` is the last of them.
+    `timeout` is for how many seconds it may take and give nothing while it is waited for, None for ever. With `guarded`
+    it is killed when this process ends without closing it. `done` counts the lines that are done, `last` is the last of
+    them.
     """
 
-    def __init__(self, words: Sequence[str], timeout: float | None, held: int | None, guarded: bool = False) -> None:
+    def __init__(self, words: Sequence[str], timeout: float | None, guarded: bool = False) -> None:
         pipe = subprocess.PIPE
-        self._process = started(words, held, stdin=pipe, stdout=pipe, stderr=pipe)
+        self._process = started(words, stdin=pipe, stdout=pipe, stderr=pipe)
         self._guard = guard_of(self._process) if guarded else None
         self._in, self._out, self._err = map(fileno, streams(self._process))
         for descriptor in (self._in, self._out):
             with contextlib.suppress(OSError):  # a machine allows a user so many pages of pipes
                 fcntl.fcntl(descriptor, fcntl.F_SETPIPE_SZ, _PIPE)
         os.set_blocking(self._in, False)
-        self._timeout = timeout
-        self._milliseconds = None if timeout is None else timeout * 1000
+        self.allow(timeout)
         self._said = b""
         self._sending = Sending(b"", 0)
         self._is_fed = True
@@ -50,6 +50,11 @@ class Pipes:
         self.done = 0
         self.last: str | None = None
         self._end = weakref.finalize(self, left_open, os.getpid(), self._process, self._guard)
+
+    def allow(self, timeout: float | None) -> None:
+        """From here on it may stand still for so many seconds."""
+        self._timeout = timeout
+        self._milliseconds = None if timeout is None else timeout * 1000
 
     @property
     def lines(self) -> int:

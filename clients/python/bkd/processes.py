@@ -9,19 +9,23 @@ import warnings
 from collections.abc import Iterator, Sequence
 from typing import IO, Any
 
+from .lock import Held
+
 # ends the program where its own input ends, which it does when the caller is gone
 _GUARD = 'read -r _; kill -KILL "$0"'
 _SHELL = "/bin/sh"
 
 
 def environment() -> dict[str, str]:
-    """The environment of a program: it notes its reasons, and a launcher needn't take the lock."""
-    return os.environ | {"BKD_NOTES": "1", "BKD_HELD": "1"}
+    """The environment of a program: it notes its reasons."""
+    return os.environ | {"BKD_NOTES": "1"}
 
 
-def started(words: Sequence[str], held: int | None, **pipes: Any) -> subprocess.Popen[bytes]:
-    """A process in a group of its own, which inherits the folder's lock where there is one."""
-    passed = () if held is None else (held,)
+def started(words: Sequence[str], held: Held | None = None, **pipes: Any) -> subprocess.Popen[bytes]:
+    """A process in a group of its own. Where its folder is held for it, it takes no lock, and inherits the one."""
+    if held is not None:
+        words = [*words, "--no-lock"]
+    passed = () if held is None or held.descriptor is None else (held.descriptor,)
     return subprocess.Popen(words, bufsize=0, process_group=0, pass_fds=passed, env=environment(), **pipes)
 
 

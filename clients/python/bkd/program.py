@@ -18,15 +18,13 @@ from typing import IO
 from . import lock
 from .coprocess import Coprocess
 from .errors import Died, Error, Hung, Locked, NotFound, Unsupported, fault_of
-from .processes import started
+from .lock import Held
+from .processes import polled, started
 from .talk import Talk
 
-# what only reads shares the folder's lock; everything else has it alone
-_READERS = frozenset({"explain", "check", "count", "batch", "export", "info"})
 _USAGE = re.compile(r"usage: bkd FOLDER ([a-z|]+)")
 _PACKAGE = Path(__file__).resolve().parent
 _CHECKOUT = _PACKAGE.parents[2]
-_SECONDS = 60.0
 _READ = 1 << 16
 
 
@@ -48,7 +46,7 @@ class Program:
         said = ""
         none = subprocess.DEVNULL
         try:
-            with started(self.words, None, stdin=none, stdout=none, stderr=subprocess.PIPE) as run:
+            with started(self.words, stdin=none, stdout=none, stderr=subprocess.PIPE) as run:
                 assert run.stderr
                 for line in run.stderr:
                     said += line.decode(errors="replace")
@@ -61,32 +59,17 @@ class Program:
             raise NotFound(f"{' '.join(self.words)} is not bkd: it prints no list of commands")
         return frozenset(found[1].split("|"))
 
-    @cached_property
-    def locks(self) -> bool:
-        """Whether the program locks its folder by itself: whether it takes the option `--wait`."""
-        with tempfile.TemporaryDirectory() as folder:
-            words = [*self.words, folder, "check", "--wait", "0"]
-            none = subprocess.DEVNULL
-            with self._told(), started(words, None, stdin=none, stdout=none, stderr=none) as run:
-                try:
-                    return run.wait(_SECONDS) == 0
-                except subprocess.TimeoutExpired:
-                    raise Hung(f"{' '.join(words)} didn't end within {_SECONDS:.0f} seconds") from None
-                finally:
-                    run.kill()
-
     def require(self, command: str) -> None:
         """Raises `Unsupported` where the program's list doesn't have this command."""
         if command not in self.commands:
             raise Unsupported(f"{' '.join(self.words)} has no command {command}; "
                               f"it has {', '.join(sorted(self.commands))}")
 
-    def start(self, folder: str, words: Sequence[str], timeout: float | None, held: int | None = None,
-              guarded: bool = False) -> Coprocess:
-        """Starts a command that stays, whose name is the first word. `held` is the folder's lock, which it inherits."""
+    def start(self, folder: str, words: Sequence[str], timeout: float | None, guarded: bool = False) -> Coprocess:
+        """Starts a command that stays, whose name is the first word."""
         self.require(words[0])
         with self._told():
-            return Coprocess([*self.words, folder, *words], timeout, held, guarded)
+            return Coprocess([*self.words, folder, *words], timeout, guarded)
 
     @contextlib.contextmanager
     def _told(self) -> Iterator[None]:
@@ -97,8 +80,8 @@ class Program:
             raise NotFound(f"{self.words[0]}: {error.strerror}") from error
 
     def run(self, folder: str, words: Sequence[str], talk: Talk, timeout: float | None,
-            held: int | None = None) -> None:
-        """Runs a command over all that a talk has to send. Without `held` the folder is locked meanwhile.
+            held: Held | None = None) -> None:
+        """Runs a command over all that a talk has to send.
 
         Nothing is started where the talk's pieces raise. What is sent is complete before the program reads it, so that
         a caller who is killed leaves all of it or nothing.
@@ -117,61 +100,47 @@ class Program:
                     raise Died(f"the program ended and left {due - done} lines unanswered", done, last)
 
     def output(self, folder: str, words: Sequence[str], source: bytes | IO[bytes] = b"",
-               timeout: float | None = None, held: int | None = None) -> tuple[int, str]:
+               timeout: float | None = None, held: Held | None = None) -> tuple[int, bytes]:
         """The status and the whole text of a command over this input, a text or a file that the program reads.
 
-        Statuses but 0 and 2 raise their error.
+        Statuses but 0 and 2 raise their error. It writes into a file, so that nobody is woken for a part of it.
         """
-        with contextlib.ExitStack() as stack:
-            if isinstance(source, bytes):
-                file = stack.enter_context(scratch())
+        if isinstance(source, bytes):
+            with scratch() as file:
                 file.write(source)
                 file.seek(0)
-            else:
-                file = source
-            run = stack.enter_context(self._started(folder, words, held, file))
-            text = b"".join(run.pieces(timeout))
-            status = run.status(timeout)
-            if status not in (0, 2):
-                raise run.fault(folder, status)
-            return status, text.decode(errors="replace")
+                return self.output(folder, words, file, timeout, held)
+        with scratch() as sink:
+            with self._started(folder, words, held, source, sink) as run:
+                status = run.status(timeout)
+                if status not in (0, 2):
+                    raise run.fault(folder, status)
+            sink.seek(0)
+            return status, sink.read()
 
-    def lines(self, folder: str, words: Sequence[str], held: int | None = None) -> Iterator[bytes]:
-        """The lines that a command writes, as they come; a status but 0 raises its error, at the end."""
+    def lines(self, folder: str, words: Sequence[str], held: Held | None = None) -> Iterator[bytes]:
+        """The lines that a command writes, as they come; a status but 0 and 2 raises its error, at the end."""
         with scratch() as source, self._started(folder, words, held, source) as run:
             assert run.process.stdout
             with io.BufferedReader(run.process.stdout, _READ) as lines:  # type: ignore[arg-type]
                 yield from lines
-            if (status := run.status(None)) != 0:
+            if (status := run.status(None)) not in (0, 2):
                 raise run.fault(folder, status)
 
     @contextlib.contextmanager
-    def _started(self, folder: str, words: Sequence[str], held: int | None, source: IO[bytes]) -> Iterator[_Run]:
-        """A command that runs once over a file, under the folder's lock; it is ended where this is left."""
+    def _started(self, folder: str, words: Sequence[str], held: Held | None, source: IO[bytes],
+                 sink: IO[bytes] | int = subprocess.PIPE) -> Iterator[_Run]:
+        """A command that runs once over a file; it is ended where this is left. `held` is the folder, where the
+        program isn't to hold it by itself."""
         self.require(words[0])
-        with self._locked(folder, words, held) as (more, kept), scratch() as said:
+        with scratch() as said:
             with self._told():
-                process = started([*self.words, folder, *words, *more], kept, stdin=source, stdout=subprocess.PIPE,
-                                  stderr=said)
+                process = started([*self.words, folder, *words], held, stdin=source, stdout=sink, stderr=said)
             with process:
                 try:
                     yield _Run(process, said)
                 finally:
                     process.kill()
-
-    @contextlib.contextmanager
-    def _locked(self, folder: str, words: Sequence[str], held: int | None) -> Iterator[tuple[list[str], int | None]]:
-        """The further words, and the descriptor, by which a command works under the folder's lock."""
-        if held is not None or self.locks:
-            yield self.held_words(held), held
-            return
-        shared = words[0] in _READERS and "--merge" not in words
-        with lock.locked(folder, shared) as taken:
-            yield [], taken
-
-    def held_words(self, held: int | None) -> list[str]:
-        """The words by which a program works in a folder whose lock its caller has."""
-        return ["--no-lock"] if held is not None and self.locks else []
 
 
 class _Run:
@@ -195,10 +164,14 @@ class _Run:
 
     def status(self, timeout: float | None) -> int:
         """The status, when it has ended."""
-        try:
-            return self.process.wait(timeout)
-        except subprocess.TimeoutExpired:
-            raise Hung(f"the program didn't end within {timeout} seconds") from None
+        if timeout is not None:
+            ended = os.pidfd_open(self.process.pid)
+            try:
+                if not polled(ended).poll(timeout * 1000):
+                    raise Hung(f"the program didn't end within {timeout} seconds")
+            finally:
+                os.close(ended)
+        return self.process.wait()
 
     def fault(self, folder: str, status: int, done: int | None = None, last: str | None = None) -> Error:
         """The error of a status over a folder, with what was said."""

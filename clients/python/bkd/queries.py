@@ -32,11 +32,9 @@ class Queries:
     _scale: Scale | None = None
     _arrays = False
 
-    def _ask_one(self, request: Request) -> Any:
-        raise NotImplementedError
-
     def _query(self, request: Request) -> Any:
-        return self._ask_one(as_array(request) if self._arrays else request)
+        """The answer to one request, as an array where that is wanted; what is refused is raised."""
+        raise NotImplementedError
 
     def box(self, lo: Point, hi: Point) -> Numbers:
         """The numbers, ascending, of the documents that have a point `p` with `lo[i] <= p[i] <=
@@ -86,14 +84,14 @@ class Snapshot(Queries):
         self._scale, self._arrays = index._scale, index._arrays
         self._session = index._session_number
 
-    def _ask_one(self, request: Request) -> Any:
+    def _query(self, request: Request) -> Any:
         if self._session != self._index._session_number:
             raise Closed("the snapshot ended with a rollback")
-        return self._index._ask_one(request)
+        return self._index._query(request)
 
     def release(self) -> None:
         """Lets the snapshot go; its name may be taken again."""
-        self._ask_one(requests.release(self.name))
+        self._query(requests.release(self.name))
 
     def __enter__(self) -> Snapshot:
         return self

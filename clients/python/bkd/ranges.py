@@ -16,6 +16,7 @@ from .errors import Refused
 from .index import Index
 from .kept import Kept
 from .opening import Opening
+from .options import WAIT
 from .queries import Numbers, Snapshot
 from .requests import Point, Request, coordinates
 from .scale import GREATEST, LEAST
@@ -124,7 +125,7 @@ class Ranges(RangeQueries):
         return self._index._query(request)
 
     def close(self) -> None:
-        """Commits what isn't committed, ends the program and gives the folder's lock back."""
+        """Commits what isn't committed and ends the program."""
         self._index.close()
 
     def abandon(self) -> None:
@@ -189,6 +190,11 @@ class Ranges(RangeQueries):
         """What is stored, in numbers; `dims` are those of the points that hold the ranges."""
         return self._index.info()
 
+    def to_arrays(self) -> tuple[Any, Any]:
+        """All live documents as two arrays, a row for each range: numbers, and ends, the lower ones first; see
+        `Index.to_arrays`."""
+        return self._index.to_arrays()
+
     def export(self) -> Iterator[tuple[int, tuple[Range, ...]]]:
         """All live documents as (number, ranges), by ascending number; see `Index.export`."""
         half = self.dims
@@ -199,7 +205,7 @@ class Ranges(RangeQueries):
 
 
 def open_ranges(folder: Folder, dims: int | None = None, leaf: int | None = None, cache: int = 1024, forks: int = 1, *,
-                create: bool = False, read: bool = False, wait: float = 0.0, autocommit: bool = False,
+                create: bool = False, read: bool = False, wait: float = WAIT, autocommit: bool = False,
                 program: Which = None, timeout: float | None = 600.0, arrays: bool = False) -> Ranges:
     """Opens an index of ranges of `dims` dimensions, 1 to 4, 1 for a new one where it is left out.
 

@@ -87,7 +87,7 @@ def delete_box(lo: Point, hi: Point) -> Request:
 def box(lo: Point, hi: Point, of: str | None = None) -> Request:
     """Asks for the documents that have a point from `lo` to `hi`, both among them; answered by their numbers,
     ascending."""
-    return Request(f"box{_viewed(of)}" + _words(coordinates(lo) + coordinates(hi)), HITS)
+    return Request(("box" if of is None else "box" + _viewed(of)) + _words(coordinates(lo) + coordinates(hi)), HITS)
 
 
 def polygon(shape: Any, of: str | None = None) -> Request:

@@ -24,6 +24,11 @@ _DOUBT = 1e-6
 _LARGE = 1e10
 
 
+def held(c: float) -> int:
+    """The whole number of 32 bits next to a number."""
+    return min(max(round(c), LEAST), GREATEST)
+
+
 @dataclass(frozen=True)
 class Scale:
     """So many decimals, 0 to 9: a value v is held as the whole number v * 10^decimals."""

@@ -7,23 +7,8 @@ MARKER = b"?\n"
 _ANSWER = 256
 
 
-class Sending:
-    """What is sent: a piece, how much of it is written, and the number of its last line."""
-
-    __slots__ = ("last", "text", "written")
-
-    def __init__(self, text: bytes, last: int) -> None:
-        self.text = text
-        self.last = last
-        self.written: list[int] = []
-
-    def rest(self) -> bytes | memoryview:
-        done = sum(self.written)
-        return memoryview(self.text)[done:] if done < len(self.text) else b""
-
-
 class Silence:
-    """A talk without lines."""
+    """A talk without lines, and what other talks do where nothing is to be done."""
 
     __slots__ = ("inbox",)
 
@@ -31,7 +16,7 @@ class Silence:
         self.inbox: list[bytes] = []
 
     def begin(self, first: int) -> None:
-        pass
+        """The number of its first line is of no use."""
 
     def piece(self) -> tuple[bytes, int]:
         return b"", 0
@@ -43,7 +28,24 @@ class Silence:
         return None
 
     def cut(self, last: int) -> None:
-        pass
+        """Nobody looks at what was interrupted."""
+
+
+class Sending(Silence):
+    """What is sent: a piece, how much of it is written, and the number of its last line. Of a single line it is the
+    talk too, until more than one read is needed."""
+
+    __slots__ = ("last", "text", "written")
+
+    def __init__(self, text: bytes, last: int) -> None:
+        self.text = text
+        self.last = last
+        self.written: list[int] = []
+        self.inbox = []
+
+    def rest(self) -> bytes | memoryview:
+        done = sum(self.written)
+        return memoryview(self.text)[done:] if done < len(self.text) else b""
 
 
 def ends_with(inbox: list[bytes], begin: bytes) -> bool:

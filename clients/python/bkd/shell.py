@@ -17,6 +17,7 @@ from . import kept
 from .errors import Error, NoIndex
 from .kept import Kept
 from .opening import Opening
+from .options import WAIT
 from .requests import COMMIT
 from .transport import Session
 from .typed import Enough, Pager, Typed, key
@@ -215,7 +216,7 @@ def main(words: list[str] | None = None) -> int:
     parser.add_argument("folder")
     parser.add_argument("--create", type=int, metavar="D", help="make an index of D dimensions where there is none")
     parser.add_argument("--read", action="store_true", help="only ask, beside others who only read")
-    parser.add_argument("--wait", type=float, default=0.0, metavar="SECONDS", help="wait for another run's end")
+    parser.add_argument("--wait", type=float, default=WAIT, metavar="SECONDS", help="wait for other runs (5)")
     parser.add_argument("--program", help="the program, where it is not the usual one")
     said = parser.parse_args(words)
     try:
@@ -234,6 +235,6 @@ def main(words: list[str] | None = None) -> int:
 def _work(session: Session, opened: Opening, folder: str, read: bool) -> int:
     shell = Shell(session, os.path.basename(os.path.abspath(folder)), read, sys.stdout)
     scale = "" if opened.kept.decimals is None else f", whole numbers of 10^-{opened.kept.decimals}"
-    shell.tell(f"{opened.path}: {opened.dims} dimensions{scale}, {session.live:,} documents; help lists the commands")
+    shell.tell(f"{folder}: {opened.dims} dimensions{scale}, {session.live:,} documents; help lists the commands")
     shell.run(_prepared())
     return 0

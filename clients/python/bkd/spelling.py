@@ -7,7 +7,7 @@ from itertools import chain, islice
 from typing import Any, SupportsIndex
 
 from . import requests
-from .scale import Scale
+from .scale import GREATEST, LEAST, Scale
 
 _LINES = 8192
 
@@ -57,9 +57,13 @@ def added(documents: Any, dims: int, scale: Scale | None = None) -> Iterator[tup
 def _added_rows(array: Any, dims: int) -> Iterator[tuple[bytes, int]]:
     if array.shape != (len(array), dims) and not (dims == 1 and array.ndim == 1):
         raise ValueError(f"an array of shape {array.shape} has no points of {dims} dimensions")
+    from . import digits
     for at in range(0, len(array), _LINES):
-        part = array[at:at + _LINES]
-        yield _spelled("add" + " %d" * dims + "\n", len(part), part.ravel().tolist()), len(part)
+        part = array[at:at + _LINES].reshape(-1, dims)
+        if part.min() < LEAST or part.max() > GREATEST:  # the program refuses it
+            yield _spelled("add" + " %d" * dims + "\n", len(part), part.ravel().tolist()), len(part)
+        else:
+            yield digits.lines(b"add", part), len(part)
 
 
 def _added_points(documents: Sequence[Any], dims: int) -> bytes | None:

@@ -1,4 +1,4 @@
-"""What is asked of an open index by commands that look at what is stored, under the index's own lock."""
+"""What is asked of an open index by commands that look at what is stored, in the folder that its program holds."""
 from __future__ import annotations
 
 from collections.abc import Iterable, Iterator
@@ -7,8 +7,8 @@ from typing import Any
 from . import commands
 from .answers import Explained
 from .commands import Checked, Info
-from .errors import Refused, Uncommitted
-from .exporting import Document, export
+from .errors import Refused, Uncommitted, unrefused
+from .exporting import Document, export, to_arrays
 from .program import Program
 from .requests import Point, Request
 from .scale import Scale
@@ -31,19 +31,31 @@ class Stored:
 
         Raises `Uncommitted` where something isn't committed.
         """
-        return export(self._folder, **self._stored())
+        with self._session.still() as held:
+            self._need_stored()
+            return export(self._folder, program=self._program, held=held)
+
+    def to_arrays(self) -> tuple[Any, Any]:
+        """The same as two arrays, a row for each point: numbers, uint32, and points, int32 of shape (n, dims); wants
+        numpy."""
+        with self._session.still() as held:
+            self._need_stored()
+            return to_arrays(self._folder, program=self._program, held=held)
 
     def info(self) -> Info:
         """What is stored, in numbers; see `bkd.info`."""
-        return commands.info(self._folder, **self._beside())
+        with self._session.still() as held:
+            return commands.info(self._folder, program=self._program, held=held)
 
     def explain(self, queries: Iterable[Request]) -> list[Explained | Refused]:
         """What queries of `bkd.requests` read in the segments that are stored; see `bkd.explain`."""
-        return commands.explain(self._folder, queries, **self._beside())
+        with self._session.still() as held:
+            return commands.explain(self._folder, queries, program=self._program, held=held)
 
     def check(self) -> Checked | None:
         """Reads all that is stored: `Damaged` where it isn't whole."""
-        return commands.check(self._folder, **self._beside())
+        with self._session.still() as held:
+            return commands.check(self._folder, program=self._program, held=held)
 
     def count(self, lo: Point, hi: Point) -> int:
         """How many live points lie in the box; a document of several points counts for each.
@@ -62,22 +74,17 @@ class Stored:
         return self._counted(commands.grid_over(x, step_x, y, step_y, lo, hi))
 
     def _counted(self, request: Request) -> Any:
-        value = commands.count(self._folder, [request], **self._stored())[0]
-        if isinstance(value, Refused):
-            raise value
-        return value
+        with self._session.still() as held:
+            self._need_stored()
+            return unrefused(commands.count(self._folder, [request], program=self._program, held=held))[0]
 
     def batch(self, queries: Iterable[Request], forks: int = 1) -> list[Any]:
         """The answers to queries over what is stored, by several threads; see `bkd.batch`."""
-        return commands.batch(self._folder, queries, forks, **self._stored())
+        with self._session.still() as held:
+            self._need_stored()
+            return commands.batch(self._folder, queries, forks, program=self._program, held=held)
 
-    def _beside(self) -> dict[str, Any]:
-        """How a further program is started on this folder."""
-        return {"program": self._program, "held": self._session.held}
-
-    def _stored(self) -> dict[str, Any]:
-        """The same, for what looks at documents: those that are stored must be those that are here."""
-        self._session.need_open()
+    def _need_stored(self) -> None:
+        """For what looks at documents: those that are stored must be those that are here."""
         if self._session.is_dirty:
             raise Uncommitted("this asks what is stored, and something isn't committed: commit first")
-        return self._beside()

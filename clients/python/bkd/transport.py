@@ -1,19 +1,22 @@
-"""One `session` that stays: its program, its folder's lock, and what it knows of what was done."""
+"""One `session` that stays: its program, and what it knows of what was done."""
 from __future__ import annotations
 
+import contextlib
+import math
 import threading
-from collections.abc import Callable, Iterable, Sequence
+from collections.abc import Callable, Iterable, Iterator, Sequence
 from typing import Any
 
-from . import lock
+from . import commands, lock, options
 from .answers import DELETED, DOC, HITS, OK, Answer
 from .coprocess import Coprocess
-from .errors import Closed, Error, NoIndex, Refused
-from .formats.commit import read_commit
+from .errors import Closed, Error, Locked, Refused
+from .lock import Held
+from .many import Many
 from .program import Program
 from .requests import COMMIT, REOPEN, Request, box
 from .scale import GREATEST, LEAST
-from .talk import Asking, Many, Talk
+from .talk import Asking, Talk
 
 _WRITING = ("create", "flush", "merge")
 
@@ -52,40 +55,40 @@ def _more(live: int | None, change: int) -> int | None:
 class Session:
     """A program that answers line by line and stays. After a fault it is closed.
 
-    The folder's lock is held from the begin to the end; who only reads shares it. `wait` is for how many seconds a
-    folder is waited for that another run holds. `is_dirty` tells whether something may have been done that isn't
-    committed, `live` how many documents are live.
+    The program holds the folder: shared with others, and alone from its first change on. `wait` is for how many seconds
+    it waits where others don't let it. `is_dirty` tells whether something may have been done that isn't committed,
+    `live` how many documents are live.
     """
 
-    def __init__(self, program: Program, folder: str, options: Sequence[str], timeout: float | None,
+    def __init__(self, program: Program, folder: str, words: Sequence[str], timeout: float | None,
                  wait: float = 0.0, read: bool = False) -> None:
         program.require("session")
         self._program = program
         self._folder = folder
-        self._words = ["session", *options]
-        self._timeout = timeout
+        self._words = ["session", *words, *options.waiting(wait)]
+        self._timeout = None if timeout is None else timeout + math.ceil(wait)
         self._read = read
         self._turn = threading.RLock()
         self._live: int | None = None
         self.is_dirty = False
-        self._hold = lock.Hold(folder, read, wait)
-        try:
-            self._run = self._start()
-        except BaseException:
-            self._hold.release()
-            raise
+        self._note = lock.Opened(folder, read)
+        self._run = self._start()
 
     def _start(self) -> Coprocess:
         """Starts the program, and waits until it has opened the folder."""
-        held = self._hold.descriptor
-        words = self._words + self._program.held_words(held)
-        run = self._program.start(self._folder, words, self._timeout, held, guarded=not self._read)
         try:
-            run.hello()
-        except BaseException:
-            run.kill()
+            run = self._program.start(self._folder, self._words, self._timeout, guarded=not self._read)
+            try:
+                run.hello()
+            except BaseException:
+                run.kill()
+                raise
+            return run
+        except BaseException as error:
+            self._note.release()
+            if isinstance(error, Locked):
+                raise lock.told(self._folder) from None
             raise
-        return run
 
     @property
     def is_open(self) -> bool:
@@ -97,25 +100,20 @@ class Session:
         """The program's process id."""
         return self._run.pid
 
-    @property
-    def held(self) -> int:
-        """The lock's descriptor, under which a further program works on the folder."""
-        self.need_open()
-        return self._hold.descriptor
+    @contextlib.contextmanager
+    def still(self) -> Iterator[Held]:
+        """The folder, for a further program that asks what is stored; no other thread changes it meanwhile."""
+        with self._turn:
+            self.need_open()
+            yield Held()
 
     @property
     def live(self) -> int:
         """How many documents are live. It is counted along; after an interrupted call it is asked for."""
-        self.need_open()
-        with self._turn:
+        with self.still() as held:
             if self._live is None:
-                commit = read_commit(self._folder)
-                if commit is None:
-                    raise NoIndex(f"{self._folder} holds no index")
-                if self.is_dirty:
-                    self._live = self.query(_all_hits(commit.dims))
-                else:
-                    self._live = sum(one.live for one in commit.listed)
+                stored = commands.info(self._folder, program=self._program, held=held)
+                self._live = self.query(_all_hits(stored.dims)) if self.is_dirty else stored.live
             return self._live
 
     def need_open(self) -> None:
@@ -130,8 +128,7 @@ class Session:
         try:
             return self._run.single(request)
         except Error:
-            if not self._run.is_open:
-                self._hold.release()
+            self._look()
             raise
 
     def change(self, request: Request) -> Any:
@@ -186,13 +183,17 @@ class Session:
         try:
             self._run.exchange(talk)
         finally:
-            if not self._run.is_open:
-                self._hold.release()
+            self._look()
+
+    def _look(self) -> None:
+        """Where the program is over, this process has the folder no more."""
+        if not self._run.is_open:
+            self._note.release()
 
     # ---- ends
 
     def close(self) -> None:
-        """Ends the program, which commits where it may write, and gives the lock back. A second call does nothing."""
+        """Ends the program, which commits where it may write. A second call does nothing."""
         if not self.is_open:
             return
         if self._read:
@@ -201,22 +202,18 @@ class Session:
         try:
             self._run.close()
         finally:
-            if not self._run.is_open:
-                self._hold.release()
+            self._look()
 
     def abandon(self) -> None:
-        """Ends the program at once, without a commit, and gives the lock back."""
+        """Ends the program at once, without a commit."""
         self._run.kill()
-        self._hold.release()
+        self._note.release()
 
     def restart(self) -> None:
-        """Ends the program at once, without a commit, and starts it anew over what is stored."""
+        """Ends the program at once, without a commit, and starts it anew over what is stored; others may have the
+        folder in between."""
         self.need_open()
         with self._turn:
             self._run.kill()
-            try:
-                self._run = self._start()
-            except BaseException:
-                self._hold.release()
-                raise
+            self._run = self._start()
             self._live, self.is_dirty = None, False

@@ -8,6 +8,7 @@ import sys
 from collections.abc import Callable
 from typing import IO
 
+from .sending import Silence
 from .talk import sent
 
 _ROWS = re.compile(rb"(hits|near|points|ranges|buckets) ([0-9]+)")
@@ -15,18 +16,15 @@ _ROWS = re.compile(rb"(hits|near|points|ranges|buckets) ([0-9]+)")
 _WIDEST = 1 << 16
 
 
-class Typed:
+class Typed(Silence):
     """A talk of one line as it was typed, whose answer is shown line by line as it comes."""
 
     def __init__(self, text: str, show: Callable[[bytes], None]) -> None:
-        self.inbox: list[bytes] = []
+        super().__init__()
         self.head = b""
         self._text = sent(text)
         self._show = show
         self._left: int | None = None
-
-    def begin(self, first: int) -> None:
-        """Its number is of no use here: a refusal says it."""
 
     def piece(self) -> tuple[bytes, int]:
         text, self._text = self._text, b""
@@ -44,12 +42,6 @@ class Typed:
                 self._left -= 1
             self._show(line)
         return int(self._left == 0)
-
-    def line(self, place: int) -> str | None:
-        return None
-
-    def cut(self, last: int) -> None:
-        """What still comes is of no use."""
 
 
 class Enough(BaseException):

@@ -4,10 +4,9 @@ have.
 
 It keeps its documents in `model.json`, and writes a commit file that lists no segments, so that a client finds the
 dimensions; with STAND_IN_FILES there are segments too, which hold the documents. The environment tells how it differs:
-STAND_IN_COMMANDS is the list of its commands, STAND_IN_LOCKS says that it takes the folder's lock by itself, unless
-`--no-lock` tells it that its caller has it, and STAND_IN_AT, as `LINE:WHAT`, tells what it does in place of that line:
-`die` (by SIGKILL), `hang`, `damaged`, `noted` (a folder fault and why), `garbage`, or a status. STAND_IN_LAST is what a
-script says when all is done.
+STAND_IN_COMMANDS is the list of its commands, and STAND_IN_AT, as `LINE:WHAT`, tells what it does in place of that
+line: `die` (by SIGKILL), `hang`, `damaged`, `noted` (a folder fault and why), `garbage`, or a status. STAND_IN_LAST is
+what a script says when all is done. It holds its folder as the program does.
 """
 from __future__ import annotations
 
@@ -24,12 +23,23 @@ from writer import write_index
 STATUS = {3: "source fault", 4: "folder fault", 5: "sink fault", 7: "out of memory", 8: "input too large"}
 
 
-def load(folder: str) -> State | None:
+# what is stored, as it was read or written last
+stored: list[str] = []
+
+
+def read(folder: str) -> list[str]:
     try:
         with open(os.path.join(folder, "model.json")) as file:
-            found = json.load(file)
+            return [file.read()]
     except FileNotFoundError:
+        return []
+
+
+def load(folder: str) -> State | None:
+    stored[:] = read(folder)
+    if not stored:
         return None
+    found = json.loads(stored[0])
     docs = {int(n): [tuple(p) for p in points] for n, points in found.pop("docs").items()}
     return State(docs=docs, **found)
 
@@ -38,10 +48,17 @@ def store(folder: str, state: State | None) -> None:
     if state is None:
         return
     kept = {"dims": state.dims, "leaf": state.leaf, "next": state.next, "given": state.given, "docs": state.docs}
+    text = json.dumps(kept)
+    if stored == [text]:
+        return
+    hold(folder, fcntl.LOCK_EX)
+    if read(folder) != stored:
+        end(4, "bkd: another run has committed meanwhile: run this again\nfolder fault")
     aside = os.path.join(folder, "model.aside")
     with open(aside, "w") as file:
-        json.dump(kept, file)
+        file.write(text)
     os.rename(aside, os.path.join(folder, "model.json"))
+    stored[:] = [text]
     write_files(folder, state)
 
 
@@ -168,14 +185,24 @@ def ranges(folder: str) -> None:
     end(2 if model.count else 0, f"refused {model.count}" if model.count else "")
 
 
-def lock(folder: str, options: list[str]) -> None:
-    """Holds the folder until the program ends."""
-    if "--no-lock" in options:
+held: list[int] = []
+
+
+def hold(folder: str, how: int) -> None:
+    """Holds the folder until the program ends, and waits for others for so long as is said."""
+    if "--no-lock" in sys.argv:
         return
-    try:
-        fcntl.flock(os.open(folder, os.O_RDONLY), fcntl.LOCK_EX | fcntl.LOCK_NB)
-    except BlockingIOError:
-        end(4, "bkd: another run works in the folder\nfolder fault")
+    if not held:
+        held.append(os.open(folder, os.O_RDONLY))
+    until = time.monotonic() + (int(sys.argv[sys.argv.index("--wait") + 1]) if "--wait" in sys.argv else 0)
+    while True:
+        try:
+            fcntl.flock(held[0], how | fcntl.LOCK_NB)
+            return
+        except BlockingIOError:
+            if time.monotonic() >= until:
+                end(4, "bkd: another run works in the folder\nfolder fault")
+            time.sleep(0.02)
 
 
 def export(folder: str) -> None:
@@ -183,7 +210,12 @@ def export(folder: str) -> None:
     if state is None:
         print("no index", flush=True)
         end(2, "refused 1")
-    print("doc," + ",".join(f"c{d + 1}" for d in range(state.dims)))
+    half, is_ranges = state.dims // 2, "--as-ranges" in sys.argv
+    if is_ranges and state.dims % 2:
+        print("not ranges", flush=True)
+        end(2, "refused 1")
+    names = [f"{'lh'[d // half]}{d % half + 1}" if is_ranges else f"c{d + 1}" for d in range(state.dims)]
+    print("doc", *names, sep=",")
     for number, points in state.docs.items():
         for point in sorted(points):
             print(number, *point, sep=",")
@@ -210,10 +242,7 @@ def main() -> None:
     folder = sys.argv[1]
     if not os.path.isdir(folder):
         end(4, "folder fault")
-    if os.environ.get("STAND_IN_LOCKS"):
-        lock(folder, sys.argv[3:])
-    elif {"--wait", "--no-lock"} & set(sys.argv):
-        end(1, f"usage: bkd FOLDER {'|'.join(commands)} [options]")
+    hold(folder, fcntl.LOCK_SH)
     does[sys.argv[2]](folder)
 
 

@@ -4,7 +4,7 @@ import random
 import pytest
 
 import bkd
-from bkd import commands, requests
+from bkd import commands, lock, requests
 from bkd.formats import open_stored
 from conftest import STAND_IN, need
 
@@ -96,7 +96,7 @@ def test_check(has, tmp_path):
     assert bkd.check(tmp_path / "empty", program=program) is None
     with bkd.open(tmp_path / "a", leaf=9, create=True, program=program) as index:
         live = drawn(index, 1)
-        assert index.check() == bkd.check(tmp_path / "a", program=program, held=index._session.held)
+        assert index.check() == bkd.check(tmp_path / "a", program=program, held=lock.Held())
     found = bkd.check(tmp_path / "a", program=program)
     assert (found.dims, found.leaf, found.next, found.live) == (2, 9, 400, len(live))
     if program.words != STAND_IN:
@@ -175,8 +175,7 @@ def test_a_command_that_hangs(tmp_path):
     """A program that lists check and never ends."""
     path = tmp_path / "stuck"
     path.write_text("#!/bin/sh\n"
-                    "[ $# -eq 0 ] || [ \"$3\" = --wait ] && echo 'usage: bkd FOLDER load|check|generate' >&2 &&\n"
-                    "exit 1\n"
+                    "[ $# -eq 0 ] && echo 'usage: bkd FOLDER load|check|generate' >&2 && exit 1\n"
                     "exec sleep 3600\n")
     path.chmod(0o755)
     how = {"program": path, "timeout": 0.5}

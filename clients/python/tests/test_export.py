@@ -1,13 +1,14 @@
 """What is exported, cleaned and drawn is what the program says is there."""
 import io
 import os
+import subprocess
 
 import pytest
 
 import bkd
 from bkd import exporting, requests
 from bkd.formats import open_stored
-from conftest import REAL
+from conftest import REAL, need
 
 
 def made(folder, program, leaf=3):
@@ -18,6 +19,15 @@ def made(folder, program, leaf=3):
         index.ask([requests.delete(i) for i in range(0, 80, 9)])
         index.add((99, 99))
     return folder
+
+
+def damaged(folder):
+    """Changes a byte of a leaf, and answers its file."""
+    segment = next(name for name in sorted(os.listdir(folder)) if name.startswith("seg-"))
+    data = bytearray((folder / segment).read_bytes())
+    data[-5000] ^= 1
+    (folder / segment).write_bytes(data)
+    return segment
 
 
 def test_export(filed, tmp_path):
@@ -65,7 +75,9 @@ def test_info(has, real, tmp_path):
         index.add_many([(1, 1), [(2, 2), (3, 3)], (4, 4)])
         index.commit()
         told = index.info()
-        assert (told.dims, told.leaf, told.next, told.points, told.live) == (2, 333, 3, 4, 3)
+        assert (told.dims, told.leaf, told.next, told.points, told.live) == (2, 333, 3, 4, 3) and len(index) == 3
+    with bkd.open(tmp_path / "a", read=True, program=program) as index:
+        assert len(index) == 3
     (tmp_path / "b").mkdir()
     with pytest.raises(bkd.NoIndex):
         bkd.info(tmp_path / "b", program=program)
@@ -87,13 +99,62 @@ def test_csv(real, filed, tmp_path):
     text = io.StringIO()
     lines = bkd.export_csv(folder, text)
     rows = text.getvalue().splitlines()
-    assert rows[0] == "document,c0,c1" and len(rows) == lines + 1 and rows[-1] == "80,99,99"
-    assert bkd.load(tmp_path / "b", ["c0", "c1"], text.getvalue(), program=real) == (lines, lines)
+    assert rows[0] == "doc,c1,c2" and len(rows) == lines + 1 and rows[-1] == "80,99,99"
+    assert bkd.load(tmp_path / "b", ["c1", "c2"], text.getvalue(), program=real) == (lines, lines)
     named = io.StringIO()
     bkd.export_csv(folder, named, ["x", "y"])
-    assert named.getvalue().startswith("document,x,y\n")
+    assert named.getvalue() == text.getvalue().replace("c1,c2", "x,y")
     with pytest.raises(ValueError):
         bkd.export_csv(folder, named, ["x"])
+
+
+def test_csv_of_ranges(has, tmp_path):
+    """The lower ends, then the upper ones; as the program's own option has them."""
+    program, text = has("export"), io.StringIO()
+    with bkd.open_ranges(tmp_path / "a", 2, create=True, program=program) as index:
+        index.add(((1, 2), (3, 4)), ((0, 0), (9, 9)))
+        index.add(((-5, 5), (5, 5)))
+        index.commit()
+        assert list(index.export()) == [(0, (((0, 0), (9, 9)), ((1, 2), (3, 4)))), (1, (((-5, 5), (5, 5)),))]
+    assert bkd.export_csv(tmp_path / "a", text, as_ranges=True, program=program) == 3
+    assert text.getvalue() == "doc,l1,l2,h1,h2\n0,0,0,9,9\n0,1,2,3,4\n1,-5,5,5,5\n"
+    words = [*program.words, tmp_path / "a", "export", "--as-ranges"]
+    assert subprocess.run(words, stdin=subprocess.DEVNULL, capture_output=True, text=True).stdout == text.getvalue()
+    bkd.open(tmp_path / "b", 3, create=True, program=program).close()
+    with pytest.raises(bkd.Refused, match="not ranges"):
+        bkd.export_csv(tmp_path / "b", text, as_ranges=True, program=program)
+
+
+def test_arrays_of_all(has, tmp_path, monkeypatch):
+    """By the program's command, and from the files; of an index without documents too."""
+    numpy = pytest.importorskip("numpy")
+    monkeypatch.setattr(exporting, "_LINES", 1000)
+    program = has("export")
+    with bkd.open(tmp_path, leaf=3, create=True, program=program) as index:
+        numbers, points = index.to_arrays()
+        assert numbers.shape == (0,) and points.shape == (0, 2)
+        index.add_many([(i % 7, -i), (i, i)] for i in range(3000))
+        index.delete_many(range(0, 3000, 9))
+        with pytest.raises(bkd.Uncommitted):
+            index.to_arrays()
+        index.commit()
+        numbers, points = index.to_arrays()
+        assert (numbers.dtype, points.dtype) == (numpy.uint32, numpy.int32)
+        wanted = [(number, *point) for number, document in index for point in document]
+        assert numpy.column_stack([numbers, points]).tolist() == [list(row) for row in wanted]
+    again = bkd.to_arrays(tmp_path, program=program)
+    assert (again[0] == numbers).all() and (again[1] == points).all()
+
+
+def test_an_export_of_a_damaged_folder(real, tmp_path):
+    """Nothing of it is answered."""
+    need(real, "export")
+    folder = made(tmp_path / "a", real)
+    segment = damaged(folder)
+    for use in (bkd.export, bkd.to_arrays, lambda at, program: bkd.export_csv(at, io.StringIO(), program=program)):
+        with pytest.raises(bkd.Damaged) as told:
+            use(folder, program=real)
+        assert told.value.file == segment
 
 
 def test_no_index(tmp_path, stand_in):
@@ -117,10 +178,7 @@ def test_clean(filed, tmp_path):
 def test_nothing_is_cleaned_in_a_damaged_folder(filed, tmp_path):
     folder = made(tmp_path / "a", filed)
     (folder / "commit.new").write_bytes(b"x")
-    segment = next(name for name in sorted(os.listdir(folder)) if name.startswith("seg-"))
-    data = bytearray((folder / segment).read_bytes())
-    data[-5000] ^= 1
-    (folder / segment).write_bytes(data)
+    segment = damaged(folder)
     with pytest.raises(bkd.Damaged) as told:
         bkd.clean(folder, program=filed)
     assert told.value.file == segment and (folder / "commit.new").exists()

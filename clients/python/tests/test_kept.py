@@ -121,8 +121,8 @@ def test_an_interrupt_that_leaves_the_with(program, tmp_path):
 def test_interrupts_at_any_moment(program, tmp_path):
     caller = Caller("many_interrupts", tmp_path / "a", program)
     last = caller.ended()[-1].split()
-    assert last[:3] == ["done", "100", "True"]
-    assert len(numbers(tmp_path / "a", program)) == int(last[3]) + 1
+    assert last[:2] == ["done", "100"] and int(last[2]) >= 9 * 5 + 25 * 5
+    assert len(numbers(tmp_path / "a", program)) == int(last[2]) + 1
 
 
 @pytest.mark.parametrize("task, kept", [("forked", ["2"]), ("forked_in_a_call", ["200000"])])

@@ -1,15 +1,12 @@
-"""Opening: what makes an index, what is refused, who else may work on the folder."""
+"""Opening: what makes an index, what is refused, what is kept beside the files."""
 import os
 import subprocess
-import sys
-import threading
 
 import pytest
 
 import bkd
 from bkd import kept, requests
-from conftest import BUILT, STAND_IN, TOP
-from test_kept import EVERY, Caller
+from conftest import BUILT, TOP
 
 
 def listed(folder):
@@ -98,92 +95,6 @@ def test_what_can_not_be_made(program, tmp_path):
         bkd.open(tmp_path / "file", program=program)
 
 
-# ---- who else may work there
-
-def test_a_second_opening_of_its_own_is_told_as_such(program, tmp_path):
-    with bkd.open(tmp_path, create=True, program=program):
-        for read in (False, True):
-            with pytest.raises(bkd.Locked, match="this process has .* open already"):
-                bkd.open(tmp_path, read=read, program=program)
-        for use in (lambda: bkd.clean(tmp_path, program=program), lambda: bkd.load(tmp_path, ["a", "b"], "a,b\n",
-                                                                                  program=program)):
-            with pytest.raises((bkd.Locked, bkd.Unsupported)) as told:
-                use()
-            assert "this process has" in str(told.value) or told.type is bkd.Unsupported
-    with bkd.open(tmp_path, program=program, read=True), bkd.open(tmp_path, program=program, read=True) as second:
-        with pytest.raises(bkd.Locked, match="this process has"):
-            bkd.open(tmp_path, program=program)
-        assert len(second) == 0
-    bkd.open(tmp_path, program=program).close()
-
-
-def test_another_process_is_told_of(program, tmp_path):
-    """It waits for as long as is said."""
-    caller = Caller("killed_between", tmp_path / "a", program)
-    caller.line()
-    assert caller.line() == "ready"
-    for read in (False, True):
-        with pytest.raises(bkd.Locked, match="another process works on"):
-            bkd.open(tmp_path / "a", read=read, program=program)
-    opened = []
-    waiting = threading.Thread(target=lambda: opened.append(bkd.open(tmp_path / "a", wait=60, program=program)))
-    waiting.start()
-    caller.process.kill()
-    caller.process.communicate()
-    waiting.join()
-    with opened[0] as index:
-        assert index.box(*EVERY) == [0, 1]
-
-
-def test_readers_beside_each_other(program, tmp_path):
-    """Who only reads changes nothing, not even a file's time."""
-    with bkd.open(tmp_path, create=True, program=program) as index:
-        index.add_many([(1, 1), (2, 2)])
-    before = {path.name: path.stat().st_mtime_ns for path in tmp_path.iterdir()}
-    code = ("import sys; sys.path.insert(0, sys.argv[1]); import bkd\n"
-            "print(bkd.open(sys.argv[2], read=True, program=sys.argv[3:]).box((0, 0), (9, 9)))")
-    with bkd.open(tmp_path, read=True, program=program) as index:
-        package = os.path.dirname(os.path.dirname(bkd.__file__))
-        said = subprocess.run([sys.executable, "-c", code, package, tmp_path, *program.words], capture_output=True,
-                              text=True)
-        assert said.stdout == "[0, 1]\n"
-        with index.snapshot("a") as kept_then:
-            assert kept_then.box((0, 0), (9, 9)) == index.box((0, 0), (9, 9)) == [0, 1]
-        for use in (lambda: index.add((1, 1)), lambda: index.delete(0), index.commit, index.rollback, index.merge,
-                    index.begin, lambda: index.add_many([]), lambda: index.ask([requests.add((1, 1))]),
-                    lambda: index.ask([requests.box(*EVERY), requests.COMMIT])):
-            with pytest.raises(bkd.ReadOnly):
-                use()
-        assert index.ask([requests.box(*EVERY)]) == [[0, 1]] and len(index) == 2
-        index.reopen()
-        assert len(index) == 2
-    assert {path.name: path.stat().st_mtime_ns for path in tmp_path.iterdir()} == before
-
-
-def test_a_program_that_locks_by_itself(tmp_path, monkeypatch):
-    """It is told that its session's lock is held, and takes it itself where a command runs once."""
-    monkeypatch.setenv("STAND_IN_LOCKS", "1")
-    monkeypatch.setenv("STAND_IN_COMMANDS", "run|session|check")
-    program = bkd.find(STAND_IN)
-    assert program.locks
-    with bkd.open(tmp_path, create=True, program=program) as index:
-        index.add((1, 1))
-        index.commit()
-        assert index.check().live == 1
-        with pytest.raises(bkd.Locked, match="this process has"):
-            bkd.check(tmp_path, program=program)
-        beside = subprocess.run([*STAND_IN, tmp_path, "check"], capture_output=True, text=True)
-        assert (beside.returncode, beside.stderr.splitlines()[-1]) == (4, "folder fault")
-    assert bkd.check(tmp_path, program=program).live == 1
-    caller = Caller("killed_between", tmp_path / "a", program)
-    caller.line()
-    caller.line()
-    with pytest.raises(bkd.Locked, match="another process works on"):
-        bkd.check(tmp_path / "a", program=program)
-    caller.process.kill()
-    caller.process.communicate()
-
-
 def test_the_launcher_itself(tmp_path):
     """Where the checkout's launcher needn't build a program."""
     released = TOP / "release" / "sources.sha256"
@@ -230,7 +141,7 @@ def test_a_scale_is_kept(program, tmp_path):
             with pytest.raises((ValueError, TypeError)):
                 index.add(wrong)
         index.commit()
-        assert index.count((0, 0), (90, 90)) == 2
+        assert index.count((0, 0), (90, 90)) == 2 and index.info().decimals == 6
         assert list(index)[0] == (0, ((13404954, 52520008),))
     with bkd.open(tmp_path, program=program) as index:
         assert index.decimals == 6 and index.box((13.404954, 52.520008), (13.404954, 52.520008)) == [0]

@@ -76,9 +76,10 @@ def test_many_lines_of_a_program_that_dies(tmp_path, monkeypatch, stand_in):
 
 def test_a_program_that_hangs(tmp_path, monkeypatch, stand_in):
     monkeypatch.setenv("STAND_IN_AT", "5:hang")
-    index = bkd.open(tmp_path, create=True, program=stand_in, timeout=1)
+    index = bkd.open(tmp_path, create=True, program=stand_in)
     index.add((1, 1))
     pid = pid_of(index)
+    index._session._run.allow(0.3)
     with pytest.raises(bkd.Hung) as told:
         index.add((2, 2))
     assert told.value.last == "add 1 1" and told.value.done == 4
@@ -88,10 +89,11 @@ def test_a_program_that_hangs(tmp_path, monkeypatch, stand_in):
 
 def test_stopped(tmp_path, staying):
     """A program that takes and gives nothing is killed, and the last line that was done is told."""
-    index = bkd.open(tmp_path, create=True, program=staying, timeout=1)
+    index = bkd.open(tmp_path, create=True, program=staying)
     assert index.add((1, 1)) == 0
     pid = pid_of(index)
     os.kill(pid, signal.SIGSTOP)
+    index._session._run.allow(0.3)
     with pytest.raises(bkd.Hung) as told:
         index.add((2, 2))
     assert (told.value.done, told.value.last) == (4, "add 1 1") and not alive(pid)

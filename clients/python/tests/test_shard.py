@@ -56,7 +56,7 @@ class Folder:
 
     def keys(self):
         from bkd.shards import box
-        return self.do("ask", [box(LOW, HIGH)])[0].tolist()
+        return self.do("ask", [box(LOW, HIGH)]).keys.tolist()
 
 
 def killed_within(work, steps):
@@ -157,7 +157,7 @@ def test_what_is_not_as_it_was(program, tmp_path):
     folder.do("add", "one", documents_of([(1, 1), (2, 2), (3, 3)], 2), numpy.arange(3))
     shutil.copytree(folder.path, tmp_path / "older")
     shard = Shard(folder.path, program)
-    assert len(shard.ask(folder.known(), [shards.box(LOW, HIGH)])[0]) == 3
+    assert len(shard.ask(folder.known(), [shards.box(LOW, HIGH)]).keys) == 3
     shard.close_idle(0)
     other = Folder(folder.path, program)
     with pytest.raises(shards.Changed, match="another layout"):

@@ -14,7 +14,7 @@ dask = pytest.importorskip("dask")
 distributed = pytest.importorskip("distributed")
 
 import bkd
-from bkd import shards
+from bkd import lock, shards
 from clusters import HIGH, KILLS, LOW, box_of, client, cluster, doomed, folders, nearest_of, words  # noqa: F401
 from conftest import HERE
 
@@ -56,9 +56,8 @@ def test_a_folder_that_is_not_what_was_stored(client, words, tmp_path):
             file.write(whole)
         index.recover()
         assert index.box(*everywhere).tolist() == list(range(20))
-        time.sleep(3)  # until the idle session has ended
-        with bkd.open(where, program=words) as plain:
-            plain.delete(1)
+        with bkd.open(where, wait=60, program=words) as plain:
+            plain.delete(1)  # (which waits until the worker's session has ended)
         with pytest.raises(shards.Changed, match="shard 1"):
             index.box(*everywhere)
 
@@ -109,7 +108,8 @@ def test_a_full_disk_on_one(client, words, tmp_path):
             subprocess.run(["mount", "-o", "remount,size=64m", small], check=True)
             assert len(index.add_many(points[200:], token="more")) == 29_800
             assert index.box((LOW, LOW), (HIGH, HIGH)).tolist() == list(range(2, 30_000))
-            time.sleep(3)  # until the idle sessions have ended
+            with lock.locked(str(small / "index"), wait=60):
+                pass  # the worker's session has ended
     finally:
         subprocess.run(["umount", "-l", small], check=True)
 

@@ -4,7 +4,8 @@ from hypothesis import given, strategies as st
 
 from bkd import BadAnswer, Refused, requests
 from bkd.answers import DELETED, DOC
-from bkd.talk import Asking, Many, take
+from bkd.many import Many
+from bkd.talk import Asking, take
 
 ASKED = [
     (requests.add((1, 2)), b"doc 7\n", 7),

@@ -4,7 +4,6 @@ import os
 import random
 import socket
 import threading
-import time
 
 import pytest
 
@@ -28,6 +27,7 @@ def test_it_shows_what_the_files_hold(counting, tmp_path, shown):
     assert sum(segment["live"] for segment in about["segments"]) == about["live"] == len(dict(bkd.export(folder)))
     (left, bottom), (right, top) = about["bounds"]
     assert all(left <= x <= right and bottom <= y <= top for x, y in points)
+    assert about["bytes"] == sum(file["size"] for file in about["files"] if file["kind"] == "needed")
     kinds = {file["name"]: file["kind"] for file in about["files"]}
     assert kinds["commit.bkd"] == "needed" and all(os.path.exists(folder / name) for name in kinds)
     for frame in ((-5.5, -5.5, 30.5, 30.5), (-FAR, -FAR, FAR - 1, FAR - 1), (1, 1, 1, 1), (7.2, 0, 7.8, 40)):
@@ -165,10 +165,11 @@ def test_bad_requests(counting, tmp_path, shown, capfd):
     assert capfd.readouterr().err == ""
 
 
-def test_slow_bodies(counting, tmp_path, shown):
-    """They end within some seconds, more of them than there are threads; others are answered after them."""
+def test_slow_bodies(counting, tmp_path, shown, monkeypatch):
+    """They end when their time is over, more of them than there are threads; others are answered after them."""
+    monkeypatch.setattr("bkd.view.server._SECONDS", 1.0)
     server = shown(made(tmp_path / "a", counting), counting)
-    before, begun = threading.active_count(), time.monotonic()
+    before = threading.active_count()
     slow = []
     for _ in range(9):
         one = socket.create_connection(server.server_address, timeout=60)
@@ -180,7 +181,6 @@ def test_slow_bodies(counting, tmp_path, shown):
     for one in slow:
         assert b" 400 " in one.recv(4096)
         one.close()
-    assert time.monotonic() < begun + 40
 
 
 def test_another_commit_is_seen(counting, tmp_path, shown):

@@ -9,7 +9,7 @@ from .crew import Crew
 from .documents import Array, Documents
 from .layout import Call, Layout
 from .outcomes import is_lost, take, unfinished
-from .rebuild import PART, parts_of
+from .rebuild import parts_of
 
 
 class Additions:
@@ -21,19 +21,18 @@ class Additions:
 
     def add(self, layout: Layout, name: str, call: Call, documents: Documents, keys: Array, places: Array) -> None:
         """Adds what isn't stored yet of a call's documents, each to its place. Raises why not all is."""
-        rows = {place: numpy.flatnonzero(places == place) for place in numpy.unique(places).tolist()}
+        used = numpy.flatnonzero(numpy.bincount(places)).tolist()
+        rows = {place: numpy.flatnonzero(places == place) for place in used}
+        mine = {place: (documents.chosen(some), keys[some]) for place, some in rows.items()}
         self._make(layout, rows)
-        for place, some in rows.items():
-            layout.places[place].widen(documents.chosen(some).points)
+        for place, (some, _) in mine.items():
+            layout.places[place].widen(some.points)
         # before the documents are there, so that bounds are never too small, and the call is known
         layout.write(self._path)
         failed: dict[int, BaseException] = {}
-        for part in range(max((-(-len(some) // PART) for some in rows.values()), default=0)):
-            asked = {}
-            for place, some in rows.items():
-                chosen = some[part * PART:(part + 1) * PART]
-                if len(chosen) and place not in failed:
-                    asked[place] = (_piece(name, call, part), documents.chosen(chosen), keys[chosen])
+        for part, of in parts_of(max(map(len, rows.values()), default=0)):
+            asked = {place: (_piece(name, call, part), some.part(of), its[of]) for place, (some, its) in mine.items()
+                     if len(its[of]) and place not in failed}
             take(layout, self._crew.each("add", layout, asked, failed=failed))
         if failed:
             self._fail(layout, name, call, list(rows), failed)

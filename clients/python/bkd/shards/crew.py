@@ -79,7 +79,10 @@ class Crew:
             key = f"bkd-{address}-{hashlib.sha256(repr(self._program).encode()).hexdigest()[:16]}"
             made = self._client.submit(Keeper, self._program, actor=True, key=key, workers=[address],
                                        allow_other_workers=False)
-            self._keepers[address] = self._result(made, address)
+            keeper = self._result(made, address)
+            # (else it is called by way of the newest client that this process has, and not after that one's end)
+            keeper._client, keeper._future = self._client, made
+            self._keepers[address] = keeper
         return self._keepers[address]
 
     def _result(self, future: Any, address: str) -> Any:

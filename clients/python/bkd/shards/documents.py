@@ -2,7 +2,7 @@
 from __future__ import annotations
 
 import json
-from collections.abc import Iterable, Sequence
+from collections.abc import Iterable, Iterator, Sequence
 from dataclasses import dataclass
 from itertools import chain
 from typing import Any
@@ -10,9 +10,10 @@ from typing import Any
 import numpy
 
 from .. import requests
-from ..answers import HITS
+from ..answers import HITS_ARRAY
 from ..errors import Refused
 from ..requests import Request
+from ..scale import GREATEST, LEAST, held
 
 Array = numpy.ndarray[Any, Any]
 
@@ -43,6 +44,14 @@ class Documents:
         begins = self.begins()
         places = [range(begins[row], begins[row] + self.counts[row]) for row in rows]
         return Documents(self.points[list(chain.from_iterable(places))], self.counts[rows])
+
+    def firsts(self) -> Array:
+        """Each document's first point."""
+        return self.points if self.counts is None else self.points[self.begins()]
+
+    def part(self, of: slice) -> Documents:
+        """Some documents that follow each other."""
+        return Documents(self.points[of]) if self.counts is None else self.chosen(numpy.arange(len(self))[of])
 
     def spelled(self) -> Any:
         """As `Index.add_many` takes them."""
@@ -98,9 +107,9 @@ class Query:
 
     def request(self) -> Request:
         if self.box is not None:
-            return requests.box(*self.box)
+            return Request(requests.box(*self.box).line, HITS_ARRAY)
         if self.polygon is not None:
-            return Request("polygon " + self.polygon, HITS)
+            return Request("polygon " + self.polygon, HITS_ARRAY)
         return requests.nearest(self.k, self.at)
 
     def check(self, dims: int) -> None:
@@ -108,19 +117,46 @@ class Query:
         points = self.box if self.box is not None else () if self.polygon is not None else (self.at,)
         if any(len(point) != dims for point in points):
             raise Refused(self.request().line, "wrong words", 1)
-        for place, c in enumerate(c for point in points for c in point):
-            if not -(1 << 31) <= c < 1 << 31:
+        for place, c in enumerate(chain.from_iterable(points)):
+            if not LEAST <= c <= GREATEST:
                 raise Refused(self.request().line, f"bad number in word {place + (3 if self.k else 2)}", 1)
         if self.polygon is not None and dims != 2:
             raise Refused(self.request().line, "not two dimensions", 1)
 
     def bounds(self) -> tuple[Sequence[int], Sequence[int]]:
-        """The least and the greatest coordinates of what it may find; all where that can't be told."""
+        """The least and the greatest coordinates of what it may find, or what holds these; all where that can't be
+        told."""
         if self.box is not None:
             return self.box
         try:
             positions = [position for ring in json.loads(self.polygon or "")["coordinates"] for position in ring]
-            across, up = [x for x, _ in positions], [y for _, y in positions]
+            across, up = [held(x) for x, _ in positions], [held(y) for _, y in positions]
             return (min(across), min(up)), (max(across), max(up))
-        except (ValueError, KeyError, TypeError):
-            return (-(1 << 31),) * 2, ((1 << 31) - 1,) * 2
+        except (ValueError, KeyError, TypeError, OverflowError):
+            return (LEAST,) * 2, (GREATEST,) * 2
+
+
+@dataclass(frozen=True)
+class Packed:
+    """Answers to queries as they go between processes: the keys of all that answer by keys in one array, which goes
+    much quicker than many."""
+
+    values: list[Any]
+    counts: list[int]
+    keys: Array
+
+    def unpacked(self) -> Iterator[Any]:
+        """The answers, in order."""
+        at, counts = 0, iter(self.counts)
+        for value in self.values:
+            if value is None:
+                count = next(counts)
+                value, at = self.keys[at:at + count], at + count
+            yield value
+
+
+def packed(answers: Sequence[Any]) -> Packed:
+    """Answers, arrays of keys or lists."""
+    arrays = [answer for answer in answers if isinstance(answer, numpy.ndarray)]
+    values = [None if isinstance(answer, numpy.ndarray) else answer for answer in answers]
+    return Packed(values, list(map(len, arrays)), numpy.concatenate([numpy.empty(0, dtype=numpy.int64), *arrays]))

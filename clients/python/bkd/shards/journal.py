@@ -15,6 +15,7 @@ from dataclasses import dataclass, field
 import numpy
 
 from ..errors import Error
+from ..kept import sync_names
 from .documents import Array
 
 NAME = "shard.log"
@@ -66,7 +67,7 @@ class Journal:
             file.flush()
             os.fsync(file.fileno())
         if not self.ends:
-            sync_folder(os.path.dirname(self.path))
+            sync_names(os.path.dirname(self.path))
         self._take(record, digest, keys, end + len(head) + _DIGEST + len(spelled))
         self.seen = _signature(self.path)
 
@@ -136,12 +137,3 @@ def _record(text: memoryview, at: int, before: bytes) -> tuple[Record, bytes, Ar
         return None
     keys = numpy.frombuffer(spelled, dtype=">i8").astype(numpy.int64)
     return Record(kind, order, token, following, live, count, fingerprint), digest, keys, rest + len(spelled)
-
-
-def sync_folder(path: str) -> None:
-    """Syncs a directory's names."""
-    held = os.open(path or ".", os.O_RDONLY | os.O_DIRECTORY)
-    try:
-        os.fsync(held)
-    finally:
-        os.close(held)

@@ -12,9 +12,9 @@ from typing import Any, cast
 import numpy
 
 from ..commands import Folder
+from ..kept import sync_names
 from .documents import Array
 from .errors import BadLayout
-from .journal import sync_folder
 
 # a split (dimension, value, below, from it on), or the number of a place
 Cells = list[Any] | int
@@ -147,7 +147,7 @@ class Layout:
             os.remove(aside)
         else:
             os.rename(aside, path)
-        sync_folder(os.path.dirname(os.fspath(path)))
+        sync_names(os.path.dirname(os.fspath(path)))
 
     # ---- where documents go
 
@@ -168,8 +168,8 @@ class Layout:
             del self.calls[name]
 
     def _sample(self, firsts: Array) -> None:
-        rows = numpy.random.default_rng(self.given).permutation(len(firsts))[:_SAMPLE]
-        points = numpy.array(self.sample + firsts[rows].tolist(), dtype=numpy.int64).reshape(-1, self.dims)
+        drawn = sample(firsts, self.given)
+        points = numpy.concatenate([numpy.array(self.sample, dtype=numpy.int64).reshape(-1, self.dims), drawn])
         if len(points) >= _LEAST * len(self.places):
             self.cells, self.sample = cut(points, list(range(len(self.places)))), []
         else:
@@ -191,6 +191,14 @@ class Layout:
 
 def _sum(body: Mapping[str, Any]) -> str:
     return hashlib.sha256(json.dumps(body, sort_keys=True, separators=(",", ":")).encode()).hexdigest()
+
+
+def sample(points: Array, seed: int) -> Array:
+    """Some of many points, drawn; all of few."""
+    if len(points) <= _SAMPLE:
+        return points
+    rows = numpy.random.default_rng(seed).choice(len(points), _SAMPLE, replace=False, shuffle=False)
+    return cast(Array, points[rows])
 
 
 def cut(points: Array, places: list[int]) -> Cells:

@@ -63,7 +63,7 @@ class Asking:
             for query in queries:
                 query.check(layout.dims)
             found: list[list[Any]] = [[] for _ in queries]
-            first = {i: _first(layout, query) for i, query in enumerate(queries)}
+            first = _first(layout, queries)
             self._gather(layout, queries, first, found, is_exact)
             rest = {i: _rest(layout, query, first[i], found[i]) for i, query in enumerate(queries) if query.k}
             self._gather(layout, queries, rest, found, is_exact)
@@ -78,7 +78,7 @@ class Asking:
                 rows.setdefault(place, []).append(i)
         asked = {place: ([queries[i] for i in some],) for place, some in rows.items()}
         for place, values in self._crew.each("ask", layout, asked, is_exact).items():
-            for i, value in zip(rows[place], values):
+            for i, value in zip(rows[place], values.unpacked()):
                 found[i].append(value)
 
     def count(self, lo: Point, hi: Point) -> int:
@@ -143,11 +143,21 @@ def _made(layout: Layout) -> list[int]:
     return [at for at, place in enumerate(layout.places) if place.mark is not None]
 
 
-def _first(layout: Layout, query: Query) -> list[int]:
-    """The places that a query is asked first: all that may have what it finds, of the nearest those nearest to it."""
-    if not query.k:
-        low, high = query.bounds()
-        return [at for at, place in enumerate(layout.places) if place.meets(low, high)]
+def _first(layout: Layout, queries: Sequence[Query]) -> dict[int, list[int]]:
+    """The places that each query is asked first: all that may have what it finds, of the nearest those nearest to
+    it."""
+    first = {i: _nearest_places(layout, query) if query.k else [] for i, query in enumerate(queries)}
+    holding, boxes = list(layout.holding()), [i for i, query in enumerate(queries) if not query.k]
+    if holding and boxes:
+        low, high = numpy.array([queries[i].bounds() for i in boxes]).transpose(1, 0, 2)
+        least, greatest = numpy.array([layout.places[at].bounds for at in holding]).transpose(1, 0, 2)
+        meet = ((low[:, None] <= greatest) & (least <= high[:, None])).all(axis=2)
+        for row, column in numpy.argwhere(meet).tolist():
+            first[boxes[row]].append(holding[column])
+    return first
+
+
+def _nearest_places(layout: Layout, query: Query) -> list[int]:
     away = {at: layout.places[at].distance(query.at) for at in layout.holding()}
     return [at for at, distance in away.items() if distance == min(away.values())]
 

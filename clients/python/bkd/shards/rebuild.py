@@ -11,13 +11,12 @@ import numpy
 from ..formats.pages import is_own_name
 from . import journal
 from .documents import Array, Documents
-from .layout import Cells, cut, walk
+from .layout import Cells, cut, sample, walk
 from .shard import Shard
 from .state import Known, Outcome
 
-# documents of one commit, and points that are looked at to cut cells
+# documents of one commit
 PART = 1_000_000
-_SAMPLE = 1 << 16
 Source = tuple[str, Known]
 
 
@@ -37,9 +36,8 @@ def rebuild(shard_of: Callable[[str], Shard], sources: Sequence[Source], targets
     found = [shard_of(folder).export(known) for folder, known in sources]
     keys = numpy.concatenate([keys for keys, _ in found])
     documents = joined([documents for _, documents in found])
-    firsts = documents.points[documents.begins()]
-    drawn = numpy.random.default_rng(len(firsts)).permutation(len(firsts))[:_SAMPLE]
-    cells = cut(firsts[drawn], list(range(len(targets))))
+    firsts = documents.firsts()
+    cells = cut(sample(firsts, len(firsts)), list(range(len(targets))))
     places = numpy.zeros(len(firsts), dtype=numpy.int64)
     walk(cells, firsts, numpy.arange(len(firsts)), places)
     told = []

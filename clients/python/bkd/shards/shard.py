@@ -12,13 +12,14 @@ import numpy
 
 from .. import commands, lock, requests, spelling
 from ..coprocess import Coprocess
-from ..errors import Error, Fault, NoIndex, Refused
+from ..errors import Error, Fault, NoIndex, Refused, unrefused
 from ..formats.commit import read_commit
+from ..lock import Held
 from ..program import Program, scratch
 from ..requests import Request
 from ..talk import Asking, refusal_of
 from . import journal
-from .documents import Array, Documents, Query
+from .documents import Array, Documents, Packed, Query, packed
 from .errors import Changed
 from .journal import ADDED, CHANGED, MADE, VOID, Journal, Record
 from .nearest import nearest_keys
@@ -33,7 +34,10 @@ Pieces = Iterable[tuple[bytes, int]]
 
 
 class Shard:
-    """A folder, with a session over it while it is asked, which shares the folder's lock. Any thread may use it.
+    """A folder, with a session over it while it is asked. Any thread may use it.
+
+    The lock on the folder is had here, since the journal beside the index is the client's: shared while it is asked, as
+    its programs hold it too, and alone for a change, whose program works within it.
 
     Every call takes what the layout knows of the folder, and raises `NoIndex` where it isn't there and `Changed` where
     it holds anything else than what was stored here since.
@@ -44,7 +48,7 @@ class Shard:
         self._program = program
         self._turn = threading.RLock()
         self._session: Coprocess | None = None
-        self._held: int | None = None
+        self._held: Held | None = None
         self._look: Look | None = None
         self._journal: Journal | None = None
         self._keys: Array = numpy.empty(0, dtype=numpy.int64)
@@ -117,7 +121,7 @@ class Shard:
             numbers = range(added.next, added.next + added.count) if added else ()
             return self._change(known, look, f"take back {token}", spelling.deleted(numbers), held)
 
-    def _change(self, known: Known, look: Look, token: str, pieces: Pieces, held: int) -> Outcome:
+    def _change(self, known: Known, look: Look, token: str, pieces: Pieces, held: Held) -> Outcome:
         """Has lines done that add nothing, in one commit, once however often this token is tried."""
         done = look.done(token_of(token))
         if done is not None:
@@ -145,7 +149,7 @@ class Shard:
         return look.state()
 
     @contextlib.contextmanager
-    def _alone(self) -> Iterator[int]:
+    def _alone(self) -> Iterator[Held]:
         """The folder's lock alone; the session ends before."""
         with self._turn:
             self.close()
@@ -154,7 +158,7 @@ class Shard:
             with lock.locked(self.folder, wait=_WAIT) as held:
                 yield held
 
-    def _run(self, pieces: Pieces, held: int) -> None:
+    def _run(self, pieces: Pieces, held: Held) -> None:
         """Has the program do a whole script, which it reads from a file: where this process dies meanwhile, it is done
         whole or not at all. Raises the first refusal, or the error of the program's status."""
         with scratch() as script:
@@ -166,33 +170,33 @@ class Shard:
 
     # ---- queries
 
-    def ask(self, known: Known, queries: Sequence[Query]) -> list[Any]:
+    def ask(self, known: Known, queries: Sequence[Query]) -> Packed:
         """What queries find: of boxes and polygons keys, ascending, of the nearest (distance, key) in that order."""
         with self._turn:
             self._open(known)
             keys, is_ordered = self._keys, self._is_ordered
             values = self._asked([query.request() for query in queries])
-            return [nearest_keys(query, value, keys, is_ordered, self._asked, self.folder) if query.k
-                    else keys[value] if is_ordered else numpy.sort(keys[value])
-                    for query, value in zip(queries, values)]
+            return packed([nearest_keys(query, value, keys, is_ordered, self._asked, self.folder) if query.k
+                           else keys[value] if is_ordered else numpy.sort(keys[value])
+                           for query, value in zip(queries, values)])
 
     def export(self, known: Known) -> tuple[Array, Documents]:
         """The keys and the points of all live documents, by number."""
         with self._turn:
-            dims = self._open(known).commit.dims
-            return documents_in(self.folder, self._program, self._keys, dims, self._held)
+            self._open(known)
+            return documents_in(self.folder, self._program, self._keys)
 
     def count(self, known: Known, asked: Sequence[Request]) -> list[Any]:
         """What the program's `count` says."""
         with self._turn:
             self._open(known)
-            return _unrefused(commands.count(self.folder, asked, program=self._program, held=self._held))
+            return unrefused(commands.count(self.folder, asked, program=self._program))
 
     def check(self, known: Known) -> tuple[State, Any]:
         """Reads all that is stored, and answers what the program's `check` says. Raises `Damaged`."""
         with self._turn:
             look = self._open(known)
-            return look.state(), commands.check(self.folder, program=self._program, held=self._held)
+            return look.state(), commands.check(self.folder, program=self._program)
 
     def _open(self, known: Known) -> Look:
         """Has a session over the folder as it is, and what its files say."""
@@ -220,15 +224,14 @@ class Shard:
         try:
             if "session" in self._program.commands:
                 if self._session is None:
-                    words = ["session", *self._program.held_words(self._held)]
-                    self._session = self._program.start(self.folder, words, _TIMEOUT, self._held)
+                    self._session = self._program.start(self.folder, ["session"], _TIMEOUT)
                 self._session.exchange(talk)
             else:
-                self._program.run(self.folder, ["run"], talk, _TIMEOUT, self._held)
+                self._program.run(self.folder, ["run"], talk, _TIMEOUT)
         except BaseException:
             self.close()
             raise
-        return _unrefused(talk.values)
+        return unrefused(talk.values)
 
     def close_idle(self, seconds: float) -> None:
         """Ends the session where it wasn't used for so long, so that others may write."""
@@ -244,27 +247,14 @@ class Shard:
             if self._session is not None:
                 self._session.kill()
             if self._held is not None:
-                lock.release(self._held)
+                self._held.release()
             self._session = self._held = self._look = None
 
 
-def _refusal(answers: str, script: IO[bytes]) -> Error:
+def _refusal(answers: bytes, script: IO[bytes]) -> Error:
     """The first refusal in the answers to a script of lines that are answered by one line each."""
     script.seek(0)
-    for line, answer in zip(script, answers.splitlines()):
-        if refused := refusal_of(answer.encode(), line.decode().strip(), _number(answer)):
+    for number, (line, answer) in enumerate(zip(script, answers.splitlines()), 1):
+        if refused := refusal_of(answer, " ".join(line.decode().split()), number):
             return refused
     return Fault("the program refused a line and doesn't say which")
-
-
-def _number(answer: str) -> int:
-    """The number of the line that an answer says it refuses, 0 where it refuses none."""
-    head = answer.partition(":")[0].removeprefix("line ")
-    return int(head) if head.isdigit() else 0
-
-
-def _unrefused(values: list[Any]) -> list[Any]:
-    for value in values:
-        if isinstance(value, Refused):
-            raise value
-    return values

@@ -128,7 +128,7 @@ class Shards(Asking):
             given = None if keys is None else keys_of(keys)
             if given is not None and len(given) != len(found):
                 raise ValueError(f"{len(given)} keys for {len(found)} documents")
-            firsts = found.points[found.begins()]
+            firsts = found.firsts()
             call = layout.calls.get(name) or layout.begin(name, firsts)
             if call.count != len(found):
                 raise ValueError(f"token {name} is of {call.count} documents, not of {len(found)}")

@@ -13,8 +13,10 @@ from .. import requests
 from ..answers import rows_after
 from ..errors import BadAnswer, Refused
 from ..requests import Request
+from ..scale import held
+from ..sending import Silence
 from ..talk import refusal_of, sent
-from .asked import Axes, Sides, axes, frame, held, number, place, ring
+from .asked import Axes, Sides, axes, frame, number, place, ring
 from .drawn import Drawn, in_circle, in_ring, points_in
 from .folder import Shown
 
@@ -27,20 +29,17 @@ _COMPARED = 2_000_000
 _SQUARES = 200
 
 
-class First:
+class First(Silence):
     """A talk of one query whose answer may be long: how many lines it has, and the first of them."""
 
     def __init__(self, request: Request, most: int) -> None:
+        super().__init__()
         self._request = request
         self._most = most
         self._left: int | None = None
         self.is_sent = False
         self.refused: Refused | None = None
-        self.inbox: list[bytes] = []
         self.rows: list[bytes] = []
-
-    def begin(self, first: int) -> None:
-        """It is alone."""
 
     def piece(self) -> tuple[bytes, int]:
         if self.is_sent:
@@ -65,9 +64,6 @@ class First:
 
     def line(self, place: int) -> str | None:
         return self._request.line
-
-    def cut(self, last: int) -> None:
-        """Nobody looks at what was interrupted."""
 
 
 @dataclass
@@ -95,13 +91,13 @@ class Viewer:
         dims = self.shown.commit().dims
         where, sides = axes(asked, dims), frame(asked.get("frame"))
         columns, rows = number(asked, "columns", 1, 4096), number(asked, "rows", 1, 4096)
-        with self.shown.reading() as lock:
+        with self.shown.reading():
             mark = self.shown.mark()
             key = mark, where, sides, columns, rows
             with self._turn:
                 found = self._views.get(key)
             if found is None:
-                drawn = points_in(lambda asked: self.shown.count(asked, lock), where, sides, columns, rows)
+                drawn = points_in(self.shown.count, where, sides, columns, rows)
                 found = {"mark": mark, **drawn.told()}
         with self._turn:
             self._views[key] = found
@@ -113,15 +109,15 @@ class Viewer:
         """What the program answers to a box, a polygon or the nearest, how it was answered, and where what it found
         lies."""
         query = self._query(asked)
-        with self.shown.reading() as lock:
-            explained = self.shown.explain(query.request, lock)
+        with self.shown.reading():
+            explained = self.shown.explain(query.request)
             talk, begun = First(query.request, _MOST if query.kind == "nearest" else _SHOWN), time.perf_counter()
             if query.kind == "nearest" or explained.found <= _LISTED:
-                self.shown.run(talk, lock)
+                self.shown.run(talk)
                 if talk.refused:
                     raise talk.refused
             spent = time.perf_counter() - begun
-            drawn = self._found(query, talk, lock)
+            drawn = self._found(query, talk)
             mark = self.shown.mark()
         line = query.request.line
         is_near = query.kind == "nearest"
@@ -157,11 +153,11 @@ class Viewer:
                           ring=corners)
         raise ValueError("kind is not box, polygon or nearest")
 
-    def _found(self, query: _Asked, talk: First, lock: int) -> Drawn | None:
+    def _found(self, query: _Asked, talk: First) -> Drawn | None:
         """Where the points lie that were found; None where that can't be told: of the nearest in other than one or two
         dimensions."""
         def drawn(sides: Sides, squares: int = _SQUARES) -> Drawn:
-            return points_in(lambda asked: self.shown.count(asked, lock), query.axes, sides, squares, squares)
+            return points_in(self.shown.count, query.axes, sides, squares, squares)
 
         if query.kind == "box" and query.sides is not None:
             return drawn(query.sides)

@@ -6,7 +6,8 @@ from collections.abc import Mapping
 from dataclasses import dataclass
 from typing import Any
 
-LEAST, GREATEST = -(1 << 31), (1 << 31) - 1
+from ..scale import GREATEST, LEAST, held
+
 _FAR = 1 << 40
 _MOST_CORNERS = 1000
 Sides = tuple[int, int, int, int]
@@ -27,11 +28,6 @@ class Axes:
         if self.y is not None:
             low[self.y], high[self.y] = sides[1], sides[3]
         return low, high
-
-
-def held(c: float) -> int:
-    """The whole number of 32 bits next to a number."""
-    return min(max(round(c), LEAST), GREATEST)
 
 
 def number(asked: Mapping[str, Any], name: str, least: int, greatest: int) -> int:

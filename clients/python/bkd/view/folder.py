@@ -3,6 +3,7 @@ from __future__ import annotations
 
 import contextlib
 import hashlib
+import math
 import os
 import tempfile
 import time
@@ -11,8 +12,8 @@ from dataclasses import dataclass
 from subprocess import DEVNULL, Popen
 from typing import IO, Any
 
-from .. import commands, kept, lock
-from ..errors import NoIndex, Refused, fault_of
+from .. import commands, lock
+from ..errors import NoIndex, fault_of, unrefused
 from ..formats.commit import Commit, read_commit
 from ..formats.pages import COMMIT_FILE, FileName, PagedFile, is_own_name
 from ..processes import started
@@ -31,7 +32,6 @@ class _Checking:
 
     process: Popen[bytes]
     said: IO[bytes]
-    held: int | None
     begun: float
     size: int
     read: int = 0
@@ -39,8 +39,8 @@ class _Checking:
 
 
 class Shown:
-    """A folder, asked by the program beside others, with the lock that readers share, for no longer than an answer
-    takes. What is raised: `NoIndex`, `Damaged`, or `Locked` where another process writes."""
+    """A folder, asked by the program beside others. What is raised: `NoIndex`, `Damaged`, or `Locked` where another
+    process writes."""
 
     def __init__(self, folder: str, program: Program) -> None:
         self.folder = os.path.abspath(folder)
@@ -64,37 +64,38 @@ class Shown:
         return found
 
     @contextlib.contextmanager
-    def reading(self) -> Iterator[int]:
-        """The lock that readers share."""
-        with lock.locked(self.folder, shared=True, wait=_WAIT) as held:
-            yield held
+    def reading(self) -> Iterator[None]:
+        """Within it nothing is committed by others, so that several answers are of one commit."""
+        with lock.locked(self.folder, shared=True, wait=_WAIT):
+            yield
 
-    def count(self, asked: Sequence[Request], held: int) -> list[Any]:
+    def count(self, asked: Sequence[Request]) -> list[Any]:
         """What the program's `count` answers."""
-        return _unrefused(commands.count(self.folder, asked, program=self.program, timeout=_TIMEOUT, held=held))
+        return unrefused(commands.count(self.folder, asked, program=self.program, timeout=_TIMEOUT))
 
-    def explain(self, asked: Request, held: int) -> Any:
+    def explain(self, asked: Request) -> Any:
         """What the program's `explain` answers."""
-        return _unrefused(commands.explain(self.folder, [asked], program=self.program, timeout=_TIMEOUT, held=held))[0]
+        return unrefused(commands.explain(self.folder, [asked], program=self.program, timeout=_TIMEOUT))[0]
 
-    def run(self, talk: Talk, held: int) -> None:
+    def run(self, talk: Talk) -> None:
         """Has queries answered; nothing is changed."""
-        self.program.run(self.folder, ["run"], talk, _TIMEOUT, held)
+        self.program.run(self.folder, ["run"], talk, _TIMEOUT)
 
     # ---- what is there
 
     def about(self) -> dict[str, Any]:
-        """The commit's numbers, its segments, all files of the folder, and the least box round all entries."""
+        """What `info` tells, the segments, all files of the folder, and the least box round all entries."""
         with self.reading():
             mark, commit = self.mark(), self.commit()
+            told = commands.info(self.folder, program=self.program, timeout=_TIMEOUT)
             roots = [self._root(one.segment, commit.dims) for one in commit.listed]
         bounds = [[min(c) for c in zip(*(low for low, _ in roots))],
                   [max(c) for c in zip(*(high for _, high in roots))]] if roots else None
         segments = [{"id": one.segment, "entries": one.entries, "live": one.live,
                      "leaves": -(-one.entries // commit.leaf)} for one in commit.listed]
-        return {"mark": mark, "folder": self.folder, "dims": commit.dims, "leaf": commit.leaf, "next": commit.next,
-                "given": commit.given, "live": sum(one.live for one in commit.listed), "segments": segments,
-                "bounds": bounds, "files": self._files(commit), "decimals": kept.read(self.folder).decimals}
+        return {"mark": mark, "folder": self.folder, "dims": told.dims, "leaf": told.leaf, "next": told.next,
+                "given": told.points, "live": told.live, "bytes": told.bytes, "segments": segments, "bounds": bounds,
+                "files": self._files(commit), "decimals": told.decimals}
 
     def _root(self, segment: int, dims: int) -> tuple[list[int], list[int]]:
         """The least cell round a segment's entries, which stands at the front of its page 1."""
@@ -120,16 +121,11 @@ class Shown:
         """Has the program read all that is stored, beside the page; answers how far it is."""
         if self._checking is None or self._checking.ended is not None:
             self.program.require("check")
-            held = lock.take(self.folder, shared=True, wait=_WAIT)
-            try:
-                size = sum(file["size"] for file in self._files(self.commit()) if file["kind"] == "needed")
-                said = tempfile.TemporaryFile()
-                words = [*self.program.words, self.folder, "check", *self.program.held_words(held)]
-                process = started(words, held, stdin=DEVNULL, stdout=said, stderr=said)
-            except BaseException:
-                lock.release(held)
-                raise
-            self._checking = _Checking(process, said, held, time.monotonic(), size)
+            size = sum(file["size"] for file in self._files(self.commit()) if file["kind"] == "needed")
+            said = tempfile.TemporaryFile()
+            words = [*self.program.words, self.folder, "check", "--wait", str(math.ceil(_WAIT))]
+            process = started(words, stdin=DEVNULL, stdout=said, stderr=said)
+            self._checking = _Checking(process, said, time.monotonic(), size)
         return self.check()
 
     def check(self) -> dict[str, Any]:
@@ -143,7 +139,6 @@ class Shown:
             return {"state": "runs", "seconds": time.monotonic() - one.begun, "read": one.read, "size": one.size}
         if one.ended is None:
             one.ended = time.monotonic()
-            self._release(one)
         one.said.seek(0)
         text = one.said.read().decode(errors="replace").strip()
         error = None if status == 0 else fault_of(status, text)
@@ -155,12 +150,6 @@ class Shown:
         if (one := self._checking) is not None and one.ended is None:
             one.process.kill()
             one.process.wait()
-            self._release(one)
-
-    def _release(self, one: _Checking) -> None:
-        if one.held is not None:
-            lock.release(one.held)
-            one.held = None
 
 
 def _bytes_read(process: int) -> int:
@@ -170,10 +159,3 @@ def _bytes_read(process: int) -> int:
             return int(file.readline().split()[1])
     except (OSError, ValueError, IndexError):
         return 0
-
-
-def _unrefused(values: list[Any]) -> list[Any]:
-    for value in values:
-        if isinstance(value, Refused):
-            raise value
-    return values

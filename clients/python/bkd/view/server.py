@@ -26,6 +26,7 @@ _HERE = Path(__file__).parent
 _FILES = {"": ("page.html", "text/html; charset=utf-8"), "page.css": ("page.css", "text/css; charset=utf-8"),
           "plane.js": ("plane.js", "text/javascript; charset=utf-8"),
           "page.js": ("page.js", "text/javascript; charset=utf-8"),
+          "panel.js": ("panel.js", "text/javascript; charset=utf-8"),
           "input.js": ("input.js", "text/javascript; charset=utf-8")}
 # bytes of a body, seconds that a request may take to come and an answer to go, requests that are answered beside each
 # other (with the server's own thread and the caller's there are eight at most), and that wait
