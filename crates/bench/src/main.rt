@@ -13,7 +13,7 @@ mod rings;
 mod stored;
 
 use byte_cursor::Bytes;
-use csv_load::read_points;
+use csv_load::read_entries;
 use number_text::number;
 use outer_io::{StdSource, read_all};
 use queries::Walk;
@@ -176,8 +176,8 @@ fn csv_point_count(alloc: Global, input: &[u8], first: &str, second: &str) -> us
         return 0;
     };
     let columns = [Bytes::new(first), Bytes::new(second)];
-    match read_points::<2>(alloc, input, &columns) {
-        Ok(points) => points.len(),
+    match read_entries::<2>(alloc, input, &columns, 0) {
+        Ok(entries) => entries.len(),
         Err(_) => 0,
     }
 }
