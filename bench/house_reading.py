@@ -54,15 +54,25 @@ class SpecFile:
             lines += self.lines[begin:end]
         return "\n".join(line.split(" -- ")[0] for line in lines if not line.strip().startswith("--"))
 
-    def counted(self, names):
-        """How many lines these definitions have, with the comment above each."""
+    def chosen(self, names):
+        """The lines of these definitions, with the comment above each."""
         chosen = set()
         for name in names:
             for begin, end in self.spans.get(name, []):
                 while begin > 0 and self.lines[begin - 1].startswith("--"):
                     begin -= 1
                 chosen.update(range(begin, end))
-        return len([i for i in chosen if self.lines[i].strip()])
+        return [self.lines[i] for i in sorted(chosen) if self.lines[i].strip()]
+
+    def foreign(self, names, own):
+        """The words of the toolchain and the kit's crates that these definitions say."""
+        text = "\n".join(self.text_of(name) for name in names)
+        said, found = set(WORD.findall(text)), set()
+        for word, (crate, module, old) in self.words.items():
+            sign = "◌" in word and all(part in text for part in word.split("◌") if part)
+            if crate not in own and (sign or word in said):
+                found.add((crate, module, old))
+        return found
 
 
 class Specs:
@@ -111,7 +121,13 @@ class Specs:
         names = {}
         for crate, module, name in definitions:
             names.setdefault((crate, module), []).append(name)
-        return [(self.file(*key), self.file(*key).counted(found), len(found)) for key, found in names.items()]
+        return [(self.file(*key), self.file(*key).chosen(found), found) for key, found in names.items()]
+
+    def foreign(self, files):
+        """What of others these files of definitions say: words of std, and words of the kit's crates."""
+        own = os.listdir(os.path.join(self.root, "crates"))
+        words = set().union(*(file.foreign(found, own) for file, _, found in files))
+        return [sorted({word[2] for word in words if (word[0] == "std") == is_std}) for is_std in (True, False)]
 
 
 # ---- the chapters of docs/READING.md
@@ -119,8 +135,9 @@ class Specs:
 # what a chapter opens; of these crates alone, or of all but these
 CHAPTER = re.compile(r"^<!-- opens: (.*?)(?:; (of|but): (.*?))? -->$")
 ROW = re.compile(r"^\| `([^`]+)` \| *\d+ \|(.*)$")
-SUM = re.compile(r"\*\*\d+ files, \d+ lines\*\*")
+SUM = re.compile(r"\*\*\d+ files, \d+ lines(, \d+ words)?\*\*")
 ALL = re.compile(r"\*\*\d+ definitions in \d+ files, \d+ lines\*\*")
+OTHERS = re.compile(r"\*\*\d+ words of std and \d+ of the kit's crates\*\*")
 TOP = ("crates/bkd_top/src/program.rt", "run")
 
 
@@ -154,46 +171,73 @@ def chapter_rows(rows, files):
         found = ROW.match(row)
         if found:
             said[found.group(1)] = found.group(2)
-    counts = {file.path: lines for file, lines, _ in files}
+    counts = {file.path: len(lines) for file, lines, _ in files}
     order = [path for path in said if path in counts] + [path for path in counts if path not in said]
     return ["| `%s` | %d |%s" % (path[len("crates/"):], counts[path], said.get(path, " |")) for path in order]
 
 
+def chapters_of(root, text):
+    """The chapters of READING.md in their order, each with the line that opens it and its files of definitions."""
+    specs, known = Specs(root), set()
+    for opens in re.findall(r"<!-- opens: .*? -->", text, re.S):
+        asked, kind, named = CHAPTER.match(" ".join(opens.split())).groups()
+        start = words_of_call(root, *TOP) if asked == "the top call" else start_of(asked)
+        found = [d for d in specs.unfold(start) if d not in known]
+        if kind:
+            found = [d for d in found if (d[0] in named.split()) == (kind == "of")]
+        known.update(found)
+        yield opens, specs.by_file(found)
+
+
+def printed(root, text, number):
+    """A chapter of READING.md as it is read: its definitions, file by file, and the words of others that they say."""
+    _, files = list(chapters_of(root, text))[number - 1]
+    if number == 1:
+        yield "==== the clause headline of %s, %s\n%s\n" % (*TOP, headline(root))
+    for file, lines, _ in files:
+        yield "\n".join(["==== " + file.path, *lines, ""])
+    for title, words in zip(("std", "the kit's crates"), Specs(root).foreign(files)):
+        yield "==== words of %s that this says: %s" % (title, ", ".join(words) or "none")
+
+
+def headline(root):
+    """The clause `headline` of the top call, as it stands there."""
+    with open(os.path.join(root, TOP[0]), encoding="utf-8") as text:
+        return re.search(r"(?m)^ *ensures headline \{[\s\S]*? \}$", text.read()).group(0)
+
+
+def sums_of(root, files):
+    """The two counts that a chapter may say: of its files, lines and words, and of the words of others."""
+    lines = [line for _, part, _ in files for line in part]
+    words = sum(len(line.split()) for line in lines)
+    std, kit = Specs(root).foreign(files)
+    return ((len(files), len(lines), words), "**%d words of std and %d of the kit's crates**" % (len(std), len(kit)))
+
+
+def fresh_chapter(root, piece, files):
+    """The piece of READING.md behind the line that opens a chapter, with true counts."""
+    (count, lines, words), others = sums_of(root, files)
+    sums = "**%d files, %d lines" % (count, lines)
+    piece = SUM.sub(lambda found: sums + (", %d words**" % words if found.group(1) else "**"), piece)
+    piece, out, rows = OTHERS.sub(others, piece), [], []
+    for line in [*piece.split("\n"), None]:
+        if line is not None and ROW.match(line):
+            rows.append(line.replace("| `", "| `crates/", 1))
+            continue
+        out += (chapter_rows(rows, files) if rows else []) + ([] if line is None else [line])
+        rows = []
+    return "\n".join(out)
+
+
 def fresh_reading(root, text):
     """READING.md with true counts, and how many definitions, files and lines stand behind the top call."""
-    specs, known, out, lines = Specs(root), set(), [], text.splitlines()
+    specs = Specs(root)
     everything = specs.by_file(specs.unfold(words_of_call(root, *TOP)))
-    total = (sum(f[2] for f in everything), len(everything), sum(f[1] for f in everything))
-    at = 0
-    while at < len(lines):
-        opens = lines[at]
-        out.append(ALL.sub("**%d definitions in %d files, %d lines**" % total, opens))
-        at += 1
-        if opens.startswith("<!-- opens: ") and not opens.endswith("-->"):
-            opens += " " + lines[at]
-            out.append(lines[at])
-            at += 1
-        chapter = CHAPTER.match(opens)
-        if not chapter:
-            continue
-        start = words_of_call(root, *TOP) if chapter.group(1) == "the top call" else start_of(chapter.group(1))
-        found = [d for d in specs.unfold(start) if d not in known]
-        if chapter.group(2):
-            named, wanted = chapter.group(3).split(), chapter.group(2) == "of"
-            found = [d for d in found if (d[0] in named) == wanted]
-        known.update(found)
-        files = specs.by_file(found)
-        count = "**%d files, %d lines**" % (len(files), sum(f[1] for f in files))
-        rows = []
-        while at < len(lines) and not lines[at].startswith(("## ", "<!-- ")):
-            if ROW.match(lines[at]):
-                rows.append(lines[at].replace("| `", "| `crates/", 1))
-            else:
-                if rows and not lines[at].startswith("|"):
-                    out += chapter_rows(rows, files)
-                    rows = []
-                out.append(SUM.sub(count, lines[at]))
-            at += 1
-        if rows:
-            out += chapter_rows(rows, files)
-    return "\n".join(out) + "\n", total
+    total = (sum(len(f[2]) for f in everything), len(everything), sum(len(f[1]) for f in everything))
+    front, out = text, ""
+    for opens, files in chapters_of(root, text):
+        before, _, rest = front.partition(opens)
+        cut = re.search(r"\n#+ |$(?![\s\S])", rest).start()
+        piece, front = rest[:cut], rest[cut:]
+        out += before + opens + fresh_chapter(root, piece, files)
+    return ALL.sub("**%d definitions in %d files, %d lines**" % total, out + front), total

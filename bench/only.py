@@ -1,7 +1,7 @@
 #!/usr/bin/env python3
 """Checks single functions of a crate while the crates below aren't proved yet.
 
-usage: bench/only.py NAME --only FUNCTION.. [--libs FOLDER] [--stub CRATE/FILE.rt:FUNCTION=BODY]..
+usage: bench/only.py NAME --only FUNCTION.. [--libs FOLDER] [--stub CRATE/FILE.rt:FUNCTION=BODY].. [--edit FILE]..
        bench/only.py NAME --start FUNCTION --allow-holes --generated FOLDER
 
 FUNCTION is the end of a path, as a check prints it after `fn`; all flags but these two are those of `rattle check`.
@@ -9,7 +9,8 @@ Of the crates below those are taken as libraries that FOLDER has as NAME.rlib (a
 them as crates/NAME/out/rlib/NAME.rlib), the others as sources. Of sources a check also proves each function that
 FUNCTION calls, however far below. So calls get stubs: in a copy the body of FUNCTION in crates/CRATE/src/FILE.rt is
 BODY, as Err(PageFault::Memory), and its proof a hole; then `depends on a hole in ..` of stubs alone is as good as
-proved. It gives no verdict: `rt check` and the gate do. It asks the kit's own rtlib.py for the words of a check.
+proved. With --edit the copy has a mistake planted, by a file of the form of must-fail/*.edit: then the check is to
+refuse it. It gives no verdict: `rt check` and the gate do. It asks the kit's own rtlib.py for the words of a check.
 """
 import glob
 import importlib.machinery
@@ -90,31 +91,54 @@ def is_of(folder, source):
     return not owner[:1].isupper() or re.search(rf"\bimpl\b[^{{\n]*\b{owner}\b", source) is not None
 
 
+def plant(folder, path):
+    """Plants the mistake that an edit writes into the crate in this folder."""
+    file = old = None
+    with open(path, encoding="utf-8") as text:
+        lines = [line.rstrip("\n").split(": ", 1) for line in text if line.strip()]
+    for key, value in lines:
+        if key == "file":
+            file = os.path.join(folder, value)
+        elif key == "old":
+            old = value
+        else:
+            with open(file, encoding="utf-8") as text:
+                source = text.read()
+            if source.count(old) != 1:
+                sys.exit(f"only.py: {path}: this doesn't stand once in the file: {old}")
+            with open(file, "w", encoding="utf-8") as text:
+                text.write(source.replace(old, value))
+
+
 def main():
     words = sys.argv[1:]
     if len(words) < 3 or not shutil.which("rt"):
         sys.exit(__doc__.strip())
-    name, libs, stubs, flags = words[0], None, [], []
+    name, libs, stubs, edits, flags = words[0], None, [], [], []
     words = iter(words[1:])
     for word in words:
         if word == "--libs":
             libs = os.path.realpath(next(words))
         elif word == "--stub":
             stubs.append(next(words).split("=", 1))
+        elif word == "--edit":
+            edits.append(os.path.realpath(next(words)))
         else:
             flags.append(word)
     if not os.path.isdir(os.path.join(ROOT, "crates", name)):
         sys.exit(f"only.py: there is no crate {name}")
     with tempfile.TemporaryDirectory(prefix="only-") as copy:
         root = ROOT
-        if stubs:
-            root, flags = os.path.realpath(copy), flags + ["--allow-holes"]
+        if stubs or edits:
+            root, flags = os.path.realpath(copy), flags + ["--allow-holes"][:len(stubs)]
             shutil.copytree(f"{ROOT}/crates", f"{root}/crates", ignore=shutil.ignore_patterns("out"))
             shutil.copy(f"{ROOT}/crates.txt", root)
             shutil.copy(f"{ROOT}/HANDLES", root)
             subprocess.run(["git", "init", "-q", root], check=True)
             for place, body in stubs:
                 stub(root, place, body)
+            for path in edits:
+                plant(os.path.join(root, "crates", name), path)
         folder = os.path.join(root, "crates", name)
         os.chdir(folder)
         rt = kit()
