@@ -32,7 +32,7 @@ class Trace:
     def name(self, path):
         by_descriptor = re.match(r"/proc/self/fd/(\d+)/(.*)", path)
         if by_descriptor and self.open.get(int(by_descriptor.group(1)), [None])[0] == ".":
-            return by_descriptor.group(2)
+            return by_descriptor.group(2) or "."
         path = os.path.abspath(path)
         return "." if path == self.folder else os.path.basename(path) if os.path.dirname(path) == self.folder else None
 
