@@ -253,7 +253,7 @@ fn in_pieces(rt: HostRuntime) -> Result<(), Fail> {
     let (status, whole) = exported(&rt, alloc, &mut folder, &[])?;
     same(&rt, code(&status), 0);
     holds(&rt, whole.as_str() == text.as_str());
-    for (call, is_cut) in [(1, true), (2, true), (3, false)] {
+    for (call, is_cut) in [(0, true), (1, true), (2, false)] {
         let (status, part) = exported(&rt, alloc, &mut folder, &[call])?;
         holds_at(&rt, text.as_str().starts_with(part.as_str()), &call);
         same_at(&rt, part.len() < text.len(), is_cut, &call);
@@ -268,7 +268,7 @@ fn where_the_output_fails(rt: HostRuntime) -> Result<(), Fail> {
     let alloc = rt.alloc();
     let mut folder = done(&rt, alloc, "run", SEGMENTS)?;
     for words in [EXPORT, INFO] {
-        let (status, text) = faulty(&rt, alloc, (words, ""), &mut folder, &[], &[1])?;
+        let (status, text) = faulty(&rt, alloc, (words, ""), &mut folder, &[], &[0])?;
         same_at(&rt, (text.as_str(), code(&status)), ("", 5), &words);
     }
     Ok(())

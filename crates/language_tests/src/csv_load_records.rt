@@ -31,9 +31,10 @@ fn loads_points(rt: HostRuntime) -> Result<(), Fail> {
         check_points::<2>(rt.alloc(), text, &columns)?;
         let loaded = read_entries::<2>(rt.alloc(), text, &columns, 7)?;
         same_at(&rt, loaded.len(), points.len(), &text);
-        for (k, entry) in loaded.iter().enumerate() {
-            same_at(&rt, entry.doc, 7 + k as u32, &text);
-            same_at(&rt, entry.point.c, points[k], &text);
+        let mut doc = 7_u32;
+        for (entry, c) in loaded.iter().zip(points) {
+            same_at(&rt, (entry.doc, entry.point.c), (doc, *c), &text);
+            doc = doc.wrapping_add(1);
         }
     }
     Ok(())
