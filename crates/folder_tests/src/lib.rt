@@ -30,7 +30,6 @@ mod eight_dimensions;
 #[cfg(test)]
 mod explaining;
 #[cfg(test)]
-mod exporting;
 #[cfg(test)]
 mod gates;
 #[cfg(test)]
@@ -40,7 +39,6 @@ mod load_faults;
 #[cfg(test)]
 mod loading;
 #[cfg(test)]
-mod loading_many;
 #[cfg(test)]
 mod other_words;
 #[cfg(test)]
