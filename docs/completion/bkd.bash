@@ -10,7 +10,7 @@ _bkd() {
         return
     fi
     if [ "$COMP_CWORD" -eq 2 ]; then
-        mapfile -t COMPREPLY < <(compgen -W 'run load explain check generate session count ranges batch export info' -- "$word")
+        mapfile -t COMPREPLY < <(compgen -W 'run load explain check generate session count ranges batch export info clean' -- "$word")
         return
     fi
     case $before in
@@ -21,7 +21,7 @@ _bkd() {
         run | session | ranges) options='--cache --forks --wait --no-lock' ;;
         load) options='--columns --forks --wait --no-lock' ;;
         explain | count) options='--cache --wait --no-lock' ;;
-        check | info) options='--wait --no-lock' ;;
+        check | info | clean) options='--wait --no-lock' ;;
         generate) options='--docs --seed --forks --wait --no-lock' ;;
         batch) options='--forks --merge --wait --no-lock' ;;
         export) options='--as-ranges --wait --no-lock' ;;

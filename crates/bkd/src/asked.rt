@@ -22,6 +22,15 @@ impl Asked {
             [] => ".",
         }
     }
+
+    /// Whether the words are those of the command `clean`, which is done here and not by `bkd_top::run`: the names of
+    /// the folder's files are nothing that a `Folder` tells.
+    pub(crate) fn is_clean(&self) -> bool {
+        match self.words.as_slice() {
+            [_, command] => command.as_str() == "clean",
+            _ => false,
+        }
+    }
 }
 
 /// Why words ask for nothing.
@@ -93,7 +102,7 @@ fn seconds(text: &str) -> Result<u32, AskedFault> {
 fn hold_of(words: &[String]) -> Hold {
     match words {
         [_, command, options @ ..] => match command.as_str() {
-            "load" | "generate" => Hold::Alone,
+            "load" | "generate" | "clean" => Hold::Alone,
             "batch" if options.iter().any(|word| word.as_str() == "--merge") => Hold::Alone,
             _ => Hold::Shared,
         },

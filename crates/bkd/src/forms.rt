@@ -14,7 +14,7 @@ pub(crate) struct Taken {
     pub(crate) value: &'static str,
 }
 
-pub(crate) const FORMS: [Form; 11] = [
+pub(crate) const FORMS: [Form; 12] = [
     Form {
         command: "run",
         form: "run [--cache N] [--forks N]",
@@ -58,6 +58,10 @@ pub(crate) const FORMS: [Form; 11] = [
     Form {
         command: "info",
         form: "info",
+    },
+    Form {
+        command: "clean",
+        form: "clean",
     },
 ];
 

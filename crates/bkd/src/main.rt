@@ -8,6 +8,7 @@ mod notes;
 use asked::{Asked, AskedFault, LONGEST_WAIT, read_asked};
 use bkd_build::OpenGate;
 use bkd_top::{Status, code, run, status_line};
+use clean_folder::run_clean;
 use leftovers::take_away;
 use notes::{aside_note, reason_note, usage_note, wants_notes};
 use outer_io::{DirFolder, Reason, StdSink, StdSource, write_all};
@@ -65,15 +66,20 @@ fn run_asked<R: Threads + Sync>(rt: &HostRuntime, threads: &R, asked: &Asked) ->
     };
     let mut input = StdSource::new(rt.stdin().lock());
     let mut output = StdSink::new(rt.stdout().lock());
-    let status = run(
-        threads,
-        alloc,
-        words,
-        &mut input,
-        &mut folder,
-        &mut output,
-        &OpenGate,
-    );
+    let names = asked.is_clean().then(|| folder.names());
+    let status = match names {
+        Some(Ok(names)) => run_clean(alloc, names.as_slice(), &mut folder, &mut output),
+        Some(Err(_)) => Status::FolderFault,
+        None => run(
+            threads,
+            alloc,
+            words,
+            &mut input,
+            &mut folder,
+            &mut output,
+            &OpenGate,
+        ),
+    };
     let reason = folder.reason();
     let aside = folder.aside();
     if folder.is_changed() {

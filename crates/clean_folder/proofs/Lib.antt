@@ -1,0 +1,3 @@
+mod Removal
+mod Counting
+mod Ending
