@@ -132,7 +132,7 @@ const STATUSES: [(Status, u8, &str); 9] = [
     (
         Status::Usage,
         1,
-        "usage: bkd FOLDER run|load|explain|check|generate|session|count|ranges|batch|export|info [options]\n",
+        "usage: bkd FOLDER run|load|explain|check|generate|session|count|ranges|batch|export|info|clean [options]\n",
     ),
     (Status::SomeRefused { count: 10 }, 2, "refused 10\n"),
     (Status::SourceFault, 3, "source fault\n"),

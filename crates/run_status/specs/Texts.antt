@@ -20,7 +20,7 @@ number_of status.TooLarge = 8
 unfoldable pub line_of : Status → List ℕ
 line_of status.Done = []
 line_of status.Usage =
-    codes "usage: bkd FOLDER run|load|explain|check|generate|session|count|ranges|batch|export|info [options]\n"
+    codes "usage: bkd FOLDER run|load|explain|check|generate|session|count|ranges|batch|export|info|clean [options]\n"
 line_of (status.SomeRefused count) = codes "refused " ++ decimal count ++ codes "\n"
 line_of status.SourceFault = codes "source fault\n"
 line_of status.FolderFault = codes "folder fault\n"

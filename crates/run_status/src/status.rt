@@ -62,7 +62,7 @@ pub fn status_line(alloc: Global, s: &Status, out: &mut Vec<u8>) -> Result<(), M
     match s {
         Status::Done => Ok(()),
         Status::Usage => out.extend_from_slice(
-            b"usage: bkd FOLDER run|load|explain|check|generate|session|count|ranges|batch|export|info [options]\n",
+            b"usage: bkd FOLDER run|load|explain|check|generate|session|count|ranges|batch|export|info|clean [options]\n",
         ),
         Status::SomeRefused { count } => put_refused(out, *count),
         Status::SourceFault => out.extend_from_slice(b"source fault\n"),
