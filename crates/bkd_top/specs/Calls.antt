@@ -21,6 +21,7 @@ use Rattle.script_run.specs.declared.language.Language.TheVariants as language
 use Rattle.run_status.specs.Causes.{Counts, HasCauses, NoneRose, ReadsInput}
 use Rattle.run_status.specs.Told.{Teller}
 use Rattle.commands.specs.Looks.{ReadsFew}
+use Rattle.commands.specs.Opens.{OpensOrStays, ReadsOrStays}
 use Rattle.explain_queries.specs.Explained.{IsScope, TellsLine}
 use Rattle.count_queries.specs.Counted as counts
 use Rattle.batch_queries.specs.Ends.{LeavesNoText, ReadsOnce, StoresSome, TellsStored}
@@ -127,6 +128,13 @@ LeavesTask (Export as_ranges) c s =
     Exports (IsTrue c.sink) as_ranges c.old c.new c.written c.written_now c.before c.now s
 LeavesTask Info c s = Informs (IsTrue c.sink) c.old c.new c.written c.written_now c.before c.now s
 
+-- A command answers only where all that the commit lists can be opened, but for `generate` and `export`, which may
+-- refuse before that by what the commit says. Where the Commit file is damaged none of them changes a file.
+abbrev pub OpensTask : Task → (old new : Files) → Status → Type 0
+OpensTask (Generate docs seed forks) old new s = ReadsOrStays (IsAnswer s) old new
+OpensTask (Export as_ranges) old new s = ReadsOrStays (IsAnswer s) old new
+OpensTask _ old new s = OpensOrStays (IsAnswer s) old new
+
 -- ---- the program
 
 -- what stood before the call, over a folder that stores this state
@@ -159,6 +167,9 @@ pub record Promises (told : Type 0) (task : Option Task) (c : Call) (left : List
   pub canon : told → (state : State) → IsStored c.old state → IsAnswer s → HasNewCanonical c.old c.new
   -- what it leaves and costs, whatever the folder holds
   pub leaves : told → OnTask (λ a. LeavesTask a c s) task
+  -- whatever the folder holds, no answer hides a damage of what is opened, nor of the Commit file, and no file changes
+  -- where this is damaged
+  pub opened : told → OnTask (λ a. OpensTask a c.old c.new s) task
   -- whatever it ends with, what was kept is, or a commit of which each listed file is whole
   pub lasting : told → KeepsCommit c.old c.new
   -- why it ended otherwise

@@ -11,6 +11,7 @@ ghost use Rattle.stored_index.specs.Stored.{IsStored};
 ghost use Rattle.index_opening.specs.Evidence.{IsEvident};
 ghost use Rattle.drawn_points.specs.Generated.{generate_answer};
 ghost use Rattle.load_points.specs.Loaded.{load_answer};
+ghost use Rattle.commands.specs.Opens.{OpensOrStays, ReadsOrStays};
 ghost use Rattle.index_core.specs.Brought.{KeepsCommit};
 ghost use Rattle.index_core.specs.Steps.{KeepsUndone};
 ghost use Rattle.index_core.specs.Whole.{DoesWhole, HasNewCanonical};
@@ -60,6 +61,7 @@ pub fn run_load<S: Source, F: Folder, K: Sink, R: Threads + Sync, G: Gate>(
         → HasNewCanonical (F.files folder.old) (F.files folder.new) }
     ensures whole { IsTrue F.told → WholeLeaves (F.files folder.old) (F.files folder.new) result }
     ensures lasting { IsTrue F.told → KeepsCommit (F.files folder.old) (F.files folder.new) }
+    ensures opened { IsTrue F.told → OpensOrStays (IsAnswer result) (F.files folder.old) (F.files folder.new) }
     ensures damage { TellsDamage (IsTrue F.told) (F.files folder.old) (F.files folder.new) result }
     ensures causes { HasCauses
         (record { source = S.faults input.old; folder = F.faults folder.old; sink = K.faults out.old })
@@ -105,6 +107,7 @@ fn load_file<F: Folder, K: Sink, R: Threads + Sync, G: Gate>(
         → HasNewCanonical (F.files folder.old) (F.files folder.new) }
     ensures whole { IsTrue F.told → WholeLeaves (F.files folder.old) (F.files folder.new) result }
     ensures lasting { IsTrue F.told → KeepsCommit (F.files folder.old) (F.files folder.new) }
+    ensures opened { IsTrue F.told → OpensOrStays (IsAnswer result) (F.files folder.old) (F.files folder.new) }
     ensures damage { TellsDamage (IsTrue F.told) (F.files folder.old) (F.files folder.new) result }
     ensures folder_fault { result ≡ Status.FolderFault → Rose (F.faults folder.old) (F.faults folder.new) }
     ensures sink_fault { result ≡ Status.SinkFault → Rose (K.faults out.old) (K.faults out.new) }
@@ -146,6 +149,7 @@ pub fn run_generate<F: Folder, K: Sink, R: Threads + Sync, G: Gate>(
         → HasNewCanonical (F.files folder.old) (F.files folder.new) }
     ensures whole { IsTrue F.told → WholeLeaves (F.files folder.old) (F.files folder.new) result }
     ensures lasting { IsTrue F.told → KeepsCommit (F.files folder.old) (F.files folder.new) }
+    ensures opened { IsTrue F.told → ReadsOrStays (IsAnswer result) (F.files folder.old) (F.files folder.new) }
     ensures damage { TellsDamage (IsTrue F.told) (F.files folder.old) (F.files folder.new) result }
     ensures folder_fault { result ≡ Status.FolderFault → Rose (F.faults folder.old) (F.faults folder.new) }
     ensures sink_fault { result ≡ Status.SinkFault → Rose (K.faults out.old) (K.faults out.new) }

@@ -10,6 +10,7 @@ ghost use Rattle.documents.specs.Nearest.{found_of};
 ghost use Rattle.index_model.specs.State.{State};
 ghost use Rattle.stored_index.specs.Stored.{IsStored};
 ghost use Rattle.index_opening.specs.Evidence.{IsEvident};
+ghost use Rattle.commands.specs.Opens.{ReadsOrStays};
 ghost use Rattle.segment_set.specs.Faithful.{IsFaithful};
 ghost use Rattle.index_core.specs.Brought.{KeepsCommit};
 ghost use Rattle.index_core.specs.Sessions.{Guards, IsSetTraced};
@@ -79,6 +80,7 @@ pub fn generate<R: Threads + Sync, F: Folder, G: Gate>(
     ensures undone { IsTrue F.told → KeepsUndone (F.files folder.old) (F.files folder.new) result }
     ensures lasting { IsTrue F.told → KeepsCommit (F.files folder.old) (F.files folder.new) }
     ensures lasts { IsTrue F.told → KeepsLive (λ number. ⊥) (F.files folder.old) (F.files folder.new) }
+    ensures opened { IsTrue F.told → ReadsOrStays (IsOk result) (F.files folder.old) (F.files folder.new) }
     ensures cause { HasPageCause (F.faults folder.old) (F.faults folder.new) result }
     ensures evident { OnDamage result (IsEvident (IsTrue F.told) (F.files folder.new)) }
 {

@@ -1,6 +1,7 @@
 -- What it did is told.
 use Rattle.std.proofs.Common.{refl}
 use Rattle.load_points.specs.Loaded.{load_answer}
+use Rattle.commands.proofs.Opening.{opens_less}
 use Rattle.bkd_top.proofs.Finished.{does_from, of_done, whole_undamaged}
 use Rattle.script_run.proofs.Shown.{status_since}
 use Rattle.bkd_top.proofs.loads.load_file.Goals as goal
@@ -34,3 +35,6 @@ returns-clause-whole g c = λ told. record {
 
 pub returns-clause-lasting : goal.returns-clause-lasting
 returns-clause-lasting g c = c.load-done.ensures.lasting
+
+pub returns-clause-opened : goal.returns-clause-opened
+returns-clause-opened g c = λ told. opens_less _ _ _ _ c.tell.ensures.answer (c.load-done.ensures.opened told)

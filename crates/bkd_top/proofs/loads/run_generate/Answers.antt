@@ -35,3 +35,8 @@ returns-clause-whole g c = λ told. record {
 
 pub returns-clause-lasting : goal.returns-clause-lasting
 returns-clause-lasting g c = c.generate-done.ensures.lasting
+
+pub returns-clause-opened : goal.returns-clause-opened
+returns-clause-opened g c = λ told.
+    let made = c.generate-done.ensures.opened told in
+    record { reads = λ a. made.reads (c.tell.ensures.answer a); stays = made.stays }

@@ -3,6 +3,7 @@ use Rattle.std.proofs.Common.{inl, refl, sym, subst, ◌∙◌, ◌≤◌, ◌^�
 use Rattle.index_core.proofs.Brought.{commit_itself}
 use Rattle.index_core.proofs.LosingNone.{keeps_same}
 use Rattle.stored_index.proofs.KeptFiles.{kept_itself}
+use Rattle.commands.proofs.Opening.{stays_same}
 use Rattle.run_status.specs.Ends.{DoesNothing}
 use Rattle.bkd_top.proofs.loads.run_load.Goals as goal
 
@@ -59,3 +60,15 @@ returns-in-Err-TooLarge-clause-lasting g c = λ told. commit_itself _
 
 pub returns-in-Err-Memory-clause-lasting : goal.returns-in-Err-Memory-clause-lasting
 returns-in-Err-Memory-clause-lasting g c = λ told. commit_itself _
+
+pub returns-in-Ok-clause-opened : goal.returns-in-Ok-clause-opened
+returns-in-Ok-clause-opened g c = c.load_file.ensures.opened
+
+pub returns-in-Err-Failed-clause-opened : goal.returns-in-Err-Failed-clause-opened
+returns-in-Err-Failed-clause-opened g c = λ told. stays_same _ _ (λ a. a)
+
+pub returns-in-Err-TooLarge-clause-opened : goal.returns-in-Err-TooLarge-clause-opened
+returns-in-Err-TooLarge-clause-opened g c = λ told. stays_same _ _ (λ a. a)
+
+pub returns-in-Err-Memory-clause-opened : goal.returns-in-Err-Memory-clause-opened
+returns-in-Err-Memory-clause-opened g c = λ told. stays_same _ _ (λ a. a)

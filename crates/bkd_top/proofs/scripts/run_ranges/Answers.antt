@@ -7,3 +7,6 @@ returns-clause-ends g c = λ source told state h ranges. ends_ranges _ state _ _
 
 pub returns-clause-lasting : goal.returns-clause-lasting
 returns-clause-lasting g c = c.run_whole.ensures.lasting
+
+pub returns-clause-opened : goal.returns-clause-opened
+returns-clause-opened g c = c.run_whole.ensures.opened
