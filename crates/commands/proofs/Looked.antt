@@ -88,7 +88,7 @@ module _ {Scope : Type 0} (is : Files → Scope → Type 0) (heads : Scope → L
         (subst (λ (text : List ℕ). EndsLines (IsTrue step.tells.sink) (tells scope) 1 0 (lines_of text) step.old.written step.new.written d.result)
         (d.read source) (d.did.ends told scope i)));
     files = d.did.files;
-    opens = λ told answer. d.did.opens told (answer_ok d.result (subst IsAnswer d.status answer));
+    opened = λ told answer. d.did.opened told (answer_ok d.result (subst IsAnswer d.status answer));
     reads = λ source told.
         subst (λ (text : List ℕ). ReadsFew (is step.old.files) (λ scope pages. IsOpening step.old.files pages) tells (lines_of text) step.old.reads
         step.new.reads)
@@ -112,7 +112,7 @@ module _ {Scope : Type 0} (is : Files → Scope → Type 0) (heads : Scope → L
     never_usage = λ e. subst IsUnread e n.unread;
     ends = λ source told scope i. unread_ends _ (tells scope) _ _ _ s n.unread (ap (λ (m : Moment). m.written) n.rest);
     files = λ told. ap (λ (m : Moment). m.files) n.rest;
-    opens = λ told answer. absurd (unread_no_answer s n.unread answer);
+    opened = λ told answer. absurd (unread_no_answer s n.unread answer);
     reads = λ source told scope i pages o t all. let same = ap (λ (m : Moment). m.reads) n.rest in omega (arith, same);
     input = p.input;
     whole = λ told state stored. unread_whole s n.unread;

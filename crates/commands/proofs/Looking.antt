@@ -45,7 +45,7 @@ module _ {Scope : Type 0} (tells : Scope → Teller) (lines : List (List ℕ)) w
   looks_runs fits old new known is step r told opens none some h = record {
     ends = λ k s i. h.does (told k) s (some k s i);
     files = λ k. h.files (told k);
-    opens = λ k ok. opens k;
+    opened = λ k ok. opens k;
     reads = λ k s i pages e t all. let few = h.reads (told k) s (some k s i) t all in omega (arith, few, e);
     cause = h.cause;
     evident = stop_evident (IsTrue step.tells.folder × fits old step.old.files None) known step.old.files step.old.files r (λ k. (told k, none k)) (λ k. refl)
@@ -61,7 +61,7 @@ module _ {Scope : Type 0} (tells : Scope → Teller) (lines : List (List ℕ)) w
   looks_after t a b c known knew is was opens opened r before knows scopes few h = record {
     ends = λ k s i. subst (λ (w : List ℕ). EndsLines (IsTrue t.sink) (tells s) 1 0 lines w c.written r) before.written (h.ends (knows k) s (scopes k s i));
     files = λ k. h.files (knows k) ∙ before.files k;
-    opens = λ k ok. subst Opens (before.files k) (h.opens (knows k) ok);
+    opened = λ k ok. subst Opens (before.files k) (h.opened (knows k) ok);
     reads = λ k s i pages o u all.
         let first = few k s i pages o in
         let under = first.2 in let more = h.reads (knows k) s (scopes k s i) first.0 first.1 u all in omega (arith, under, more);
@@ -79,7 +79,7 @@ module _ {Scope : Type 0} (tells : Scope → Teller) (lines : List (List ℕ)) w
   looks_fault {X} t a b known is opens fault r e before cause whole reads shows = record {
     ends = λ k s i. unread_ends (IsTrue t.sink) (tells s) 1 0 lines a.written b.written fault (whole k s i) r e before.written;
     files = before.files;
-    opens = λ k ok. absurd (false≢true (subst (λ (x : Result ℕ Stop). IsOk x) e ok));
+    opened = λ k ok. absurd (false≢true (subst (λ (x : Result ℕ Stop). IsOk x) e ok));
     reads = λ k s i pages o u all. let few = reads k s i pages o in omega (arith, few);
     cause = subst (λ (n : ℕ). HasStopCause a.folder_faults b.folder_faults a.sink_faults n r) (sym before.sink_same)
         (fault_cause {S = X} a.folder_faults b.folder_faults a.sink_faults fault cause r e);
@@ -93,7 +93,7 @@ module _ {Scope : Type 0} (tells : Scope → Teller) (lines : List (List ℕ)) w
   looks_no_memory t a b known is opens before reads = record {
     ends = λ k s i. none_told (IsTrue t.sink) (tells s) 1 lines a.written b.written before.written;
     files = before.files;
-    opens = λ k ok. absurd (false≢true ok);
+    opened = λ k ok. absurd (false≢true ok);
     reads = λ k s i pages o u all. let few = reads k s i pages o in omega (arith, few);
     cause = record { folder_later = before.folder_later; sink_later = omega (arith, before.sink_same); folder = λ e. absurd cc; sink = λ e. absurd cc };
     evident = tt;

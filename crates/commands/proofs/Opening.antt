@@ -71,7 +71,7 @@ reads_none files none bad = absurd (bad (inl none))
 
 -- nothing was done, and nothing is answered
 pub stays_same : (answers : Type 0) (files : Files) → (answers → ⊥) → OpensOrStays answers files files
-stays_same answers files no = record { opens = λ a. absurd (no a); stays = λ bad i. files }
+stays_same answers files never = record { opens = λ a. absurd (never a); stays = λ bad i. files }
 
 -- what answers less opens as much
 pub opens_less : (a b : Type 0) (old new : Files) → (b → a) → OpensOrStays a old new → OpensOrStays b old new

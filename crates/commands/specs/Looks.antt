@@ -33,7 +33,7 @@ pub record Looks {Scope : Type 0} (known : Type 0) (is : Scope → Type 0) (open
   pub ends : known → (s : Scope) → is s
       → EndsLines (IsTrue step.tells.sink) (tells s) 1 0 lines step.old.written step.new.written result
   pub files : known → step.new.files ≡ step.old.files
-  pub opens : known → IsOk result → Opens step.old.files
+  pub opened : known → IsOk result → Opens step.old.files
   pub reads : known → ReadsFew is opens tells lines step.old.reads step.new.reads
   pub cause : HasStopCause step.old.folder_faults step.new.folder_faults step.old.sink_faults step.new.sink_faults
       result
@@ -67,7 +67,7 @@ pub record Looked {Scope : Type 0} (is : Files → Scope → Type 0) (tells : Sc
   pub ends : IsTrue step.tells.source → IsTrue step.tells.folder → (scope : Scope) → is step.old.files scope
       → EndsTold (IsTrue step.tells.sink) (tells scope) (lines_of step.old.left) step.old.written step.new.written s
   pub files : IsTrue step.tells.folder → step.new.files ≡ step.old.files
-  pub opens : IsTrue step.tells.folder → IsAnswer s → Opens step.old.files
+  pub opened : IsTrue step.tells.folder → IsAnswer s → Opens step.old.files
   pub reads : IsTrue step.tells.source → IsTrue step.tells.folder
       → ReadsFew (is step.old.files) (λ scope pages. IsOpening step.old.files pages) tells (lines_of step.old.left)
       step.old.reads step.new.reads

@@ -98,7 +98,7 @@ returns-in-Explain g c =
       leaves = λ told. left_by c.args.words _
           (called g.S.Source.told g.K.Sink.told input old new before after (g.F.Pages.reads c.args.folder.now) (g.F.Pages.reads c.run_explain.new.folder))
           c.run_explain.result is (record { files = e.files told; reads = λ source. e.reads source told });
-      opened = λ told. opened_by c.args.words _ old new c.run_explain.result is (record { opens = e.opens told; stays = λ bad. e.files told });
+      opened = λ told. opened_by c.args.words _ old new c.run_explain.result is (record { opens = e.opened told; stays = λ bad. e.files told });
       lasting = λ told. commit_equal old new (e.files told);
       damage = record { never = e.whole; evident = status_since _ _ _ _ e.evident };
       causes = e.causes;
@@ -216,7 +216,7 @@ returns-in-Count g c =
       leaves = λ told. left_by c.args.words _
           (called g.S.Source.told g.K.Sink.told input old new before after (g.F.Pages.reads c.args.folder.now) (g.F.Pages.reads c.run_count.new.folder))
           c.run_count.result is (record { files = e.files told; reads = λ source. e.reads source told });
-      opened = λ told. opened_by c.args.words _ old new c.run_count.result is (record { opens = e.opens told; stays = λ bad. e.files told });
+      opened = λ told. opened_by c.args.words _ old new c.run_count.result is (record { opens = e.opened told; stays = λ bad. e.files told });
       lasting = λ told. commit_equal old new (e.files told);
       damage = record { never = e.whole; evident = status_since _ _ _ _ e.evident };
       causes = e.causes;
