@@ -68,9 +68,9 @@ no_memory_ends told Info b files new keeps same still = (same, still)
 no_memory_ends told (Generate docs seed forks) b files new keeps same still = record { text = still; stored = inl keeps }
 no_memory_ends told (Session cache forks) b files new keeps same still =
     stops_here {told = told} (meaning language.Points) (start b.state (lines_of b.input) b.written) files new still (inl keeps)
-no_memory_ends told (Ranges cache forks) b files new keeps same still = λ ranges.
-    ends_ranges told b.state (lines_of b.input) b.written files new status.Memory ranges
-    (stops_here {told = told} (meaning language.Ranges) (start b.state (lines_of b.input) b.written) files new still (inl keeps))
+no_memory_ends told (Ranges cache forks) b files new keeps same still =
+    let ends = stops_here {told = told} (meaning language.Ranges) (start b.state (lines_of b.input) b.written) files new still (inl keeps) in
+    (ends, λ ranges. ends_ranges told b.state (lines_of b.input) b.written files new status.Memory ranges ends)
 no_memory_ends told (Count cache) b files new keeps same still =
     λ scope is. record {
       done = [];
@@ -138,7 +138,9 @@ module _ (told : Type 0) (w : Words) (b : Before) (files : Files) (new : List �
   session_asked cache forks is ends = subst (λ (a : Task). EndsTask told a b files new s) (sym is) ends
 
   pub ranges_ends : (cache forks : ℕ) → task_of w ≡ Ranges cache forks
-      → (AreRanges b.state → EndsRanges told (start b.state (lines_of b.input) b.written) files new s) → EndsTask told (task_of w) b files new s
+      → Ends (meaning language.Ranges) told (start b.state (lines_of b.input) b.written) files new s
+      × (AreRanges b.state → EndsRanges told (start b.state (lines_of b.input) b.written) files new s)
+      → EndsTask told (task_of w) b files new s
   ranges_ends cache forks is ends = subst (λ (a : Task). EndsTask told a b files new s) (sym is) ends
 
   pub count_ends : (cache : ℕ) → task_of w ≡ Count cache

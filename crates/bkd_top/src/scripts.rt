@@ -79,8 +79,11 @@ pub fn run_ranges<S: Source, F: Folder, K: Sink, R: Threads + Sync, G: Gate>(
     gate: &G,
 ) -> Status
     ensures never_usage { result ≡ Status.Usage → ⊥ }
-    // over points that are ranges it is the script that is said by the points of ranges
     ensures ends { IsTrue S.told → IsTrue F.told → (state : State) → IsStored (F.files folder.old) state
+        → Ends (meaning Ranges) (IsTrue K.told) (start state (lines_of (S.left input.old)) (K.written out.old))
+        (F.files folder.new) (K.written out.new) result }
+    // over points that are ranges it is the script that is said by the points of ranges
+    ensures ranges { IsTrue S.told → IsTrue F.told → (state : State) → IsStored (F.files folder.old) state
         → AreRanges state
         → EndsRanges (IsTrue K.told) (start state (lines_of (S.left input.old)) (K.written out.old))
         (F.files folder.new) (K.written out.new) result }

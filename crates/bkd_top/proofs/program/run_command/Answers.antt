@@ -230,7 +230,7 @@ returns-in-Ranges g c =
     record {
       never_usage = e.never_usage;
       ends = λ told state h source. ranges_ends (IsTrue g.K.Sink.told) c.args.words
-          (record { state = state; files = old; input = input; written = before }) new after c.run_ranges.result _ _ is (e.ends (source reads) told state h);
+          (record { state = state; files = old; input = input; written = before }) new after c.run_ranges.result _ _ is (e.ends (source reads) told state h, e.ranges (source reads) told state h);
       input = λ told. taken_by c.args.words _ input (g.S.Source.left c.run_ranges.new.input) c.run_ranges.result is (e.input told);
       unread = is_so (λ a. reads_input a) c.args.words _ is refl;
       large = λ w. ap (λ (a : Task). reads_whole a) is;
