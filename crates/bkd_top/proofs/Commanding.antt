@@ -224,7 +224,8 @@ pub left_by : (w : Words) (a : Task) (c : Call) (s : Status) → task_of w ≡ a
 left_by w a c s is leaves = subst (λ (b : Task). LeavesTask b c s) (sym is) leaves
 
 no_whole : (files : Files) → WholeLeaves files files status.Memory
-no_whole files = record { levels = λ state h a. absurd a; undone = inl (kept_itself files); lasts = keeps_same _ files files (kept_itself files) }
+no_whole files =
+    record { unchanged = λ count e. refl; levels = λ state h a. absurd a; undone = inl (kept_itself files); lasts = keeps_same _ files files (kept_itself files) }
 
 no_merge : (files : Files) → MergeLeaves files files status.Memory
 no_merge files = record {
@@ -254,7 +255,8 @@ none_left_of (MergingBatch forks) source sink input written files reads =
     record { leaves = no_merge files; stored = record { unwritten = inr refl; answered = λ tells. absurd (tells tt) } }
 none_left_of (Load columns forks) source sink input written files reads = no_whole files
 none_left_of (Generate docs seed forks) source sink input written files reads = no_whole files
-none_left_of Check source sink input written files reads = record { ends = λ told. refl; files = refl; reads = λ pages is. omega arith; named = tt }
+none_left_of Check source sink input written files reads =
+    record { ends = λ told. refl; files = refl; reads = λ pages is. omega arith; named = tt; first = tt }
 none_left_of (Export as_ranges) source sink input written files reads =
     record { ends = inl (λ told. refl); files = refl; reads = λ pages is. omega arith; named = tt }
 none_left_of Info source sink input written files reads = record { ends = λ told. refl; files = refl; reads = λ pages is. omega arith; named = tt }

@@ -72,9 +72,10 @@ pub record LookCosts {Scope : Type 0} (is : Files → Scope → Type 0) (tells :
   pub files : new ≡ old
   pub reads : source → ReadsFew (is old) (λ s pages. IsOpening old pages) tells lines before now
 
--- A command that is done as a whole leaves few segments of each level. Whatever the folder holds, it loses nothing that
--- is kept where it isn't done, and no number that is kept live
+-- A command that is done as a whole leaves few segments of each level. Whatever the folder holds, it changes no file
+-- where it is refused, loses nothing that is kept where it isn't done, and no number that is kept live
 pub record WholeLeaves (old new : Files) (s : Status) : Type 0 where
+  pub unchanged : (count : ℕ) → s ≡ status.SomeRefused count → new ≡ old
   pub levels : (state : State) → IsStored old state → IsAnswer s → KeepsLevels old new
   pub undone : StatusKeeps old new s
   pub lasts : KeepsLive (λ number. ⊥) old new

@@ -1,6 +1,6 @@
 //! Commands that are done at once, with one text: loading and generating.
 
-ghost use Rattle.std.specs.Prelude.{◌≡◌, ◌≤◌, ℕ, Bool, List, length, [], IsTrue, IsOk};
+ghost use Rattle.std.specs.Prelude.{◌≡◌, ◌≤◌, ℕ, Bool, true, List, length, [], IsTrue, IsOk, Ok};
 ghost use Rattle.outer_io.specs.Faults.{Rose};
 ghost use Rattle.outer_io.specs.Files.{Files};
 ghost use Rattle.page_cache.specs.Causes.{HasPageCause};
@@ -175,6 +175,7 @@ fn tell<K: Sink>(out: &mut K, done: Result<bool, PageFault>, text: &[u8]) -> Sta
         → b.written ≡ K.written out.old
         → EndsWhole (IsTrue K.told) b a files (K.written out.new) result }
     ensures answer { IsAnswer result → IsOk done }
+    ensures refused { (count : ℕ) → result ≡ Status.SomeRefused count → done ≡ Ok true }
     ensures undone { (old new : Files) → KeepsUndone old new done → StatusKeeps old new result }
     ensures folder_fault { (old new : ℕ) → HasPageCause old new done → result ≡ Status.FolderFault → Rose old new }
     ensures damaged { NotDamaged done → IsDamaged result → ⊥ }
