@@ -1,6 +1,6 @@
 //! The command `batch`: all queries of the input are answered from a copy of the index, and then all is written.
 
-ghost use Rattle.std.specs.Prelude.{◌≡◌, ◌≤◌, ◌^◌, ℕ, Bool, List, length, IsTrue, IfOk, OnOk, OnErr, IsOk, Err};
+ghost use Rattle.std.specs.Prelude.{◌≡◌, ◌≤◌, ◌^◌, ℕ, Bool, List, length, IsTrue, IfErr, IfOk, OnOk, IsOk, Err};
 ghost use Rattle.outer_io.specs.Faults.{Rose};
 ghost use Rattle.outer_io.specs.Files.{Files};
 ghost use Rattle.page_cache.specs.Causes.{HasPageCause};
@@ -82,7 +82,7 @@ fn tell<K: Sink>(out: &mut K, done: Result<Text, PageFault>) -> Status
         → EndsBatch (IsTrue K.told) (TellsBatch state) lines (K.written out.old) (K.written out.new) result }
     ensures damaged { NotDamaged done → IsDamaged result → ⊥ }
     // each fault is told as what it is
-    ensures faults { OnErr done (λ fault. result ≡ status_of (Err (stop_of fault))) }
+    ensures faults { IfErr done (λ fault. result ≡ status_of (Err (stop_of fault))) }
     ensures evident { (told : Bool) (files : Files) → OnDamage done (IsEvident (IsTrue told) files)
         → OnStatusDamage result (IsEvident (IsTrue told) files) }
     ensures folder_fault { (old new : ℕ) → HasPageCause old new done → result ≡ Status.FolderFault → Rose old new }
