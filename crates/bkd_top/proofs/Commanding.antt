@@ -225,7 +225,12 @@ left_by w a c s is leaves = subst (λ (b : Task). LeavesTask b c s) (sym is) lea
 
 no_whole : (files : Files) → WholeLeaves files files status.Memory
 no_whole files =
-    record { unchanged = λ count e. refl; levels = λ state h a. absurd a; undone = inl (kept_itself files); lasts = keeps_same _ files files (kept_itself files) }
+    record {
+      unchanged = λ count e. refl;
+      levels = λ state h a. absurd a;
+      undone = inl (kept_itself files);
+      lasts = keeps_same _ files files (kept_itself files);
+    }
 
 no_merge : (files : Files) → MergeLeaves files files status.Memory
 no_merge files = record {

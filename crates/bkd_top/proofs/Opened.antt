@@ -1,5 +1,5 @@
 -- Which commands answer only where what the commit lists can be opened.
-use Rattle.std.proofs.Common.{◌≡◌, ◌++◌, ℕ, Bool, List, None, Some, Option, sym, subst, inl, inr}
+use Rattle.std.proofs.Common.{◌≡◌, ℕ, Bool, List, None, Some, Option, sym, subst, inl, inr}
 use Rattle.outer_io.specs.Files.{Files}
 use Rattle.command_words.specs.Commands.{Task, Run, Load, Explain, Check, Generate, Session, Count, Ranges, Batch, MergingBatch, Export, Info, task_of}
 use Rattle.command_words.specs.declared.Words.{Words}

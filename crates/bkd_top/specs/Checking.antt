@@ -31,8 +31,8 @@ abbrev pub EndsInfo : (told : Type 0) → Files → (old new : List ℕ) → Sta
 EndsInfo told files old new s = EndsTelling (IsInformed files) told files old new s
 
 -- checking tells what the files hold, changes none of them, and reads each page of the Commit file and of those that it
--- lists at most once; where it ends as damaged one of these files is named, two numbers are a pair of them, and it is the
--- first damage in the order in which a folder is looked through
+-- lists at most once; where it ends as damaged one of these files is named, two numbers are a pair of them, and it is
+-- the first damage in the order in which a folder is looked through
 pub record Checks (told : Type 0) (old new : Files) (written written_now : List ℕ) (before now : ℕ) (s : Status)
     : Type 0 where
   pub ends : EndsCheck told old written written_now s

@@ -104,8 +104,8 @@ EndsWhole told b a files new status.TooLarge = Rests told b files new
 
 -- ---- the program
 
--- Explaining, checking, counting, answering a batch and exporting leave what is stored. A script of ranges ends as one of
--- boxes over the points that they are kept as; over points that are ranges, also as one that is said by ranges.
+-- Explaining, checking, counting, answering a batch and exporting leave what is stored. A script of ranges ends as one
+-- of boxes over the points that they are kept as; over points that are ranges, also as one that is said by ranges.
 abbrev pub EndsTask : (told : Type 0) → Task → Before → Files → List ℕ → Status → Type 0
 EndsTask told (Run cache forks) b files new s =
     Ends (meaning language.Points) told (start b.state (lines_of b.input) b.written) files new s

@@ -40,7 +40,8 @@ pub record Before (known : Type 0) (a b : Moment) : Type 0 where
 module _ {Scope : Type 0} (tells : Scope → Teller) (lines : List (List ℕ)) where
   -- something answered them that fits each scope
   pub looks_runs : {It : Type 0} (fits : Fit It Scope) (old new : It) (known : Type 0) (is : Scope → Type 0) (step : Step) (r : Result ℕ Stop)
-      → (known → IsTrue step.tells.folder) → (known → Opens step.old.files) → (known → fits old step.old.files None) → (known → (s : Scope) → is s → fits old step.old.files (Some s))
+      → (known → IsTrue step.tells.folder) → (known → Opens step.old.files)
+      → (known → fits old step.old.files None) → (known → (s : Scope) → is s → fits old step.old.files (Some s))
       → RunsLines fits tells lines old new step r → Looks known is (λ s pages. pages ≡ 0) tells lines step r
   looks_runs fits old new known is step r told opens none some h = record {
     ends = λ k s i. h.does (told k) s (some k s i);
@@ -149,7 +150,8 @@ module _ {Scope : Type 0} (is : Files → Scope → Type 0) (heads : Scope → L
         over
 
     -- there is no commit, and lines were answered without an index
-    pub looks_none : {It : Type 0} (fits : Fit It Scope) (old new : It) → (IsTrue t.folder → b.reads ≡ a.reads) → (IsTrue t.folder → a.files Commit ≡ None) → (IsTrue t.folder → fits old b.files None)
+    pub looks_none : {It : Type 0} (fits : Fit It Scope) (old new : It) → (IsTrue t.folder → b.reads ≡ a.reads)
+        → (IsTrue t.folder → a.files Commit ≡ None) → (IsTrue t.folder → fits old b.files None)
         → (IsTrue t.folder → (s : Scope) → is a.files s → fits old b.files (Some s))
         → RunsLines fits tells lines old new (record { tells = t; old = b; new = c }) r → LooksAll is tells lines (record { tells = t; old = a; new = c }) r
     looks_none fits old new unread bare none some runs =

@@ -32,7 +32,8 @@ returns-in-Ok-clause-evident g c = all_evident _ _ _ (status_is _ _ _ _ _ _ c.me
 
 pub returns-in-Ok-clause-input : goal.returns-in-Ok-clause-input
 returns-in-Ok-clause-input g c = λ told. record {
-  too_large = λ e. absurd ((status_is _ _ _ _ _ _ c.merge_stored.result _ c.status_of.ensures c.merge_stored.ensures.merges).done (subst DoesNothing (sym e) tt));
+  too_large = λ e.
+      absurd ((status_is _ _ _ _ _ _ c.merge_stored.result _ c.status_of.ensures c.merge_stored.ensures.merges).done (subst DoesNothing (sym e) tt));
   fits = λ _. subst (λ (xs : List ℕ). length xs ≤ 2 ^ 29) (c.in-Ok.ensures.whole told) (subst (λ (n : ℕ). n ≤ 2 ^ 29) c.in-Ok.lines.ok.0 c.in-Ok.ensures.fits);
   whole = λ _. c.in-Ok.ensures.end told;
 }

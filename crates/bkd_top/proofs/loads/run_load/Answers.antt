@@ -40,10 +40,12 @@ returns-in-Ok-clause-causes g c = record {
 }
 
 pub returns-in-Err-Failed-clause-whole : goal.returns-in-Err-Failed-clause-whole
-returns-in-Err-Failed-clause-whole g c = λ told. record { unchanged = λ count e. refl; levels = λ state h a. absurd a; undone = kept_itself _; lasts = keeps_same _ _ _ (kept_itself _) }
+returns-in-Err-Failed-clause-whole g c = λ told.
+    record { unchanged = λ count e. refl; levels = λ state h a. absurd a; undone = kept_itself _; lasts = keeps_same _ _ _ (kept_itself _) }
 
 pub returns-in-Err-TooLarge-clause-whole : goal.returns-in-Err-TooLarge-clause-whole
-returns-in-Err-TooLarge-clause-whole g c = λ told. record { unchanged = λ count e. refl; levels = λ state h a. absurd a; undone = tt; lasts = keeps_same _ _ _ (kept_itself _) }
+returns-in-Err-TooLarge-clause-whole g c = λ told.
+    record { unchanged = λ count e. refl; levels = λ state h a. absurd a; undone = tt; lasts = keeps_same _ _ _ (kept_itself _) }
 
 pub returns-in-Err-Memory-clause-whole : goal.returns-in-Err-Memory-clause-whole
 returns-in-Err-Memory-clause-whole g c = λ told.

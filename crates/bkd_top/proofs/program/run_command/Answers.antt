@@ -145,7 +145,8 @@ returns-in-Check g c =
       leaves = λ told. left_by c.args.words _
           (called g.S.Source.told g.K.Sink.told input old new before after (g.F.Pages.reads c.args.folder.now) (g.F.Pages.reads c.run_check.new.folder))
           c.run_check.result is (e.checks told);
-      opened = λ told. opened_by c.args.words _ old new c.run_check.result is (check_opens (IsTrue g.K.Sink.told) old new before after c.run_check.result (e.checks told).files (e.checks told).ends);
+      opened = λ told. opened_by c.args.words _ old new c.run_check.result is
+          (check_opens (IsTrue g.K.Sink.told) old new before after c.run_check.result (e.checks told).files (e.checks told).ends);
       lasting = λ told. commit_equal old new (e.checks told).files;
       damage = e.damage;
       causes = record { source = λ w. absurd (e.done (subst DoesNothing (sym w) tt)); folder = e.folder_fault; sink = e.sink_fault };
@@ -169,7 +170,8 @@ returns-in-Export g c =
       leaves = λ told. left_by c.args.words _
           (called g.S.Source.told g.K.Sink.told input old new before after (g.F.Pages.reads c.args.folder.now) (g.F.Pages.reads c.run_export.new.folder))
           c.run_export.result is (e.exports told);
-      opened = λ told. opened_by c.args.words _ old new c.run_export.result is (export_opens (IsTrue g.K.Sink.told) _ old new before after c.run_export.result (e.exports told).files (e.exports told).ends);
+      opened = λ told. opened_by c.args.words _ old new c.run_export.result is
+          (export_opens (IsTrue g.K.Sink.told) _ old new before after c.run_export.result (e.exports told).files (e.exports told).ends);
       lasting = λ told. commit_equal old new (e.exports told).files;
       damage = record { never = e.whole; evident = status_since _ _ _ _ e.evident };
       causes = record { source = λ w. absurd (e.done (subst DoesNothing (sym w) tt)); folder = e.folder_fault; sink = e.sink_fault };
@@ -193,7 +195,8 @@ returns-in-Info g c =
       leaves = λ told. left_by c.args.words _
           (called g.S.Source.told g.K.Sink.told input old new before after (g.F.Pages.reads c.args.folder.now) (g.F.Pages.reads c.run_info.new.folder))
           c.run_info.result is (e.informs told);
-      opened = λ told. opened_by c.args.words _ old new c.run_info.result is (info_opens (IsTrue g.K.Sink.told) old new before after c.run_info.result (e.informs told).files (e.informs told).ends);
+      opened = λ told. opened_by c.args.words _ old new c.run_info.result is
+          (info_opens (IsTrue g.K.Sink.told) old new before after c.run_info.result (e.informs told).files (e.informs told).ends);
       lasting = λ told. commit_equal old new (e.informs told).files;
       damage = e.damage;
       causes = record { source = λ w. absurd (e.done (subst DoesNothing (sym w) tt)); folder = e.folder_fault; sink = e.sink_fault };
@@ -230,7 +233,8 @@ returns-in-Ranges g c =
     record {
       never_usage = e.never_usage;
       ends = λ told state h source. ranges_ends (IsTrue g.K.Sink.told) c.args.words
-          (record { state = state; files = old; input = input; written = before }) new after c.run_ranges.result _ _ is (e.ends (source reads) told state h, e.ranges (source reads) told state h);
+          (record { state = state; files = old; input = input; written = before }) new after c.run_ranges.result _ _ is
+          (e.ends (source reads) told state h, e.ranges (source reads) told state h);
       input = λ told. taken_by c.args.words _ input (g.S.Source.left c.run_ranges.new.input) c.run_ranges.result is (e.input told);
       unread = is_so (λ a. reads_input a) c.args.words _ is refl;
       large = λ w. ap (λ (a : Task). reads_whole a) is;
@@ -287,7 +291,8 @@ returns-in-MergingBatch g c =
       leaves = λ told. left_by c.args.words _
           (called g.S.Source.told g.K.Sink.told input old new before after (g.F.Pages.reads c.args.folder.now) (g.F.Pages.reads c.run_merging_batch.new.folder))
           c.run_merging_batch.result is (record { leaves = e.leaves told; stored = e.stored told });
-      opened = λ told. opened_by c.args.words _ old new c.run_merging_batch.result is (batch_opens old new c.run_merging_batch.result (e.stored told).answered (e.stays told));
+      opened = λ told. opened_by c.args.words _ old new c.run_merging_batch.result is
+          (batch_opens old new c.run_merging_batch.result (e.stored told).answered (e.stays told));
       lasting = λ told. (e.leaves told).lasting;
       damage = record { never = e.whole; evident = status_since _ _ _ _ e.evident };
       causes = e.causes;

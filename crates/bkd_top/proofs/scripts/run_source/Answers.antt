@@ -2,8 +2,8 @@
 use Rattle.std.proofs.Common.{sym, subst, ◌∙◌}
 use Rattle.run_status.specs.Ends.{DoesNothing, IsAnswer, IsDamaged}
 use Rattle.commands.proofs.Opening.{opens_less}
-use Rattle.script_run.proofs.Statuses.{answered_ok, never_refuses, read_folder, read_script, read_shows, read_sink, read_source, session_ends, session_undamaged, when_read}
-use Rattle.script_run.proofs.Statuses.{with_lines}
+use Rattle.script_run.proofs.Statuses.{never_refuses, read_folder, read_script, read_shows, read_sink, read_source, session_ends, session_undamaged, when_read}
+use Rattle.script_run.proofs.Statuses.{answered_ok, with_lines}
 use Rattle.script_run.specs.Languages.{meaning}
 use Rattle.bkd_top.proofs.scripts.run_source.Goals as goal
 
