@@ -3,16 +3,14 @@ use Rattle.std.proofs.Common.{◌≡◌, ℕ, Bool, List, None, Some, Option, sy
 use Rattle.outer_io.specs.Files.{Files}
 use Rattle.command_words.specs.Commands.{Task, Run, Load, Explain, Check, Generate, Session, Count, Ranges, Batch, MergingBatch, Export, Info, task_of}
 use Rattle.command_words.specs.declared.Words.{Words}
-use Rattle.index_model.specs.State.{State}
-use Rattle.stored_index.specs.Stored.{IsStored}
-use Rattle.folder_check.specs.Checked.{IsChecked, IsOk}
-use Rattle.folder_check.specs.Informed.{IsInfo, IsInformed}
+use Rattle.folder_check.specs.Checked.{IsChecked}
+use Rattle.folder_check.specs.Informed.{IsInformed}
 use Rattle.export_points.specs.Ends.{EndsExport, OfFiles, OfStored, OfOdd}
 use Rattle.index_model.specs.Script.{Answer}
 use Rattle.run_status.specs.Ends.{IsAnswer}
 use Rattle.run_status.specs.declared.status.Status.{Status}
 use Rattle.run_status.specs.declared.status.Status.TheVariants as status
-use Rattle.commands.specs.Opens.{OpensCommit, Opens, OpensOrStays, Reads, ReadsOrStays}
+use Rattle.commands.specs.Opens.{Opens, OpensOrStays, Reads, ReadsOrStays}
 use Rattle.commands.proofs.Opening.{opens_all, opens_held, opens_stored, stays_same}
 use Rattle.batch_queries.specs.Ends.{LeavesNoText, StoresSome}
 use Rattle.bkd_top.specs.Calls.{OnTask, OpensTask}
