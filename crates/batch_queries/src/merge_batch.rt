@@ -7,6 +7,7 @@ ghost use Rattle.script_lang.specs.Lines.{lines_of};
 ghost use Rattle.index_model.specs.State.{State};
 ghost use Rattle.stored_index.specs.Stored.{IsStored};
 ghost use Rattle.index_opening.specs.Evidence.{IsEvident};
+ghost use Rattle.commands.specs.Opens.{Reads};
 ghost use Rattle.run_status.specs.Causes.{HasCauses, ReadsInput};
 ghost use Rattle.run_status.specs.Ends.{DoesNothing, IsDamaged, OnStatusDamage};
 ghost use Rattle.run_status.specs.Stops.{status_of};
@@ -50,6 +51,8 @@ pub fn run_merging_batch<S: Source, F: Folder, K: Sink, R: Threads + Sync, G: Ga
     ensures leaves { IsTrue F.told → MergeLeaves (F.files folder.old) (F.files folder.new) result }
     ensures stored { IsTrue F.told
         → TellsStored (F.files folder.old) (K.written out.old) (K.written out.new) result }
+    // a Commit file that is none is left, and all else
+    ensures stays { IsTrue F.told → (Reads (F.files folder.old) → ⊥) → F.files folder.new ≡ F.files folder.old }
     ensures input { IsTrue S.told → ReadsInput (S.left input.old) (S.left input.new) result }
     ensures untouched { DoesNothing result → (folder.new ≡ folder.old) × (out.new ≡ out.old) }
     ensures whole { IsTrue F.told → (state : State) → IsStored (F.files folder.old) state → IsDamaged result → ⊥ }
@@ -84,7 +87,7 @@ fn merge_stored<F: Folder, K: Sink, R: Threads + Sync, G: Gate>(
     out: &mut K,
 ) -> Result<u64, Stop>
     requires { length lines.now ≤ 2 ^ 32 }
-    ensures { MergesBatch (IsTrue F.told) (IsTrue K.told) (Unit {0}) (lines_of lines.now)
+    ensures merges { MergesBatch (IsTrue F.told) (IsTrue K.told) (Unit {0}) (lines_of lines.now)
         (record {
           files = F.files folder.old;
           faults = F.faults folder.old;
@@ -97,6 +100,7 @@ fn merge_stored<F: Folder, K: Sink, R: Threads + Sync, G: Gate>(
           written = K.written out.new;
           sink = K.faults out.new;
         }) (status_of result) }
+    ensures stays { IsTrue F.told → (Reads (F.files folder.old) → ⊥) → F.files folder.new ≡ F.files folder.old }
 {
     match read_commit(work.alloc, folder)? {
         None => tell_none(work.alloc, lines, out),

@@ -1,6 +1,6 @@
 //! The command `batch`: all queries of the input are answered from a copy of the index, and then all is written.
 
-ghost use Rattle.std.specs.Prelude.{◌≡◌, ◌≤◌, ◌^◌, ℕ, Bool, List, length, IsTrue, IfOk, OnOk, IsOk};
+ghost use Rattle.std.specs.Prelude.{◌≡◌, ◌≤◌, ◌^◌, ℕ, Bool, List, length, IsTrue, IfErr, IfOk, OnOk, IsOk, Err};
 ghost use Rattle.outer_io.specs.Faults.{Rose};
 ghost use Rattle.outer_io.specs.Files.{Files};
 ghost use Rattle.page_cache.specs.Causes.{HasPageCause};
@@ -11,6 +11,7 @@ ghost use Rattle.stored_index.specs.Stored.{IsStored};
 ghost use Rattle.index_opening.specs.Evidence.{IsEvident};
 ghost use Rattle.run_status.specs.Causes.{HasCauses, ReadsInput};
 ghost use Rattle.run_status.specs.Ends.{DoesNothing, IsAnswer, IsDamaged, OnStatusDamage};
+ghost use Rattle.run_status.specs.Stops.{status_of, stop_of};
 ghost use Rattle.batch_run.specs.Copies.{IsCommitIn, ReadsListed};
 ghost use Rattle.batch_queries.specs.Batched.{IsBatchText, TellsBatch};
 ghost use Rattle.batch_queries.specs.Ends.{EndsBatch, LeavesNoText, ReadsOnce, StoresSome};
@@ -80,6 +81,8 @@ fn tell<K: Sink>(out: &mut K, done: Result<Text, PageFault>) -> Status
         → IfOk done (λ t. IsBatchText state lines t.bytes.items t.refused)
         → EndsBatch (IsTrue K.told) (TellsBatch state) lines (K.written out.old) (K.written out.new) result }
     ensures damaged { NotDamaged done → IsDamaged result → ⊥ }
+    // each fault is told as what it is
+    ensures faults { IfErr done (λ fault. result ≡ status_of (Err (stop_of fault))) }
     ensures evident { (told : Bool) (files : Files) → OnDamage done (IsEvident (IsTrue told) files)
         → OnStatusDamage result (IsEvident (IsTrue told) files) }
     ensures folder_fault { (old new : ℕ) → HasPageCause old new done → result ≡ Status.FolderFault → Rose old new }

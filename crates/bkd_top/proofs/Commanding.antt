@@ -68,9 +68,9 @@ no_memory_ends told Info b files new keeps same still = (same, still)
 no_memory_ends told (Generate docs seed forks) b files new keeps same still = record { text = still; stored = inl keeps }
 no_memory_ends told (Session cache forks) b files new keeps same still =
     stops_here {told = told} (meaning language.Points) (start b.state (lines_of b.input) b.written) files new still (inl keeps)
-no_memory_ends told (Ranges cache forks) b files new keeps same still = λ ranges.
-    ends_ranges told b.state (lines_of b.input) b.written files new status.Memory ranges
-    (stops_here {told = told} (meaning language.Ranges) (start b.state (lines_of b.input) b.written) files new still (inl keeps))
+no_memory_ends told (Ranges cache forks) b files new keeps same still =
+    let ends = stops_here {told = told} (meaning language.Ranges) (start b.state (lines_of b.input) b.written) files new still (inl keeps) in
+    (ends, λ ranges. ends_ranges told b.state (lines_of b.input) b.written files new status.Memory ranges ends)
 no_memory_ends told (Count cache) b files new keeps same still =
     λ scope is. record {
       done = [];
@@ -138,7 +138,9 @@ module _ (told : Type 0) (w : Words) (b : Before) (files : Files) (new : List �
   session_asked cache forks is ends = subst (λ (a : Task). EndsTask told a b files new s) (sym is) ends
 
   pub ranges_ends : (cache forks : ℕ) → task_of w ≡ Ranges cache forks
-      → (AreRanges b.state → EndsRanges told (start b.state (lines_of b.input) b.written) files new s) → EndsTask told (task_of w) b files new s
+      → Ends (meaning language.Ranges) told (start b.state (lines_of b.input) b.written) files new s
+      × (AreRanges b.state → EndsRanges told (start b.state (lines_of b.input) b.written) files new s)
+      → EndsTask told (task_of w) b files new s
   ranges_ends cache forks is ends = subst (λ (a : Task). EndsTask told a b files new s) (sym is) ends
 
   pub count_ends : (cache : ℕ) → task_of w ≡ Count cache
@@ -222,7 +224,13 @@ pub left_by : (w : Words) (a : Task) (c : Call) (s : Status) → task_of w ≡ a
 left_by w a c s is leaves = subst (λ (b : Task). LeavesTask b c s) (sym is) leaves
 
 no_whole : (files : Files) → WholeLeaves files files status.Memory
-no_whole files = record { levels = λ state h a. absurd a; undone = inl (kept_itself files); lasts = keeps_same _ files files (kept_itself files) }
+no_whole files =
+    record {
+      unchanged = λ count e. refl;
+      levels = λ state h a. absurd a;
+      undone = inl (kept_itself files);
+      lasts = keeps_same _ files files (kept_itself files);
+    }
 
 no_merge : (files : Files) → MergeLeaves files files status.Memory
 no_merge files = record {
@@ -252,7 +260,8 @@ none_left_of (MergingBatch forks) source sink input written files reads =
     record { leaves = no_merge files; stored = record { unwritten = inr refl; answered = λ tells. absurd (tells tt) } }
 none_left_of (Load columns forks) source sink input written files reads = no_whole files
 none_left_of (Generate docs seed forks) source sink input written files reads = no_whole files
-none_left_of Check source sink input written files reads = record { ends = λ told. refl; files = refl; reads = λ pages is. omega arith; named = tt }
+none_left_of Check source sink input written files reads =
+    record { ends = λ told. refl; files = refl; reads = λ pages is. omega arith; named = tt; first = tt }
 none_left_of (Export as_ranges) source sink input written files reads =
     record { ends = inl (λ told. refl); files = refl; reads = λ pages is. omega arith; named = tt }
 none_left_of Info source sink input written files reads = record { ends = λ told. refl; files = refl; reads = λ pages is. omega arith; named = tt }

@@ -79,6 +79,10 @@ pub of_done : {T E P : Type 0} (r : Result T E) → IsOk r → OnOk r P → P
 of_done (Ok x) is p = p
 of_done (Err e) is p = absurd (false≢true is)
 
+-- where a refused one changes no file
+pub refused_same : (P : Type 0) (r : Result Bool PageFault) → r ≡ Ok true → IfOk r (λ refused. refused ≡ true → P) → P
+refused_same P r is h = subst (λ (x : Result Bool PageFault). IfOk x (λ refused. refused ≡ true → P)) is h refl
+
 -- its text is one that began empty
 pub does_from : (files : Files) (stored : State) (a : Answer) (before after text : List ℕ) (r : Result Bool PageFault) → before ≡ [] → text ≡ after
     → DoesWhole files stored a before after r → DoesWhole files stored a [] text r
@@ -86,6 +90,19 @@ does_from files stored a before after text r empty same does =
     subst (λ (t : List ℕ). DoesWhole files stored a [] t r) (sym same) (subst (λ (b : List ℕ). DoesWhole files stored a b after r) empty does)
 
 -- ---- the status of a command that was sent
+
+-- it is told as refused only where it is
+pub sent_refused : (is_refused : Bool) (r : Result ℕ Stop) → IfOk r (λ n. n ≡ cond is_refused 1 0) → (count : ℕ) → status_of r ≡ status.SomeRefused count
+    → is_refused ≡ true
+sent_refused true r known count e = refl
+sent_refused false (Ok n) known count e = absurd (let done = sym (ap (λ m. status_of (Ok m)) known) ∙ e in done_refused done)
+  where
+    done_refused : status.Done ≡ status.SomeRefused count → ⊥
+    done_refused same = cc
+sent_refused false (Err stop.SinkFault) known count e = cc
+sent_refused false (Err stop.FolderFault) known count e = cc
+sent_refused false (Err stop.Memory) known count e = cc
+sent_refused false (Err (stop.Damaged d)) known count e = cc
 
 -- only the sink can fail then
 pub sent_no_folder : {P : Type 0} (r : Result ℕ Stop) → OnErr r (IsErrOf r stop.SinkFault) → IsErrOf r stop.FolderFault → P

@@ -11,8 +11,9 @@ use Rattle.run_status.specs.declared.status.Status.TheVariants as status
 use Rattle.index_core.specs.Brought.{KeepsCommit}
 use Rattle.index_core.specs.Whole.{HasNewCanonical}
 use Rattle.index_core.proofs.Brought.{commit_itself}
-use Rattle.bkd_top.specs.Calls.{Call, LeavesTask, Promises, TakesInput, TellsDamage, before_of}
+use Rattle.bkd_top.specs.Calls.{Call, LeavesTask, OpensTask, Promises, TakesInput, TellsDamage, before_of}
 use Rattle.bkd_top.specs.Commands.{EndsTask, reads_input, reads_whole}
+use Rattle.bkd_top.proofs.Opened.{none_opened}
 use Rattle.bkd_top.proofs.Commanding.{asked_is, called, completes, is_none_and, no_memory_ends, none_left, none_taken, taken_whole, whole_reads}
 
 -- what holds of the call of one command
@@ -24,6 +25,7 @@ pub record PromisesTask (told : Type 0) (a : Task) (c : Call) (left : List ℕ) 
   pub input : IsTrue c.source → TakesInput a c.input left s
   pub canon : told → (state : State) → IsStored c.old state → IsAnswer s → HasNewCanonical c.old c.new
   pub leaves : told → LeavesTask a c s
+  pub opened : told → OpensTask a c.old c.new s
   pub lasting : told → KeepsCommit c.old c.new
   pub damage : TellsDamage told c.old c.new s
   pub causes : HasCauses faults faults_now s
@@ -48,6 +50,7 @@ task_complete told a c left faults faults_now s h = record {
   large = h.large;
   canon = h.canon;
   leaves = h.leaves;
+  opened = h.opened;
   lasting = h.lasting;
   damage = h.damage;
   causes = h.causes;
@@ -71,6 +74,7 @@ usage_promises told o source sink input written files reads faults none = subst 
       large = λ e. absurd cc;
       canon = λ t state stored answer. absurd answer;
       leaves = λ t. tt;
+      opened = λ t. tt;
       lasting = λ t. commit_itself files;
       damage = record { never = λ t state stored damaged. damaged; evident = tt };
       causes = record { source = λ e. absurd cc; folder = λ e. absurd cc; sink = λ e. absurd cc };
@@ -87,6 +91,7 @@ memory_promises told o source sink input written files reads faults = record {
   large = λ e. absurd cc;
   canon = λ t state stored answer. absurd answer;
   leaves = λ t. none_left o source sink input written files reads;
+  opened = λ t. none_opened o files;
   lasting = λ t. commit_itself files;
   damage = record { never = λ t state stored damaged. damaged; evident = tt };
   causes = record { source = λ e. absurd cc; folder = λ e. absurd cc; sink = λ e. absurd cc };

@@ -21,6 +21,7 @@ use Rattle.script_run.specs.declared.language.Language.TheVariants as language
 use Rattle.run_status.specs.Causes.{Counts, HasCauses, NoneRose, ReadsInput}
 use Rattle.run_status.specs.Told.{Teller}
 use Rattle.commands.specs.Looks.{ReadsFew}
+use Rattle.commands.specs.Opens.{OpensOrStays, ReadsOrStays}
 use Rattle.explain_queries.specs.Explained.{IsScope, TellsLine}
 use Rattle.count_queries.specs.Counted as counts
 use Rattle.batch_queries.specs.Ends.{LeavesNoText, ReadsOnce, StoresSome, TellsStored}
@@ -71,9 +72,10 @@ pub record LookCosts {Scope : Type 0} (is : Files → Scope → Type 0) (tells :
   pub files : new ≡ old
   pub reads : source → ReadsFew (is old) (λ s pages. IsOpening old pages) tells lines before now
 
--- A command that is done as a whole leaves few segments of each level. Whatever the folder holds, it loses nothing that
--- is kept where it isn't done, and no number that is kept live
+-- A command that is done as a whole leaves few segments of each level. Whatever the folder holds, it changes no file
+-- where it is refused, loses nothing that is kept where it isn't done, and no number that is kept live
 pub record WholeLeaves (old new : Files) (s : Status) : Type 0 where
+  pub unchanged : (count : ℕ) → s ≡ status.SomeRefused count → new ≡ old
   pub levels : (state : State) → IsStored old state → IsAnswer s → KeepsLevels old new
   pub undone : StatusKeeps old new s
   pub lasts : KeepsLive (λ number. ⊥) old new
@@ -127,6 +129,13 @@ LeavesTask (Export as_ranges) c s =
     Exports (IsTrue c.sink) as_ranges c.old c.new c.written c.written_now c.before c.now s
 LeavesTask Info c s = Informs (IsTrue c.sink) c.old c.new c.written c.written_now c.before c.now s
 
+-- A command answers only where all that the commit lists can be opened, but for `generate` and `export`, which may
+-- refuse before that by what the commit says. Where the Commit file is damaged none of them changes a file.
+abbrev pub OpensTask : Task → (old new : Files) → Status → Type 0
+OpensTask (Generate docs seed forks) old new s = ReadsOrStays (IsAnswer s) old new
+OpensTask (Export as_ranges) old new s = ReadsOrStays (IsAnswer s) old new
+OpensTask _ old new s = OpensOrStays (IsAnswer s) old new
+
 -- ---- the program
 
 -- what stood before the call, over a folder that stores this state
@@ -159,6 +168,9 @@ pub record Promises (told : Type 0) (task : Option Task) (c : Call) (left : List
   pub canon : told → (state : State) → IsStored c.old state → IsAnswer s → HasNewCanonical c.old c.new
   -- what it leaves and costs, whatever the folder holds
   pub leaves : told → OnTask (λ a. LeavesTask a c s) task
+  -- whatever the folder holds, no answer hides a damage of what is opened, nor of the Commit file, and no file changes
+  -- where this is damaged
+  pub opened : told → OnTask (λ a. OpensTask a c.old c.new s) task
   -- whatever it ends with, what was kept is, or a commit of which each listed file is whole
   pub lasting : told → KeepsCommit c.old c.new
   -- why it ended otherwise

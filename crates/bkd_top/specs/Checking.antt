@@ -1,10 +1,11 @@
 -- How checking ends, whatever the folder holds.
-use Rattle.std.specs.Prelude.{ℕ, ◌+◌, ◌≡◌, ◌≤◌, List, ◌++◌}
+use Rattle.std.specs.Prelude.{ℕ, ◌+◌, ◌≡◌, ◌≤◌, IsTrue, List, ◌++◌, true}
 use Rattle.outer_io.specs.Files.{Files}
 use Rattle.outer_io.specs.Parts.{WritesPart}
 use Rattle.stored_index.specs.Stored.{IsUndefined}
 use Rattle.index_opening.specs.Evidence.{IsFound}
 use Rattle.folder_check.specs.Checked.{IsChecked, IsChecking}
+use Rattle.folder_check.specs.First.{IsFirst}
 use Rattle.folder_check.specs.Informed.{IsInformed, IsInforming}
 use Rattle.run_status.specs.Ends.{OnStatusDamage}
 use Rattle.run_status.specs.declared.status.Status.{Status}
@@ -30,13 +31,15 @@ abbrev pub EndsInfo : (told : Type 0) → Files → (old new : List ℕ) → Sta
 EndsInfo told files old new s = EndsTelling (IsInformed files) told files old new s
 
 -- checking tells what the files hold, changes none of them, and reads each page of the Commit file and of those that it
--- lists at most once; where it ends as damaged one of these files is named, and two numbers are a pair of them
+-- lists at most once; where it ends as damaged one of these files is named, two numbers are a pair of them, and it is
+-- the first damage in the order in which a folder is looked through
 pub record Checks (told : Type 0) (old new : Files) (written written_now : List ℕ) (before now : ℕ) (s : Status)
     : Type 0 where
   pub ends : EndsCheck told old written written_now s
   pub files : new ≡ old
   pub reads : (pages : ℕ) → IsChecking old pages → now ≤ before + pages
   pub named : OnStatusDamage s (IsFound old)
+  pub first : OnStatusDamage s (IsFirst (IsTrue true) old)
 
 -- `info` tells how large the index is, changes no file, and reads what opening reads and no leaf
 pub record Informs (told : Type 0) (old new : Files) (written written_now : List ℕ) (before now : ℕ) (s : Status)

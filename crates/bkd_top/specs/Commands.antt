@@ -104,8 +104,8 @@ EndsWhole told b a files new status.TooLarge = Rests told b files new
 
 -- ---- the program
 
--- Explaining, checking, counting, answering a batch and exporting leave what is stored. Of a script of ranges it is
--- said over points that are ranges.
+-- Explaining, checking, counting, answering a batch and exporting leave what is stored. A script of ranges ends as one
+-- of boxes over the points that they are kept as; over points that are ranges, also as one that is said by ranges.
 abbrev pub EndsTask : (told : Type 0) → Task → Before → Files → List ℕ → Status → Type 0
 EndsTask told (Run cache forks) b files new s =
     Ends (meaning language.Points) told (start b.state (lines_of b.input) b.written) files new s
@@ -121,7 +121,8 @@ EndsTask told (Count cache) b files new s =
     (scope : counts.Scope) → counts.IsScope b.files scope
     → EndsTold told (counts.TellsCount scope) (lines_of b.input) b.written new s
 EndsTask told (Ranges cache forks) b files new s =
-    AreRanges b.state → EndsRanges told (start b.state (lines_of b.input) b.written) files new s
+    Ends (meaning language.Ranges) told (start b.state (lines_of b.input) b.written) files new s
+    × (AreRanges b.state → EndsRanges told (start b.state (lines_of b.input) b.written) files new s)
 EndsTask told (Batch forks) b files new s = EndsBatch told (TellsBatch b.state) (lines_of b.input) b.written new s
 EndsTask told (MergingBatch forks) b files new s =
     EndsMerging told (TellsBatch b.state) (lines_of b.input) b.written new s

@@ -1,6 +1,6 @@
 //! Commands that are done at once, with one text: loading and generating.
 
-ghost use Rattle.std.specs.Prelude.{◌≡◌, ◌≤◌, ℕ, Bool, List, length, [], IsTrue, IsOk};
+ghost use Rattle.std.specs.Prelude.{◌≡◌, ◌≤◌, ℕ, Bool, true, List, length, [], IsTrue, IsOk, Ok};
 ghost use Rattle.outer_io.specs.Faults.{Rose};
 ghost use Rattle.outer_io.specs.Files.{Files};
 ghost use Rattle.page_cache.specs.Causes.{HasPageCause};
@@ -11,6 +11,7 @@ ghost use Rattle.stored_index.specs.Stored.{IsStored};
 ghost use Rattle.index_opening.specs.Evidence.{IsEvident};
 ghost use Rattle.drawn_points.specs.Generated.{generate_answer};
 ghost use Rattle.load_points.specs.Loaded.{load_answer};
+ghost use Rattle.commands.specs.Opens.{OpensOrStays, ReadsOrStays};
 ghost use Rattle.index_core.specs.Brought.{KeepsCommit};
 ghost use Rattle.index_core.specs.Steps.{KeepsUndone};
 ghost use Rattle.index_core.specs.Whole.{DoesWhole, HasNewCanonical};
@@ -60,6 +61,7 @@ pub fn run_load<S: Source, F: Folder, K: Sink, R: Threads + Sync, G: Gate>(
         → HasNewCanonical (F.files folder.old) (F.files folder.new) }
     ensures whole { IsTrue F.told → WholeLeaves (F.files folder.old) (F.files folder.new) result }
     ensures lasting { IsTrue F.told → KeepsCommit (F.files folder.old) (F.files folder.new) }
+    ensures opened { IsTrue F.told → OpensOrStays (IsAnswer result) (F.files folder.old) (F.files folder.new) }
     ensures damage { TellsDamage (IsTrue F.told) (F.files folder.old) (F.files folder.new) result }
     ensures causes { HasCauses
         (record { source = S.faults input.old; folder = F.faults folder.old; sink = K.faults out.old })
@@ -105,6 +107,7 @@ fn load_file<F: Folder, K: Sink, R: Threads + Sync, G: Gate>(
         → HasNewCanonical (F.files folder.old) (F.files folder.new) }
     ensures whole { IsTrue F.told → WholeLeaves (F.files folder.old) (F.files folder.new) result }
     ensures lasting { IsTrue F.told → KeepsCommit (F.files folder.old) (F.files folder.new) }
+    ensures opened { IsTrue F.told → OpensOrStays (IsAnswer result) (F.files folder.old) (F.files folder.new) }
     ensures damage { TellsDamage (IsTrue F.told) (F.files folder.old) (F.files folder.new) result }
     ensures folder_fault { result ≡ Status.FolderFault → Rose (F.faults folder.old) (F.faults folder.new) }
     ensures sink_fault { result ≡ Status.SinkFault → Rose (K.faults out.old) (K.faults out.new) }
@@ -146,6 +149,7 @@ pub fn run_generate<F: Folder, K: Sink, R: Threads + Sync, G: Gate>(
         → HasNewCanonical (F.files folder.old) (F.files folder.new) }
     ensures whole { IsTrue F.told → WholeLeaves (F.files folder.old) (F.files folder.new) result }
     ensures lasting { IsTrue F.told → KeepsCommit (F.files folder.old) (F.files folder.new) }
+    ensures opened { IsTrue F.told → ReadsOrStays (IsAnswer result) (F.files folder.old) (F.files folder.new) }
     ensures damage { TellsDamage (IsTrue F.told) (F.files folder.old) (F.files folder.new) result }
     ensures folder_fault { result ≡ Status.FolderFault → Rose (F.faults folder.old) (F.faults folder.new) }
     ensures sink_fault { result ≡ Status.SinkFault → Rose (K.faults out.old) (K.faults out.new) }
@@ -171,6 +175,7 @@ fn tell<K: Sink>(out: &mut K, done: Result<bool, PageFault>, text: &[u8]) -> Sta
         → b.written ≡ K.written out.old
         → EndsWhole (IsTrue K.told) b a files (K.written out.new) result }
     ensures answer { IsAnswer result → IsOk done }
+    ensures refused { (count : ℕ) → result ≡ Status.SomeRefused count → done ≡ Ok true }
     ensures undone { (old new : Files) → KeepsUndone old new done → StatusKeeps old new result }
     ensures folder_fault { (old new : ℕ) → HasPageCause old new done → result ≡ Status.FolderFault → Rose old new }
     ensures damaged { NotDamaged done → IsDamaged result → ⊥ }

@@ -8,7 +8,7 @@ ghost use Rattle.command_words.specs.Commands.{IsWithin, task_in, task_of};
 ghost use Rattle.index_core.specs.Brought.{KeepsCommit};
 ghost use Rattle.index_core.specs.Whole.{HasNewCanonical};
 ghost use Rattle.run_status.specs.Causes.{HasCauses};
-ghost use Rattle.bkd_top.specs.Calls.{LeavesTask, Promises, TakesInput, TellsDamage};
+ghost use Rattle.bkd_top.specs.Calls.{LeavesTask, OpensTask, Promises, TakesInput, TellsDamage};
 ghost use Rattle.bkd_top.specs.Headline.{IsRun, script_end, script_text};
 ghost use Rattle.run_status.specs.Ends.{IsAnswer};
 ghost use Rattle.bkd_top.specs.Commands.{EndsTask, does, is_session, reads_input, reads_whole};
@@ -129,6 +129,8 @@ fn run_command<S: Source, F: Folder, K: Sink, R: Threads + Sync, G: Gate>(
           now = F.reads folder.new;
         }) result }
     ensures lasting { IsTrue F.told → KeepsCommit (F.files folder.old) (F.files folder.new) }
+    ensures opened { IsTrue F.told
+        → OpensTask (task_of words) (F.files folder.old) (F.files folder.new) result }
     ensures damage { TellsDamage (IsTrue F.told) (F.files folder.old) (F.files folder.new) result }
     ensures causes { HasCauses
         (record { source = S.faults input.old; folder = F.faults folder.old; sink = K.faults out.old })

@@ -5,6 +5,7 @@ ghost use Rattle.outer_io.specs.Faults.{Rose};
 ghost use Rattle.script_lang.specs.Lines.{lines_of};
 ghost use Rattle.index_model.specs.State.{State};
 ghost use Rattle.stored_index.specs.Stored.{IsStored};
+ghost use Rattle.commands.specs.Opens.{OpensOrStays};
 ghost use Rattle.index_core.specs.Brought.{KeepsCommit};
 ghost use Rattle.index_core.specs.Whole.{HasNewCanonical};
 ghost use Rattle.run_status.specs.Causes.{HasCauses, ReadsInput};
@@ -49,6 +50,7 @@ pub fn run_script<S: Source, F: Folder, K: Sink, R: Threads + Sync, G: Gate>(
         → RunCosts Points (lines_of (S.left input.old)) (F.files folder.old) (F.files folder.new) (F.reads folder.old)
         (F.reads folder.new) result }
     ensures lasting { IsTrue F.told → KeepsCommit (F.files folder.old) (F.files folder.new) }
+    ensures opened { IsTrue F.told → OpensOrStays (IsAnswer result) (F.files folder.old) (F.files folder.new) }
     ensures damage { TellsDamage (IsTrue F.told) (F.files folder.old) (F.files folder.new) result }
     ensures causes { HasCauses
         (record { source = S.faults input.old; folder = F.faults folder.old; sink = K.faults out.old })
@@ -77,8 +79,11 @@ pub fn run_ranges<S: Source, F: Folder, K: Sink, R: Threads + Sync, G: Gate>(
     gate: &G,
 ) -> Status
     ensures never_usage { result ≡ Status.Usage → ⊥ }
-    // over points that are ranges it is the script that is said by the points of ranges
     ensures ends { IsTrue S.told → IsTrue F.told → (state : State) → IsStored (F.files folder.old) state
+        → Ends (meaning Ranges) (IsTrue K.told) (start state (lines_of (S.left input.old)) (K.written out.old))
+        (F.files folder.new) (K.written out.new) result }
+    // over points that are ranges it is the script that is said by the points of ranges
+    ensures ranges { IsTrue S.told → IsTrue F.told → (state : State) → IsStored (F.files folder.old) state
         → AreRanges state
         → EndsRanges (IsTrue K.told) (start state (lines_of (S.left input.old)) (K.written out.old))
         (F.files folder.new) (K.written out.new) result }
@@ -90,6 +95,7 @@ pub fn run_ranges<S: Source, F: Folder, K: Sink, R: Threads + Sync, G: Gate>(
         → RunCosts Ranges (lines_of (S.left input.old)) (F.files folder.old) (F.files folder.new) (F.reads folder.old)
         (F.reads folder.new) result }
     ensures lasting { IsTrue F.told → KeepsCommit (F.files folder.old) (F.files folder.new) }
+    ensures opened { IsTrue F.told → OpensOrStays (IsAnswer result) (F.files folder.old) (F.files folder.new) }
     ensures damage { TellsDamage (IsTrue F.told) (F.files folder.old) (F.files folder.new) result }
     ensures causes { HasCauses
         (record { source = S.faults input.old; folder = F.faults folder.old; sink = K.faults out.old })
@@ -128,6 +134,7 @@ pub fn run_session<S: Source, F: Folder, K: Sink, R: Threads + Sync, G: Gate>(
         → RunCosts Points (lines_of (S.left input.old)) (F.files folder.old) (F.files folder.new) (F.reads folder.old)
         (F.reads folder.new) result }
     ensures lasting { IsTrue F.told → KeepsCommit (F.files folder.old) (F.files folder.new) }
+    ensures opened { IsTrue F.told → OpensOrStays (IsAnswer result) (F.files folder.old) (F.files folder.new) }
     ensures damage { TellsDamage (IsTrue F.told) (F.files folder.old) (F.files folder.new) result }
     ensures causes { HasCauses
         (record { source = S.faults input.old; folder = F.faults folder.old; sink = K.faults out.old })
@@ -163,6 +170,7 @@ fn run_whole<S: Source, F: Folder, K: Sink, R: Threads + Sync, G: Gate>(
         → RunCosts work.now.language (lines_of (S.left input.old)) (F.files folder.old) (F.files folder.new)
         (F.reads folder.old) (F.reads folder.new) result }
     ensures lasting { IsTrue F.told → KeepsCommit (F.files folder.old) (F.files folder.new) }
+    ensures opened { IsTrue F.told → OpensOrStays (IsAnswer result) (F.files folder.old) (F.files folder.new) }
     ensures damage { TellsDamage (IsTrue F.told) (F.files folder.old) (F.files folder.new) result }
     ensures causes { HasCauses
         (record { source = S.faults input.old; folder = F.faults folder.old; sink = K.faults out.old })
@@ -194,6 +202,7 @@ fn run_text<F: Folder, K: Sink, R: Threads + Sync, G: Gate>(
         → RunCosts work.now.language (lines_of script.now) (F.files folder.old) (F.files folder.new)
         (F.reads folder.old) (F.reads folder.new) result }
     ensures lasting { IsTrue F.told → KeepsCommit (F.files folder.old) (F.files folder.new) }
+    ensures opened { IsTrue F.told → OpensOrStays (IsAnswer result) (F.files folder.old) (F.files folder.new) }
     ensures damage { TellsDamage (IsTrue F.told) (F.files folder.old) (F.files folder.new) result }
     ensures folder_fault { result ≡ Status.FolderFault → Rose (F.faults folder.old) (F.faults folder.new) }
     ensures sink_fault { result ≡ Status.SinkFault → Rose (K.faults out.old) (K.faults out.new) }
@@ -221,6 +230,7 @@ fn run_source<S: Source, F: Folder, K: Sink, R: Threads + Sync, G: Gate>(
         → RunCosts work.now.language (lines_of (S.left input.old)) (F.files folder.old) (F.files folder.new)
         (F.reads folder.old) (F.reads folder.new) result }
     ensures lasting { IsTrue F.told → KeepsCommit (F.files folder.old) (F.files folder.new) }
+    ensures opened { IsTrue F.told → OpensOrStays (IsAnswer result) (F.files folder.old) (F.files folder.new) }
     ensures damage { TellsDamage (IsTrue F.told) (F.files folder.old) (F.files folder.new) result }
     ensures causes { HasCauses
         (record { source = S.faults input.old; folder = F.faults folder.old; sink = K.faults out.old })

@@ -1,11 +1,15 @@
 -- What a command that looks promises, from what it does on its lines.
-use Rattle.std.proofs.Common.{◌≡◌, ℕ, List, IsTrue, sym, ap, subst, ◌∙◌, ◌⊎◌, inl, inr, arith}
+use Rattle.std.proofs.Common.{◌≡◌, ℕ, List, Result, Ok, Err, IsTrue, refl, sym, ap, subst, ◌∙◌, ◌⊎◌, inl, inr, arith}
+use Rattle.std.specs.Prelude.{IsOk}
 use Rattle.outer_io.specs.Files.{Files}
 use Rattle.page_cache.specs.declared.faults.Damage.{Damage}
 use Rattle.segment_file.specs.Heads.{Head}
 use Rattle.script_lang.specs.Lines.{lines_of}
 use Rattle.index_opening.specs.Evidence.{IsEvident}
-use Rattle.run_status.specs.Ends.{DoesNothing, IsDamaged, OnStatusDamage}
+use Rattle.run_status.specs.Ends.{DoesNothing, IsAnswer, IsDamaged, OnStatusDamage}
+use Rattle.run_status.specs.Stops.{status_of}
+use Rattle.run_status.specs.declared.stop.Stop.{Stop}
+use Rattle.run_status.specs.declared.stop.Stop.TheVariants as stop
 use Rattle.run_status.specs.Told.{EndsLines, EndsTold, Teller}
 use Rattle.run_status.specs.declared.status.Status.{Status}
 use Rattle.run_status.specs.declared.status.Status.TheVariants as status
@@ -53,6 +57,25 @@ unread_whole status.FolderFault u d = d
 unread_whole status.SinkFault u d = d
 unread_whole (status.Damaged damage) u d = u
 
+unread_no_answer : (s : Status) → IsUnread s → IsAnswer s → ⊥
+unread_no_answer status.SourceFault u a = a
+unread_no_answer status.TooLarge u a = a
+unread_no_answer status.Memory u a = a
+unread_no_answer status.Usage u a = a
+unread_no_answer status.Done u a = u
+unread_no_answer (status.SomeRefused count) u a = u
+unread_no_answer status.FolderFault u a = a
+unread_no_answer status.SinkFault u a = a
+unread_no_answer (status.Damaged damage) u a = a
+
+-- what is answered was done
+pub answer_ok : (r : Result ℕ Stop) → IsAnswer (status_of r) → IsOk r
+answer_ok (Ok n) a = refl
+answer_ok (Err stop.SinkFault) a = absurd a
+answer_ok (Err stop.FolderFault) a = absurd a
+answer_ok (Err stop.Memory) a = absurd a
+answer_ok (Err (stop.Damaged damage)) a = absurd a
+
 module _ {Scope : Type 0} (is : Files → Scope → Type 0) (heads : Scope → List Head) (are : AreScopes is heads) (tells : Scope → Teller) (step : Step)
     (s : Status)
     (p : Promises (LooksAll is tells) step s) where
@@ -65,6 +88,7 @@ module _ {Scope : Type 0} (is : Files → Scope → Type 0) (heads : Scope → L
         (subst (λ (text : List ℕ). EndsLines (IsTrue step.tells.sink) (tells scope) 1 0 (lines_of text) step.old.written step.new.written d.result)
         (d.read source) (d.did.ends told scope i)));
     files = d.did.files;
+    opened = λ told answer. d.did.opened told (answer_ok d.result (subst IsAnswer d.status answer));
     reads = λ source told.
         subst (λ (text : List ℕ). ReadsFew (is step.old.files) (λ scope pages. IsOpening step.old.files pages) tells (lines_of text) step.old.reads
         step.new.reads)
@@ -88,6 +112,7 @@ module _ {Scope : Type 0} (is : Files → Scope → Type 0) (heads : Scope → L
     never_usage = λ e. subst IsUnread e n.unread;
     ends = λ source told scope i. unread_ends _ (tells scope) _ _ _ s n.unread (ap (λ (m : Moment). m.written) n.rest);
     files = λ told. ap (λ (m : Moment). m.files) n.rest;
+    opened = λ told answer. absurd (unread_no_answer s n.unread answer);
     reads = λ source told scope i pages o t all. let same = ap (λ (m : Moment). m.reads) n.rest in omega (arith, same);
     input = p.input;
     whole = λ told state stored. unread_whole s n.unread;

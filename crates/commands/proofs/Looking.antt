@@ -1,5 +1,7 @@
 -- How lines are answered over a folder, from what was done before the first line.
-use Rattle.std.proofs.Common.{◌≡◌, ◌≤◌, ◌+◌, ◌/◌, ℕ, List, length, None, Some, Result, Err, IsTrue, refl, sym, ap, subst, ◌∙◌, ⊎_elim, arith}
+use Rattle.std.proofs.Common.{◌≡◌, ◌≤◌, ◌+◌, ◌/◌, ℕ, List, length, None, Some, Result, Err, IsTrue, inl, refl, sym, ap, subst, ◌∙◌, ⊎_elim, arith, false}
+use Rattle.std.proofs.lemmas.Bool.{false≢true}
+use Rattle.std.specs.Prelude.{IsOk}
 use Rattle.outer_io.specs.declared.file_name.FileName.TheVariants.{Commit}
 use Rattle.outer_io.specs.Files.{Files, bytes_of}
 use Rattle.page_cache.specs.declared.faults.PageFault.{PageFault}
@@ -26,6 +28,7 @@ use Rattle.world.specs.Runs.{Fit, RunsLines}
 use Rattle.world.specs.Steps.{Moment, Step, Tells}
 use Rattle.world.proofs.Listing.{stop_evident}
 use Rattle.commands.specs.Looks.{Looks, LooksAll, LooksOver}
+use Rattle.commands.specs.Opens.{Opens}
 
 -- before the lines no file changed, nothing went out, and no fault was forgotten
 pub record Before (known : Type 0) (a b : Moment) : Type 0 where
@@ -37,11 +40,13 @@ pub record Before (known : Type 0) (a b : Moment) : Type 0 where
 module _ {Scope : Type 0} (tells : Scope → Teller) (lines : List (List ℕ)) where
   -- something answered them that fits each scope
   pub looks_runs : {It : Type 0} (fits : Fit It Scope) (old new : It) (known : Type 0) (is : Scope → Type 0) (step : Step) (r : Result ℕ Stop)
-      → (known → IsTrue step.tells.folder) → (known → fits old step.old.files None) → (known → (s : Scope) → is s → fits old step.old.files (Some s))
+      → (known → IsTrue step.tells.folder) → (known → Opens step.old.files)
+      → (known → fits old step.old.files None) → (known → (s : Scope) → is s → fits old step.old.files (Some s))
       → RunsLines fits tells lines old new step r → Looks known is (λ s pages. pages ≡ 0) tells lines step r
-  looks_runs fits old new known is step r told none some h = record {
+  looks_runs fits old new known is step r told opens none some h = record {
     ends = λ k s i. h.does (told k) s (some k s i);
     files = λ k. h.files (told k);
+    opened = λ k ok. opens k;
     reads = λ k s i pages e t all. let few = h.reads (told k) s (some k s i) t all in omega (arith, few, e);
     cause = h.cause;
     evident = stop_evident (IsTrue step.tells.folder × fits old step.old.files None) known step.old.files step.old.files r (λ k. (told k, none k)) (λ k. refl)
@@ -57,6 +62,7 @@ module _ {Scope : Type 0} (tells : Scope → Teller) (lines : List (List ℕ)) w
   looks_after t a b c known knew is was opens opened r before knows scopes few h = record {
     ends = λ k s i. subst (λ (w : List ℕ). EndsLines (IsTrue t.sink) (tells s) 1 0 lines w c.written r) before.written (h.ends (knows k) s (scopes k s i));
     files = λ k. h.files (knows k) ∙ before.files k;
+    opened = λ k ok. subst Opens (before.files k) (h.opened (knows k) ok);
     reads = λ k s i pages o u all.
         let first = few k s i pages o in
         let under = first.2 in let more = h.reads (knows k) s (scopes k s i) first.0 first.1 u all in omega (arith, under, more);
@@ -74,6 +80,7 @@ module _ {Scope : Type 0} (tells : Scope → Teller) (lines : List (List ℕ)) w
   looks_fault {X} t a b known is opens fault r e before cause whole reads shows = record {
     ends = λ k s i. unread_ends (IsTrue t.sink) (tells s) 1 0 lines a.written b.written fault (whole k s i) r e before.written;
     files = before.files;
+    opened = λ k ok. absurd (false≢true (subst (λ (x : Result ℕ Stop). IsOk x) e ok));
     reads = λ k s i pages o u all. let few = reads k s i pages o in omega (arith, few);
     cause = subst (λ (n : ℕ). HasStopCause a.folder_faults b.folder_faults a.sink_faults n r) (sym before.sink_same)
         (fault_cause {S = X} a.folder_faults b.folder_faults a.sink_faults fault cause r e);
@@ -87,6 +94,7 @@ module _ {Scope : Type 0} (tells : Scope → Teller) (lines : List (List ℕ)) w
   looks_no_memory t a b known is opens before reads = record {
     ends = λ k s i. none_told (IsTrue t.sink) (tells s) 1 lines a.written b.written before.written;
     files = before.files;
+    opened = λ k ok. absurd (false≢true ok);
     reads = λ k s i pages o u all. let few = reads k s i pages o in omega (arith, few);
     cause = record { folder_later = before.folder_later; sink_later = omega (arith, before.sink_same); folder = λ e. absurd cc; sink = λ e. absurd cc };
     evident = tt;
@@ -142,10 +150,12 @@ module _ {Scope : Type 0} (is : Files → Scope → Type 0) (heads : Scope → L
         over
 
     -- there is no commit, and lines were answered without an index
-    pub looks_none : {It : Type 0} (fits : Fit It Scope) (old new : It) → (IsTrue t.folder → b.reads ≡ a.reads) → (IsTrue t.folder → fits old b.files None)
+    pub looks_none : {It : Type 0} (fits : Fit It Scope) (old new : It) → (IsTrue t.folder → b.reads ≡ a.reads)
+        → (IsTrue t.folder → a.files Commit ≡ None) → (IsTrue t.folder → fits old b.files None)
         → (IsTrue t.folder → (s : Scope) → is a.files s → fits old b.files (Some s))
         → RunsLines fits tells lines old new (record { tells = t; old = b; new = c }) r → LooksAll is tells lines (record { tells = t; old = a; new = c }) r
-    looks_none fits old new unread none some runs =
+    looks_none fits old new unread bare none some runs =
         looks_after tells lines t a b c _ _ _ _ _ _ r before (λ k. k) (λ k s i. i)
         (λ k s i pages o. (0, refl, let same = unread k in omega (arith, same)))
-        (looks_runs tells lines fits old new (IsTrue t.folder) (is a.files) (record { tells = t; old = b; new = c }) r (λ k. k) none some runs)
+        (looks_runs tells lines fits old new (IsTrue t.folder) (is a.files) (record { tells = t; old = b; new = c }) r (λ k. k)
+        (λ k. inl (ap (λ (f : Files). f Commit) (before.files k) ∙ bare k)) none some runs)

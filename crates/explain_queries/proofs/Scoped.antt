@@ -12,20 +12,24 @@ use Rattle.commit_list.proofs.CommitPages.{file_there, one_file}
 use Rattle.segment_file.specs.Heads.{Head}
 use Rattle.segment_file.specs.Segments.{IsHeadOf}
 use Rattle.segment_file.proofs.Unique.{head_of_segment}
-use Rattle.segment_view.specs.LiveSegments.{Contents, IsRead, LiveSegment, heads_of}
+use Rattle.segment_view.specs.LiveSegments.{Contents, IsRead, LiveSegment, heads_of, lives_of}
 use Rattle.index_model.specs.State.{Index, State}
-use Rattle.stored_index.specs.Stored.{HasHead, HaveHeads, HaveLive, IsStored, index_of}
+use Rattle.stored_index.specs.Stored.{HasHead, HasLive, HaveHeads, HaveLive, IsStored, index_of}
 use Rattle.stored_index.specs.Segments.{live_sets}
 use Rattle.stored_index.specs.Opening.{IsOpening, segments_pages}
+use Rattle.stored_index.proofs.Pairwise.{held_of}
 use Rattle.stored_index.proofs.Parts.{head_in, heads_once, held_heads, held_sets}
 use Rattle.stored_index.proofs.Whole.{held_for}
 use Rattle.segment_set.specs.Sets.{SetData}
 use Rattle.segment_set.specs.Seen.{Sees}
+use Rattle.segment_set.specs.Faithful.{HasFileHead, IsFaithful}
 use Rattle.segment_set.specs.Kept.{IsAtRest}
 use Rattle.documents.proofs.Lists.{in_map, of_map}
 use Rattle.index_opening.specs.Evidence.{IsOfListed}
 use Rattle.commands.proofs.Looking as looking
 use Rattle.commands.proofs.Looking.{AreScopes}
+use Rattle.commands.proofs.Opening.{opens_parts}
+use Rattle.commands.specs.Opens.{Opens}
 use Rattle.explain_queries.specs.Explained.{AreStoredHeads, IsScope, Scope, scope_heads}
 use Rattle.explain_queries.specs.Explains.{IsExplaining}
 
@@ -132,3 +136,10 @@ attached_part files c set says rest p there =
     let l = of_map (λ (l : Listed). l.segment) c.listed p.head.id (subst (λ (ns : List ℕ). Contains ns p.head.id) rest.as_committed.ids
     (in_map (λ (q : LiveSegment). q.head.id) set.parts p there)) in
     record { commit = c; says = says; listed = l.0; there = l.1; is = inl (ap (λ (n : ℕ). Segment n) (sym l.2)) }
+
+-- all that the commit lists was opened
+pub attached_opens : (D : ℕ) (files : Files) (c : CommitData) (set : SetData) → c.dims ≡ D → IsCommitFile (bytes_of (files Commit)) c → IsAtRest set c
+    → HaveLive files c (lives_of set.parts) → IsFaithful D files set → Opens files
+attached_opens D files c set dims says rest lives faithful =
+    opens_parts files c set.parts says rest.as_committed.ids (subst (λ (n : ℕ). All (HasFileHead n files) set.parts) (sym dims) faithful.heads)
+    (λ l p there inside is. held_of (HasLive files) c.listed (lives_of set.parts) lives l there)

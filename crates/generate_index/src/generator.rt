@@ -1,6 +1,7 @@
 //! Makes an index of drawn documents in a folder that has none, and says what drawn queries find in it.
 
-ghost use Rattle.std.specs.Prelude.{◌≡◌, ◌≤◌, ◌<◌, ◌^◌, ◌+◌, ◌-◌, ◌*◌, ℕ, cond, true, length, None, IsTrue, IfOk, OnOk};
+ghost use Rattle.std.specs.Prelude.{◌≡◌, ◌≤◌, ◌<◌, ◌^◌, ◌+◌, ◌-◌, ◌*◌, ℕ, cond, true, length, None, IsTrue};
+ghost use Rattle.std.specs.Prelude.{IfOk, IsOk, OnOk};
 ghost use Rattle.std.specs.List.{sum_by};
 ghost use Rattle.outer_io.specs.Files.{Files};
 ghost use Rattle.outer_io.specs.declared.file_name.FileName.TheVariants.{Commit as CommitName};
@@ -10,6 +11,7 @@ ghost use Rattle.documents.specs.Nearest.{found_of};
 ghost use Rattle.index_model.specs.State.{State};
 ghost use Rattle.stored_index.specs.Stored.{IsStored};
 ghost use Rattle.index_opening.specs.Evidence.{IsEvident};
+ghost use Rattle.commands.specs.Opens.{ReadsOrStays};
 ghost use Rattle.segment_set.specs.Faithful.{IsFaithful};
 ghost use Rattle.index_core.specs.Brought.{KeepsCommit};
 ghost use Rattle.index_core.specs.Sessions.{Guards, IsSetTraced};
@@ -79,6 +81,7 @@ pub fn generate<R: Threads + Sync, F: Folder, G: Gate>(
     ensures undone { IsTrue F.told → KeepsUndone (F.files folder.old) (F.files folder.new) result }
     ensures lasting { IsTrue F.told → KeepsCommit (F.files folder.old) (F.files folder.new) }
     ensures lasts { IsTrue F.told → KeepsLive (λ number. ⊥) (F.files folder.old) (F.files folder.new) }
+    ensures opened { IsTrue F.told → ReadsOrStays (IsOk result) (F.files folder.old) (F.files folder.new) }
     ensures cause { HasPageCause (F.faults folder.old) (F.faults folder.new) result }
     ensures evident { OnDamage result (IsEvident (IsTrue F.told) (F.files folder.new)) }
 {

@@ -1,11 +1,13 @@
 -- A session is opened: where it starts, and what it knows of the files there.
-use Rattle.std.proofs.Common.{◌≡◌, ℕ, List, [], None, Some, refl, sym, ap, subst, ◌∙◌}
+use Rattle.std.proofs.Common.{◌≡◌, ℕ, All, List, [], None, Some, refl, sym, ap, subst, ◌∙◌}
 use Rattle.std.specs.List.{Contains}
 use Rattle.outer_io.specs.declared.file_name.FileName.TheVariants.{Commit}
 use Rattle.outer_io.specs.Files.{Files, bytes_of}
 use Rattle.commit_list.specs.Commits.{CommitData}
 use Rattle.commit_list.specs.CommitFiles.{IsCommitFile}
-use Rattle.commit_list.proofs.CommitPages.{file_there}
+use Rattle.commit_list.proofs.CommitPages.{file_there, one_file}
+use Rattle.commands.specs.Opens.{Opens}
+use Rattle.commands.proofs.Opening.{opens_parts}
 use Rattle.index_model.specs.State.{Index, State, new_index}
 use Rattle.script_lang.specs.Reading.{greatest_leaf}
 use Rattle.stored_index.specs.Stored.{IsStored, index_of}
@@ -13,9 +15,9 @@ use Rattle.stored_index.proofs.Whole.{held_for}
 use Rattle.documents.proofs.Lists.{nil_none}
 use Rattle.segment_view.specs.LiveSegments.{LiveSegment}
 use Rattle.segment_set.specs.Seen.{Sees}
-use Rattle.segment_set.specs.Faithful.{IsFaithful}
+use Rattle.segment_set.specs.Faithful.{HasFileHead, IsFaithful}
 use Rattle.index_core.specs.KeptLive.{FindsKept, IsKeptWithout}
-use Rattle.index_core.specs.Sessions.{Guards, IsSetTraced, IsUnchanged, SessionData}
+use Rattle.index_core.specs.Sessions.{Guards, IsLast, IsLastCommit, IsSetTraced, IsUnchanged, SessionData}
 use Rattle.index_core.proofs.Guarding.{says_some}
 use Rattle.index_core.proofs.Listed.{attached_listed}
 use Rattle.load_points.specs.Loaded.{opened_state}
@@ -54,6 +56,16 @@ attached_loading D files c s stored seen guards unchanged (says, (i, is, holds))
   is = ap (opened_state D) is;
   listed = attached_listed D files s guards unchanged;
 }
+
+-- all that the commit lists was opened by the session that was attached
+pub attached_opens : (D : ℕ) (files : Files) (c : CommitData) (s : SessionData) → c.dims ≡ D → IsCommitFile (bytes_of (files Commit)) c → Guards D files s
+    → IsFaithful D files s.set → IsUnchanged s → Opens files
+attached_opens D files c s dims says guards faithful unchanged =
+    let last : IsLastCommit files s.set unchanged.commit = subst (IsLast files s.set) unchanged.is (guards.last unchanged.done) in
+    let same = ap (λ (d : CommitData). d.dims) (one_file (bytes_of (files Commit)) unchanged.commit c last.says says) ∙ dims in
+    opens_parts files unchanged.commit s.set.parts last.says unchanged.same.ids
+    (subst (λ (n : ℕ). All (HasFileHead n files) s.set.parts) (sym same) faithful.heads)
+    (λ l p there inside is. let k = last.covers l p there inside is in (k.live, k.file))
 
 -- ---- the files are trusted, and what they keep live is there
 

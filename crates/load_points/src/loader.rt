@@ -1,7 +1,7 @@
 //! The points of a file go into the index of a folder.
 
 ghost use Rattle.std.specs.Prelude.{◌≡◌, ◌≤◌, ◌<◌, ◌+◌, ◌^◌, MatchOption, true, length, None, Ok, Err, IsTrue};
-ghost use Rattle.std.specs.Prelude.{IfOk, OnOk};
+ghost use Rattle.std.specs.Prelude.{IfOk, IsOk, OnOk};
 ghost use Rattle.outer_io.specs.Files.{bytes_of};
 ghost use Rattle.outer_io.specs.declared.file_name.FileName.TheVariants.{Commit as CommitName};
 ghost use Rattle.page_cache.specs.Causes.{HasPageCause};
@@ -10,6 +10,7 @@ ghost use Rattle.commit_list.specs.CommitFiles.{IsCommitFile};
 ghost use Rattle.index_model.specs.State.{State};
 ghost use Rattle.stored_index.specs.Stored.{IsStored};
 ghost use Rattle.index_opening.specs.Evidence.{IsEvident};
+ghost use Rattle.commands.specs.Opens.{Opens, OpensOrStays};
 ghost use Rattle.segment_set.specs.AtOnce.{AreNumbered, points_in};
 ghost use Rattle.index_core.specs.Brought.{KeepsCommit};
 ghost use Rattle.index_core.specs.KeptLive.{KeepsLive};
@@ -59,6 +60,7 @@ pub fn load<R: Threads + Sync, F: Folder, G: Gate>(
     ensures undone { IsTrue F.told → KeepsUndone (F.files folder.old) (F.files folder.new) result }
     ensures lasting { IsTrue F.told → KeepsCommit (F.files folder.old) (F.files folder.new) }
     ensures lasts { IsTrue F.told → KeepsLive (λ number. ⊥) (F.files folder.old) (F.files folder.new) }
+    ensures opened { IsTrue F.told → OpensOrStays (IsOk result) (F.files folder.old) (F.files folder.new) }
     ensures cause { HasPageCause (F.faults folder.old) (F.faults folder.new) result }
     ensures evident { OnDamage result (IsEvident (IsTrue F.told) (F.files folder.new)) }
 {
@@ -129,10 +131,12 @@ fn load_stored<R: Threads + Sync, F: Folder, G: Gate>(
 ) -> Result<bool, PageFault>
     requires some { 1 ≤ length columns.now }
     requires few { length columns.now ≤ 8 }
-    ensures { Loads (IsTrue F.told) (IsCommitFile (bytes_of (F.files folder.old CommitName)) commit)
+    ensures loads { Loads (IsTrue F.told) (IsCommitFile (bytes_of (F.files folder.old CommitName)) commit)
         (StartsFrom (F.files folder.old) commit) (λ stored. load_answer stored input.now columns.now)
         (record { files = F.files folder.old; faults = F.faults folder.old; text = text.old.items })
         (record { files = F.files folder.new; faults = F.faults folder.new; text = text.new.items }) result }
+    ensures opened { IsTrue F.told → IsCommitFile (bytes_of (F.files folder.old CommitName)) commit → IsOk result
+        → Opens (F.files folder.old) }
 {
     match commit.dims() {
         1 => load_over::<1, R, F, G>(work, commit, columns, input, folder, text),
@@ -160,10 +164,12 @@ fn load_over<const D: usize, R: Threads + Sync, F: Folder, G: Gate>(
     requires most_dims { D ≤ 8 }
     requires some { 1 ≤ length columns.now }
     requires few { length columns.now ≤ 8 }
-    ensures { Loads (IsTrue F.told) (IsCommitFile (bytes_of (F.files folder.old CommitName)) commit)
+    ensures loads { Loads (IsTrue F.told) (IsCommitFile (bytes_of (F.files folder.old CommitName)) commit)
         (StartsFrom (F.files folder.old) commit) (λ stored. load_answer stored input.now columns.now)
         (record { files = F.files folder.old; faults = F.faults folder.old; text = text.old.items })
         (record { files = F.files folder.new; faults = F.faults folder.new; text = text.new.items }) result }
+    ensures opened { IsTrue F.told → IsCommitFile (bytes_of (F.files folder.old CommitName)) commit → IsOk result
+        → Opens (F.files folder.old) }
 {
     match Session::<D>::attach(work.alloc, folder, commit, work.settings) {
         Ok(mut session) => load_open(work, &mut session, columns, input, folder, text),

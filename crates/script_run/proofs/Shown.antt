@@ -9,6 +9,7 @@ use Rattle.page_cache.specs.Evidence.{FaultShows, OnDamage}
 use Rattle.index_opening.specs.Evidence.{IsEvident, IsEvidentSince, IsEvidentWith, IsOfListed, IsOfEntries, MayBeNeeded}
 use Rattle.segment_set.specs.Faithful.{IsFaithful}
 use Rattle.segment_set.specs.Sets.{SetData}
+use Rattle.commands.specs.Opens.{Opens}
 use Rattle.index_core.specs.Carried.{AreOfListed, Carries, IsEvidentOver, IsFileOf}
 use Rattle.index_core.specs.KeptLive.{FindsKept}
 use Rattle.script_run.specs.Origins.{KnowsFolder}
@@ -98,7 +99,7 @@ stop_carried S T f g h s t result less carries =
 -- what is attached knows the files, which stay
 pub attached_knows : (D : ℕ) (old new : Files) (result : Result SessionData PageFault) → new ≡ old → IfOk result (Guards D old)
     → IfOk result (λ s. IsFaithful D old s.set) → IfOk result (λ s. IsSetTraced D old s.set) → IfOk result (λ s. FindsKept D old s.set)
-    → IfOk result (λ s. AreOfListed old s.set) → IfOk result (KnowsFolder D new)
-attached_knows D old new (Ok s) same guards faithful traced finds own = subst (λ (f : Files). KnowsFolder D f s) (sym same)
-    (record { trusts = record { guards = guards; faithful = faithful; traced = traced }; finds = finds; own = own })
-attached_knows D old new (Err e) same guards faithful traced finds own = tt
+    → IfOk result (λ s. AreOfListed old s.set) → IfOk result (λ s. Opens old) → IfOk result (KnowsFolder D new)
+attached_knows D old new (Ok s) same guards faithful traced finds own opens = subst (λ (f : Files). KnowsFolder D f s) (sym same)
+    (record { trusts = record { guards = guards; faithful = faithful; traced = traced }; finds = finds; own = own; opens = opens })
+attached_knows D old new (Err e) same guards faithful traced finds own opens = tt

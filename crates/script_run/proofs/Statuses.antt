@@ -1,5 +1,6 @@
 -- The status of lines that come from a source, from how they ended.
 use Rattle.std.proofs.Common.{◌≡◌, ◌==◌, ◌⊎◌, ℕ, Bool, true, false, List, Result, Ok, Err, OnOk, refl, subst, inl, inr}
+use Rattle.std.specs.Prelude.{IsOk}
 use Rattle.outer_io.specs.Counts.{Rose}
 use Rattle.outer_io.specs.Files.{Files}
 use Rattle.page_cache.specs.declared.faults.Damage.{Damage}
@@ -134,3 +135,12 @@ nothing_done status.SinkFault d never = absurd d
 nothing_done status.Memory d never = absurd d
 nothing_done status.FolderFault d never = absurd d
 nothing_done (status.Damaged damage) d never = absurd d
+
+-- lines that are answered were done
+pub answered_ok : (done : Result ℕ Halt) → IsAnswer (status_of_lines done) → IsOk done
+answered_ok (Ok count) a = refl
+answered_ok (Err halt.Source) a = absurd a
+answered_ok (Err (halt.Stopped stop.FolderFault)) a = absurd a
+answered_ok (Err (halt.Stopped stop.Memory)) a = absurd a
+answered_ok (Err (halt.Stopped stop.SinkFault)) a = absurd a
+answered_ok (Err (halt.Stopped (stop.Damaged damage))) a = absurd a

@@ -5,6 +5,7 @@ use Rattle.outer_io.specs.Files.{Files, bytes_of}
 use Rattle.commit_list.specs.CommitFiles.{IsCommitFile}
 use Rattle.index_model.specs.State.{Index, State, new_index}
 use Rattle.stored_index.specs.Stored.{IsStored}
+use Rattle.commands.specs.Opens.{Opens}
 use Rattle.index_core.specs.Carried.{AreOfListed}
 use Rattle.index_core.specs.KeptLive.{FindsKept}
 use Rattle.index_core.specs.Sessions.{SessionData, Trusts}
@@ -29,12 +30,13 @@ IsFrom files (origin.New dims leaf_size) i stored = (files Commit ≡ None) × (
 IsFrom files (origin.Stored commit) i stored = IsCommitFile (bytes_of (files Commit)) commit × IsStored files (Some i)
     × (stored ≡ Some i)
 
--- The session knows the folder: what it keeps of the files is theirs, what the commit keeps live is found in it, and it
--- has no segment that the commit doesn't list.
+-- The session knows the folder: what it keeps of the files is theirs, what the commit keeps live is found in it, it has
+-- no segment that the commit doesn't list, and all that this lists can be opened.
 pub record KnowsFolder (D : ℕ) (files : Files) (s : SessionData) : Type 0 where
   pub trusts : Trusts D files s
   pub finds : FindsKept D files s.set
   pub own : AreOfListed files s.set
+  pub opens : Opens files
 
 -- no index is there, or the folder's commit is this
 abbrev pub IsOriginOf : Files → Origin → Type 0

@@ -1,7 +1,8 @@
 //! The lines of a source on an index that is there, and the end of their session.
 
-ghost use Rattle.std.specs.Prelude.{◌≡◌, ◌≤◌, Some, [], IsTrue, OnOk, ℕ};
+ghost use Rattle.std.specs.Prelude.{◌≡◌, ◌≤◌, Some, [], IsOk, IsTrue, OnOk, ℕ};
 ghost use Rattle.index_opening.specs.Evidence.{IsEvident, IsEvidentSince};
+ghost use Rattle.commands.specs.Opens.{Opens};
 ghost use Rattle.index_core.specs.Brought.{KeepsCommit};
 ghost use Rattle.index_core.specs.KeptLive.{KeepsSet};
 ghost use Rattle.index_core.specs.Carried.{IsEvidentOver};
@@ -72,6 +73,8 @@ pub(crate) fn run_over<const D: usize, S: Source, R: Threads + Sync, F: Folder, 
         (F.files folder.old) (F.files folder.new) result) }
     ensures lasting { IsTrue F.told → IsOriginOf (F.files folder.old) origin
         → KeepsCommit (F.files folder.old) (F.files folder.new) }
+    ensures opened { IsTrue F.told → IsOriginOf (F.files folder.old) origin → IsOk result
+        → Opens (F.files folder.old) }
     ensures evident { OnHaltDamage result
         (IsEvidentSince (F.files folder.old) (IsTrue F.told × IsOriginOf (F.files folder.old) origin)
         (F.files folder.new)) }

@@ -1,8 +1,9 @@
 //! The lines of a source, one after the other.
 
-ghost use Rattle.std.specs.Prelude.{◌≡◌, ◌≤◌, Some, None, [], IsTrue, OnOk};
+ghost use Rattle.std.specs.Prelude.{◌≡◌, ◌≤◌, Some, None, [], IsOk, IsTrue, OnOk};
 ghost use Rattle.outer_io.specs.declared.file_name.FileName.TheVariants.{Commit as CommitName};
 ghost use Rattle.index_opening.specs.Evidence.{IsEvidentSince};
+ghost use Rattle.commands.specs.Opens.{Opens, OpensOrStays};
 ghost use Rattle.index_core.specs.Brought.{KeepsCommit};
 ghost use Rattle.index_model.specs.State.{Index, State};
 ghost use Rattle.stored_index.specs.Stored.{IsStored};
@@ -75,6 +76,8 @@ pub fn run_lines<S: Source, R: Threads + Sync, F: Folder, K: Sink, G: Gate>(
         (F.files folder.old) (F.files folder.new) result) }
     // whatever it ends with, what was kept is, or a commit has taken its place of which each listed file is whole
     ensures lasting { IsTrue F.told → KeepsCommit (F.files folder.old) (F.files folder.new) }
+    // lines are all answered only where what the commit lists can be opened
+    ensures opened { IsTrue F.told → OpensOrStays (IsOk result) (F.files folder.old) (F.files folder.new) }
     ensures evident { OnHaltDamage result (IsEvidentSince (F.files folder.old) (IsTrue F.told) (F.files folder.new)) }
 {
     match LineReader::new(work.alloc) {
@@ -108,6 +111,7 @@ fn run_read<S: Source, R: Threads + Sync, F: Folder, K: Sink, G: Gate>(
         (IsTakenOutOf work.now.language (F.files folder.old) lines)
         (F.files folder.old) (F.files folder.new) result) }
     ensures lasting { IsTrue F.told → KeepsCommit (F.files folder.old) (F.files folder.new) }
+    ensures opened { IsTrue F.told → OpensOrStays (IsOk result) (F.files folder.old) (F.files folder.new) }
     ensures evident { OnHaltDamage result (IsEvidentSince (F.files folder.old) (IsTrue F.told) (F.files folder.new)) }
 {
     match read_commit(work.alloc, folder) {
@@ -230,6 +234,8 @@ fn run_from<S: Source, R: Threads + Sync, F: Folder, K: Sink, G: Gate>(
         (F.files folder.old) (F.files folder.new) result) }
     ensures lasting { IsTrue F.told → IsOriginOf (F.files folder.old) origin
         → KeepsCommit (F.files folder.old) (F.files folder.new) }
+    ensures opened { IsTrue F.told → IsOriginOf (F.files folder.old) origin → IsOk result
+        → Opens (F.files folder.old) }
     ensures evident { OnHaltDamage result
         (IsEvidentSince (F.files folder.old) (IsTrue F.told × IsOriginOf (F.files folder.old) origin)
         (F.files folder.new)) }

@@ -1,6 +1,8 @@
 -- What there is to tell was sent, or cut, or a fault came before.
-use Rattle.std.proofs.Common.{Err, IsTrue, refl, sym, ap, subst, ◌∙◌}
+use Rattle.std.proofs.Common.{Bool, true, Err, IsTrue, refl, sym, ap, subst, ◌∙◌}
+use Rattle.page_cache.specs.Evidence.{FaultShows}
 use Rattle.folder_check.specs.Checked.{IsChecked}
+use Rattle.folder_check.specs.First.{IsFirst}
 use Rattle.index_opening.specs.Evidence.{IsEvident, IsEvidentSince, IsFound}
 use Rattle.index_opening.proofs.Evident.{on_evident_files}
 use Rattle.run_status.specs.Ends.{DoesNothing, IsDamaged}
@@ -28,6 +30,8 @@ returns-in-Ok-clause-checks g c = λ told. record {
   reads = c.check.ensures.reads told;
   named = let P = IsFound (g.F.Pages.files c.args.folder.now) in
       rw c.status_of.ensures (status_shows P c.send.result (sink_shows P c.send.result c.send.ensures.cause));
+  first = let P = IsFirst (IsTrue true) (g.F.Pages.files c.args.folder.now) in
+      rw c.status_of.ensures (status_shows P c.send.result (sink_shows P c.send.result c.send.ensures.cause));
 }
 
 pub returns-clause-checks : goal.returns-clause-checks
@@ -40,6 +44,9 @@ returns-clause-checks g c = λ told. record {
   reads = c.check.ensures.reads told;
   named = rw c.status_of-in-Err.ensures (rw c.stopped.ensures (fault_status (IsFound (g.F.Pages.files c.args.folder.now)) c.in-Err.fault
       (rw c.in-Err.is at (c.check.ensures.named told))));
+  first = rw c.status_of-in-Err.ensures (rw c.stopped.ensures (fault_status (IsFirst (IsTrue true) (g.F.Pages.files c.args.folder.now)) c.in-Err.fault
+      (subst (λ (b : Bool). FaultShows (IsFirst (IsTrue b) (g.F.Pages.files c.args.folder.now)) c.in-Err.fault) told
+      (rw c.in-Err.is at (c.check.ensures.first told)))));
 }
 
 pub returns-in-Ok-clause-damage : goal.returns-in-Ok-clause-damage

@@ -1,7 +1,8 @@
 -- What it did is told.
 use Rattle.std.proofs.Common.{refl}
 use Rattle.load_points.specs.Loaded.{load_answer}
-use Rattle.bkd_top.proofs.Finished.{does_from, of_done, whole_undamaged}
+use Rattle.commands.proofs.Opening.{opens_less}
+use Rattle.bkd_top.proofs.Finished.{does_from, of_done, refused_same, whole_undamaged}
 use Rattle.script_run.proofs.Shown.{status_since}
 use Rattle.bkd_top.proofs.loads.load_file.Goals as goal
 
@@ -27,6 +28,7 @@ returns-clause-folder_fault g c = c.tell.ensures.folder_fault _ _ c.load-done.en
 
 pub returns-clause-whole : goal.returns-clause-whole
 returns-clause-whole g c = λ told. record {
+  unchanged = λ count e. refused_same _ c.load-done.result (c.tell.ensures.refused count e) (c.load-done.ensures.unchanged told);
   levels = λ state h answer. of_done c.load-done.result (c.tell.ensures.answer answer) (c.load-done.ensures.levels told state h);
   undone = c.tell.ensures.undone _ _ (c.load-done.ensures.undone told);
   lasts = c.load-done.ensures.lasts told;
@@ -34,3 +36,6 @@ returns-clause-whole g c = λ told. record {
 
 pub returns-clause-lasting : goal.returns-clause-lasting
 returns-clause-lasting g c = c.load-done.ensures.lasting
+
+pub returns-clause-opened : goal.returns-clause-opened
+returns-clause-opened g c = λ told. opens_less _ _ _ _ c.tell.ensures.answer (c.load-done.ensures.opened told)

@@ -1,7 +1,7 @@
 -- What it did is told.
 use Rattle.std.proofs.Common.{refl}
 use Rattle.drawn_points.specs.Generated.{generate_answer}
-use Rattle.bkd_top.proofs.Finished.{does_from, of_done, whole_undamaged}
+use Rattle.bkd_top.proofs.Finished.{does_from, of_done, refused_same, whole_undamaged}
 use Rattle.script_run.proofs.Shown.{status_since}
 use Rattle.bkd_top.proofs.loads.run_generate.Goals as goal
 
@@ -28,6 +28,7 @@ returns-clause-folder_fault g c = c.tell.ensures.folder_fault _ _ c.generate-don
 
 pub returns-clause-whole : goal.returns-clause-whole
 returns-clause-whole g c = λ told. record {
+  unchanged = λ count e. refused_same _ c.generate-done.result (c.tell.ensures.refused count e) (c.generate-done.ensures.unchanged told);
   levels = λ state h answer. of_done c.generate-done.result (c.tell.ensures.answer answer) (c.generate-done.ensures.levels told state h);
   undone = c.tell.ensures.undone _ _ (c.generate-done.ensures.undone told);
   lasts = c.generate-done.ensures.lasts told;
@@ -35,3 +36,8 @@ returns-clause-whole g c = λ told. record {
 
 pub returns-clause-lasting : goal.returns-clause-lasting
 returns-clause-lasting g c = c.generate-done.ensures.lasting
+
+pub returns-clause-opened : goal.returns-clause-opened
+returns-clause-opened g c = λ told.
+    let made = c.generate-done.ensures.opened told in
+    record { reads = λ a. made.reads (c.tell.ensures.answer a); stays = made.stays }

@@ -3,6 +3,7 @@ use Rattle.std.proofs.Common.{inl, refl, sym, subst, ◌∙◌, ◌≤◌, ◌^�
 use Rattle.index_core.proofs.Brought.{commit_itself}
 use Rattle.index_core.proofs.LosingNone.{keeps_same}
 use Rattle.stored_index.proofs.KeptFiles.{kept_itself}
+use Rattle.commands.proofs.Opening.{stays_same}
 use Rattle.run_status.specs.Ends.{DoesNothing}
 use Rattle.bkd_top.proofs.loads.run_load.Goals as goal
 
@@ -39,14 +40,16 @@ returns-in-Ok-clause-causes g c = record {
 }
 
 pub returns-in-Err-Failed-clause-whole : goal.returns-in-Err-Failed-clause-whole
-returns-in-Err-Failed-clause-whole g c = λ told. record { levels = λ state h a. absurd a; undone = kept_itself _; lasts = keeps_same _ _ _ (kept_itself _) }
+returns-in-Err-Failed-clause-whole g c = λ told.
+    record { unchanged = λ count e. refl; levels = λ state h a. absurd a; undone = kept_itself _; lasts = keeps_same _ _ _ (kept_itself _) }
 
 pub returns-in-Err-TooLarge-clause-whole : goal.returns-in-Err-TooLarge-clause-whole
-returns-in-Err-TooLarge-clause-whole g c = λ told. record { levels = λ state h a. absurd a; undone = tt; lasts = keeps_same _ _ _ (kept_itself _) }
+returns-in-Err-TooLarge-clause-whole g c = λ told.
+    record { unchanged = λ count e. refl; levels = λ state h a. absurd a; undone = tt; lasts = keeps_same _ _ _ (kept_itself _) }
 
 pub returns-in-Err-Memory-clause-whole : goal.returns-in-Err-Memory-clause-whole
 returns-in-Err-Memory-clause-whole g c = λ told.
-    record { levels = λ state h a. absurd a; undone = inl (kept_itself _); lasts = keeps_same _ _ _ (kept_itself _) }
+    record { unchanged = λ count e. refl; levels = λ state h a. absurd a; undone = inl (kept_itself _); lasts = keeps_same _ _ _ (kept_itself _) }
 
 pub returns-in-Ok-clause-lasting : goal.returns-in-Ok-clause-lasting
 returns-in-Ok-clause-lasting g c = c.load_file.ensures.lasting
@@ -59,3 +62,15 @@ returns-in-Err-TooLarge-clause-lasting g c = λ told. commit_itself _
 
 pub returns-in-Err-Memory-clause-lasting : goal.returns-in-Err-Memory-clause-lasting
 returns-in-Err-Memory-clause-lasting g c = λ told. commit_itself _
+
+pub returns-in-Ok-clause-opened : goal.returns-in-Ok-clause-opened
+returns-in-Ok-clause-opened g c = c.load_file.ensures.opened
+
+pub returns-in-Err-Failed-clause-opened : goal.returns-in-Err-Failed-clause-opened
+returns-in-Err-Failed-clause-opened g c = λ told. stays_same _ _ (λ a. a)
+
+pub returns-in-Err-TooLarge-clause-opened : goal.returns-in-Err-TooLarge-clause-opened
+returns-in-Err-TooLarge-clause-opened g c = λ told. stays_same _ _ (λ a. a)
+
+pub returns-in-Err-Memory-clause-opened : goal.returns-in-Err-Memory-clause-opened
+returns-in-Err-Memory-clause-opened g c = λ told. stays_same _ _ (λ a. a)

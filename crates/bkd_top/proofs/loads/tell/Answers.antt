@@ -1,12 +1,12 @@
 -- The text of a command that is done is sent, and a fault says what was left.
-use Rattle.std.proofs.Common.{IsTrue, sym, ap, subst, ◌∙◌}
+use Rattle.std.proofs.Common.{Bool, IsTrue, Ok, sym, ap, subst, ◌∙◌}
 use Rattle.index_opening.specs.Evidence.{IsEvident}
 use Rattle.run_status.specs.Ends.{IsAnswer}
 use Rattle.run_status.specs.Ends.{DoesNothing, IsDamaged}
 use Rattle.run_status.specs.Stops.{status_of}
 use Rattle.script_run.proofs.Calling.{fault_keeps, sent_keeps}
 use Rattle.bkd_top.proofs.Finished.{count_sent, fault_ends, fault_no_answer, fault_no_sink, fault_rose, fault_undamaged, sent_ends, sent_no_folder}
-use Rattle.bkd_top.proofs.Finished.{sent_undamaged}
+use Rattle.bkd_top.proofs.Finished.{sent_refused, sent_undamaged}
 use Rattle.script_run.proofs.Shown.{fault_status}
 use Rattle.bkd_top.proofs.loads.tell.Goals as goal
 use Rattle.run_status.proofs.Ending.{does_lines, folder_stopped, sink_stopped, sink_shows, status_shows}
@@ -66,3 +66,13 @@ returns-in-Ok-clause-undone g c = λ old new h. rw c.status_of.ensures (sent_kee
 
 pub returns-in-Err-clause-undone : goal.returns-in-Err-clause-undone
 returns-in-Err-clause-undone g c = λ old new h. rw c.status_of-in-Err.ensures (rw c.stopped.ensures (fault_keeps old new c.in-Err.fault (rw c.in-Err.is at h)))
+
+pub returns-in-Ok-clause-refused : goal.returns-in-Ok-clause-refused
+returns-in-Ok-clause-refused g c = λ count e.
+    c.in-Ok.is
+    ∙ ap (λ (b : Bool). Ok b) (sent_refused c.in-Ok.refused c.send.result (count_sent c.in-Ok.refused _ c.send.result c.from.ensures c.send.ensures.known) count
+    (sym c.status_of.ensures ∙ e))
+
+pub returns-in-Err-clause-refused : goal.returns-in-Err-clause-refused
+returns-in-Err-clause-refused g c = λ count e.
+    fault_no_answer c.in-Err.fault (subst IsAnswer (sym e ∙ c.status_of-in-Err.ensures ∙ ap status_of c.stopped.ensures) tt)

@@ -16,6 +16,7 @@ returns-in-Ok-clause-all g c = task_promises _ _ _ _ _ _ _ _ c.in-Ok.ensures.wor
   input = c.run_command.ensures.input;
   canon = c.run_command.ensures.canon;
   leaves = c.run_command.ensures.leaves;
+  opened = c.run_command.ensures.opened;
   lasting = c.run_command.ensures.lasting;
   damage = c.run_command.ensures.damage;
   causes = c.run_command.ensures.causes;

@@ -5,6 +5,7 @@ use Rattle.bkd_top.specs.Commands.{is_session, reads_input, reads_whole}
 use Rattle.run_status.specs.Ends.{DoesNothing}
 use Rattle.bkd_top.proofs.Commanding.{batch_ends, called, check_ends, count_ends, explain_ends, generate_ends, is_so, left_by, load_ends, ranges_ends, run_ends}
 use Rattle.bkd_top.proofs.Commanding.{export_ends, info_ends, merging_ends, session_asked, taken_by}
+use Rattle.bkd_top.proofs.Opened.{batch_opens, check_opens, export_opens, info_opens, opened_by}
 use Rattle.index_core.proofs.Brought.{commit_equal}
 use Rattle.script_run.proofs.Starting.{canonical_still}
 use Rattle.script_run.proofs.Shown.{status_since}
@@ -27,6 +28,7 @@ returns-in-Generate g c =
       leaves = λ told. left_by c.args.words _
           (called g.S.Source.told g.K.Sink.told input old new before after (g.F.Pages.reads c.args.folder.now) (g.F.Pages.reads c.run_generate.new.folder))
           c.run_generate.result is (e.whole told);
+      opened = λ told. opened_by c.args.words _ old new c.run_generate.result is (e.opened told);
       lasting = e.lasting;
       damage = e.damage;
       causes = record { source = λ w. absurd (e.done (subst DoesNothing (sym w) tt)); folder = e.folder_fault; sink = e.sink_fault };
@@ -49,6 +51,7 @@ returns-in-Run g c =
       leaves = λ told. left_by c.args.words _
           (called g.S.Source.told g.K.Sink.told input old new before after (g.F.Pages.reads c.args.folder.now) (g.F.Pages.reads c.run_script.new.folder))
           c.run_script.result is (λ source. e.costs source told);
+      opened = λ told. opened_by c.args.words _ old new c.run_script.result is (e.opened told);
       lasting = λ told. e.lasting told;
       damage = e.damage;
       causes = e.causes;
@@ -72,6 +75,7 @@ returns-in-Load g c =
       leaves = λ told. left_by c.args.words _
           (called g.S.Source.told g.K.Sink.told input old new before after (g.F.Pages.reads c.args.folder.now) (g.F.Pages.reads c.run_load.new.folder))
           c.run_load.result is (e.whole told);
+      opened = λ told. opened_by c.args.words _ old new c.run_load.result is (e.opened told);
       lasting = λ told. e.lasting told;
       damage = e.damage;
       causes = e.causes;
@@ -94,6 +98,7 @@ returns-in-Explain g c =
       leaves = λ told. left_by c.args.words _
           (called g.S.Source.told g.K.Sink.told input old new before after (g.F.Pages.reads c.args.folder.now) (g.F.Pages.reads c.run_explain.new.folder))
           c.run_explain.result is (record { files = e.files told; reads = λ source. e.reads source told });
+      opened = λ told. opened_by c.args.words _ old new c.run_explain.result is (record { opens = e.opened told; stays = λ bad. e.files told });
       lasting = λ told. commit_equal old new (e.files told);
       damage = record { never = e.whole; evident = status_since _ _ _ _ e.evident };
       causes = e.causes;
@@ -116,6 +121,7 @@ returns-in-Session g c =
       leaves = λ told. left_by c.args.words _
           (called g.S.Source.told g.K.Sink.told input old new before after (g.F.Pages.reads c.args.folder.now) (g.F.Pages.reads c.run_session.new.folder))
           c.run_session.result is (λ source. e.costs source told);
+      opened = λ told. opened_by c.args.words _ old new c.run_session.result is (e.opened told);
       lasting = λ told. e.lasting told;
       damage = e.damage;
       causes = e.causes;
@@ -139,6 +145,8 @@ returns-in-Check g c =
       leaves = λ told. left_by c.args.words _
           (called g.S.Source.told g.K.Sink.told input old new before after (g.F.Pages.reads c.args.folder.now) (g.F.Pages.reads c.run_check.new.folder))
           c.run_check.result is (e.checks told);
+      opened = λ told. opened_by c.args.words _ old new c.run_check.result is
+          (check_opens (IsTrue g.K.Sink.told) old new before after c.run_check.result (e.checks told).files (e.checks told).ends);
       lasting = λ told. commit_equal old new (e.checks told).files;
       damage = e.damage;
       causes = record { source = λ w. absurd (e.done (subst DoesNothing (sym w) tt)); folder = e.folder_fault; sink = e.sink_fault };
@@ -162,6 +170,8 @@ returns-in-Export g c =
       leaves = λ told. left_by c.args.words _
           (called g.S.Source.told g.K.Sink.told input old new before after (g.F.Pages.reads c.args.folder.now) (g.F.Pages.reads c.run_export.new.folder))
           c.run_export.result is (e.exports told);
+      opened = λ told. opened_by c.args.words _ old new c.run_export.result is
+          (export_opens (IsTrue g.K.Sink.told) _ old new before after c.run_export.result (e.exports told).files (e.exports told).ends);
       lasting = λ told. commit_equal old new (e.exports told).files;
       damage = record { never = e.whole; evident = status_since _ _ _ _ e.evident };
       causes = record { source = λ w. absurd (e.done (subst DoesNothing (sym w) tt)); folder = e.folder_fault; sink = e.sink_fault };
@@ -185,6 +195,8 @@ returns-in-Info g c =
       leaves = λ told. left_by c.args.words _
           (called g.S.Source.told g.K.Sink.told input old new before after (g.F.Pages.reads c.args.folder.now) (g.F.Pages.reads c.run_info.new.folder))
           c.run_info.result is (e.informs told);
+      opened = λ told. opened_by c.args.words _ old new c.run_info.result is
+          (info_opens (IsTrue g.K.Sink.told) old new before after c.run_info.result (e.informs told).files (e.informs told).ends);
       lasting = λ told. commit_equal old new (e.informs told).files;
       damage = e.damage;
       causes = record { source = λ w. absurd (e.done (subst DoesNothing (sym w) tt)); folder = e.folder_fault; sink = e.sink_fault };
@@ -207,6 +219,7 @@ returns-in-Count g c =
       leaves = λ told. left_by c.args.words _
           (called g.S.Source.told g.K.Sink.told input old new before after (g.F.Pages.reads c.args.folder.now) (g.F.Pages.reads c.run_count.new.folder))
           c.run_count.result is (record { files = e.files told; reads = λ source. e.reads source told });
+      opened = λ told. opened_by c.args.words _ old new c.run_count.result is (record { opens = e.opened told; stays = λ bad. e.files told });
       lasting = λ told. commit_equal old new (e.files told);
       damage = record { never = e.whole; evident = status_since _ _ _ _ e.evident };
       causes = e.causes;
@@ -220,7 +233,8 @@ returns-in-Ranges g c =
     record {
       never_usage = e.never_usage;
       ends = λ told state h source. ranges_ends (IsTrue g.K.Sink.told) c.args.words
-          (record { state = state; files = old; input = input; written = before }) new after c.run_ranges.result _ _ is (e.ends (source reads) told state h);
+          (record { state = state; files = old; input = input; written = before }) new after c.run_ranges.result _ _ is
+          (e.ends (source reads) told state h, e.ranges (source reads) told state h);
       input = λ told. taken_by c.args.words _ input (g.S.Source.left c.run_ranges.new.input) c.run_ranges.result is (e.input told);
       unread = is_so (λ a. reads_input a) c.args.words _ is refl;
       large = λ w. ap (λ (a : Task). reads_whole a) is;
@@ -229,6 +243,7 @@ returns-in-Ranges g c =
       leaves = λ told. left_by c.args.words _
           (called g.S.Source.told g.K.Sink.told input old new before after (g.F.Pages.reads c.args.folder.now) (g.F.Pages.reads c.run_ranges.new.folder))
           c.run_ranges.result is (λ source. e.costs source told);
+      opened = λ told. opened_by c.args.words _ old new c.run_ranges.result is (e.opened told);
       lasting = λ told. e.lasting told;
       damage = e.damage;
       causes = e.causes;
@@ -252,6 +267,7 @@ returns-in-Batch g c =
           (called g.S.Source.told g.K.Sink.told input old new before after (g.F.Pages.reads c.args.folder.now) (g.F.Pages.reads c.run_batch.new.folder))
           c.run_batch.result is
           (record { files = e.files told; reads = e.reads told; stored = e.stored told; unwritten = λ none. ap g.K.Sink.written (e.unwritten none) });
+      opened = λ told. opened_by c.args.words _ old new c.run_batch.result is (batch_opens old new c.run_batch.result (e.stored told) (λ bad. e.files told));
       lasting = λ told. commit_equal old new (e.files told);
       damage = record { never = e.whole; evident = status_since _ _ _ _ e.evident };
       causes = e.causes;
@@ -275,6 +291,8 @@ returns-in-MergingBatch g c =
       leaves = λ told. left_by c.args.words _
           (called g.S.Source.told g.K.Sink.told input old new before after (g.F.Pages.reads c.args.folder.now) (g.F.Pages.reads c.run_merging_batch.new.folder))
           c.run_merging_batch.result is (record { leaves = e.leaves told; stored = e.stored told });
+      opened = λ told. opened_by c.args.words _ old new c.run_merging_batch.result is
+          (batch_opens old new c.run_merging_batch.result (e.stored told).answered (e.stays told));
       lasting = λ told. (e.leaves told).lasting;
       damage = record { never = e.whole; evident = status_since _ _ _ _ e.evident };
       causes = e.causes;

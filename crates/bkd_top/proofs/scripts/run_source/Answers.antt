@@ -1,8 +1,9 @@
 -- The status says how the lines ended.
 use Rattle.std.proofs.Common.{sym, subst, ◌∙◌}
 use Rattle.run_status.specs.Ends.{DoesNothing, IsAnswer, IsDamaged}
+use Rattle.commands.proofs.Opening.{opens_less}
 use Rattle.script_run.proofs.Statuses.{never_refuses, read_folder, read_script, read_shows, read_sink, read_source, session_ends, session_undamaged, when_read}
-use Rattle.script_run.proofs.Statuses.{with_lines}
+use Rattle.script_run.proofs.Statuses.{answered_ok, with_lines}
 use Rattle.script_run.specs.Languages.{meaning}
 use Rattle.bkd_top.proofs.scripts.run_source.Goals as goal
 
@@ -51,3 +52,7 @@ returns-clause-causes g c = record {
 
 pub returns-clause-lasting : goal.returns-clause-lasting
 returns-clause-lasting g c = c.run_lines.ensures.lasting
+
+pub returns-clause-opened : goal.returns-clause-opened
+returns-clause-opened g c = λ told.
+    opens_less _ _ _ _ (λ a. answered_ok c.run_lines.result (subst IsAnswer c.status_of_lines.ensures a)) (c.run_lines.ensures.opened told)

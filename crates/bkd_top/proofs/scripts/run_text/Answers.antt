@@ -33,3 +33,6 @@ returns-clause-sink_fault g c = c.run_source.ensures.causes.sink
 
 pub returns-clause-lasting : goal.returns-clause-lasting
 returns-clause-lasting g c = c.run_source.ensures.lasting
+
+pub returns-clause-opened : goal.returns-clause-opened
+returns-clause-opened g c = c.run_source.ensures.opened

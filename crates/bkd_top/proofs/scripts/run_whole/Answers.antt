@@ -1,6 +1,7 @@
 -- The script that was read is the source's text.
 use Rattle.std.proofs.Common.{refl, sym, subst, ◌∙◌, inl, ◌≤◌, ◌^◌, ℕ, List, length}
 use Rattle.index_core.proofs.Brought.{commit_itself}
+use Rattle.commands.proofs.Opening.{stays_same}
 use Rattle.run_status.specs.Ends.{DoesNothing}
 use Rattle.script_run.proofs.Calling.{nothing_costs}
 use Rattle.script_run.proofs.Going.{stops_here}
@@ -74,3 +75,15 @@ returns-in-Err-TooLarge-clause-lasting g c = λ told. commit_itself _
 
 pub returns-in-Err-Memory-clause-lasting : goal.returns-in-Err-Memory-clause-lasting
 returns-in-Err-Memory-clause-lasting g c = λ told. commit_itself _
+
+pub returns-in-Ok-clause-opened : goal.returns-in-Ok-clause-opened
+returns-in-Ok-clause-opened g c = c.run_text.ensures.opened
+
+pub returns-in-Err-Failed-clause-opened : goal.returns-in-Err-Failed-clause-opened
+returns-in-Err-Failed-clause-opened g c = λ told. stays_same _ _ (λ a. a)
+
+pub returns-in-Err-TooLarge-clause-opened : goal.returns-in-Err-TooLarge-clause-opened
+returns-in-Err-TooLarge-clause-opened g c = λ told. stays_same _ _ (λ a. a)
+
+pub returns-in-Err-Memory-clause-opened : goal.returns-in-Err-Memory-clause-opened
+returns-in-Err-Memory-clause-opened g c = λ told. stays_same _ _ (λ a. a)

@@ -1,5 +1,7 @@
 -- What the folder's commit says decides whether an index is made.
-use Rattle.std.proofs.Common.{◌≡◌, Bool, true, None, Err, IsTrue, OnOk, refl, sym, ap, subst, ◌∙◌, inl}
+use Rattle.std.proofs.Common.{◌≡◌, Bool, true, None, Err, IsTrue, OnOk, refl, sym, ap, subst, ◌∙◌, inl, inr}
+use Rattle.std.proofs.lemmas.Bool.{false≢true}
+use Rattle.commands.proofs.Opening.{reads_none}
 use Rattle.std.proofs.lemmas.Result.{err_from_is_err_and}
 use Rattle.outer_io.specs.declared.file_name.FileName.TheVariants.{Commit}
 use Rattle.outer_io.specs.Files.{Files}
@@ -149,3 +151,22 @@ returns-in-Ok-Some-clause-lasts g c = λ told.
 pub returns-in_err-put_exists-in-Ok-Some-clause-lasts : goal.returns-in_err-put_exists-in-Ok-Some-clause-lasts
 returns-in_err-put_exists-in-Ok-Some-clause-lasts g c = λ told.
     keeps_same NoneGoes (g.F.Pages.files c.args.folder.now) (g.F.Pages.files c.read_commit.new.folder) (kept_equal _ _ (c.in-Ok-Some.ensures.files told))
+
+-- it is answered only where the Commit file can be read
+pub returns-in-Ok-Some-clause-opened : goal.returns-in-Ok-Some-clause-opened
+returns-in-Ok-Some-clause-opened g c = λ told.
+    let found = rw c.in-Ok-Some.field-0-is at (c.in-Ok-Some.ensures.found told) in
+    record { reads = λ ok. inr (_, found); stays = λ bad. c.in-Ok-Some.ensures.files told }
+
+pub returns-in_err-put_exists-in-Ok-Some-clause-opened : goal.returns-in_err-put_exists-in-Ok-Some-clause-opened
+returns-in_err-put_exists-in-Ok-Some-clause-opened g c = λ told.
+    let found = rw c.in-Ok-Some.field-0-is at (c.in-Ok-Some.ensures.found told) in
+    record { reads = λ ok. inr (_, found); stays = λ bad. c.in-Ok-Some.ensures.files told }
+
+pub returns-in-Ok-None-clause-opened : goal.returns-in-Ok-None-clause-opened
+returns-in-Ok-None-clause-opened g c = λ told.
+    let none = rw c.in-Ok-None.field-0-is at (c.in-Ok-None.ensures.found told) in
+    record { reads = λ ok. inl none; stays = reads_none (g.F.Pages.files c.args.folder.now) none }
+
+pub returns-clause-opened : goal.returns-clause-opened
+returns-clause-opened g c = λ told. record { reads = λ ok. absurd (false≢true ok); stays = λ bad. c.in-Err.ensures.files told }

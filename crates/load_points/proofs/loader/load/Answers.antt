@@ -1,9 +1,13 @@
 -- What the folder's commit says decides where the file goes.
-use Rattle.std.proofs.Common.{Err, IsTrue, refl, sym, ap, subst, ◌∙◌}
+use Rattle.std.proofs.Common.{Err, IsTrue, inl, refl, sym, ap, subst, ◌∙◌}
+use Rattle.std.proofs.lemmas.Bool.{false≢true}
 use Rattle.outer_io.specs.declared.file_name.FileName.TheVariants.{Commit}
 use Rattle.outer_io.specs.Files.{Files, bytes_of}
 use Rattle.commit_list.specs.CommitFiles.{IsCommitFile}
 use Rattle.stored_index.specs.Stored.{IsStored}
+use Rattle.index_opening.proofs.Evident.{says_after}
+use Rattle.commands.specs.Opens.{Opens}
+use Rattle.commands.proofs.Opening.{reads_none, reads_some}
 use Rattle.load_points.specs.Loaded.{load_answer}
 use Rattle.load_points.proofs.Loading.{loads_after}
 use Rattle.load_points.proofs.Opening.{none_stored, some_stored}
@@ -21,7 +25,7 @@ returns-in-Ok-Some g c =
     (λ told stored h. some_stored (g.F.Pages.files c.read_commit.new.folder) c.in-Ok-Some.commit stored
     (subst (λ (f : Files). IsCommitFile (bytes_of (f Commit)) c.in-Ok-Some.commit) (sym (c.in-Ok-Some.ensures.files told))
     (rw c.in-Ok-Some.field-0-is at (c.in-Ok-Some.ensures.found told)))
-    (stored_still_there _ _ stored (c.in-Ok-Some.ensures.files told) h)) c.load_stored.ensures in
+    (stored_still_there _ _ stored (c.in-Ok-Some.ensures.files told) h)) c.load_stored.ensures.loads in
     record {
       loads = whole.does;
       unchanged = whole.unchanged;
@@ -30,6 +34,13 @@ returns-in-Ok-Some g c =
       undone = λ told. whole.undone told tt;
       lasting = λ told. whole.lasting told tt;
       lasts = λ told. whole.lasts told tt;
+      opened = λ told.
+          let found = rw c.in-Ok-Some.field-0-is at (c.in-Ok-Some.ensures.found told) in
+          record {
+            opens = λ ok. subst Opens (c.in-Ok-Some.ensures.files told)
+                (c.load_stored.ensures.opened told (says_after _ _ c.in-Ok-Some.commit (c.in-Ok-Some.ensures.files told) found) ok);
+            stays = reads_some (g.F.Pages.files c.args.folder.now) c.in-Ok-Some.commit found;
+          };
       cause = whole.cause;
       evident = evident_all (IsTrue g.F.Pages.told) (g.F.Pages.files c.load_stored.new.folder) c.load_stored.result whole.evident;
     }
@@ -50,6 +61,9 @@ returns-in-Ok-None g c =
       undone = λ told. whole.undone told tt;
       lasting = λ told. whole.lasting told tt;
       lasts = λ told. whole.lasts told tt;
+      opened = λ told.
+          let none = rw c.in-Ok-None.field-0-is at (c.in-Ok-None.ensures.found told) in
+          record { opens = λ ok. inl none; stays = reads_none (g.F.Pages.files c.args.folder.now) none };
       cause = whole.cause;
       evident = evident_all (IsTrue g.F.Pages.told) (g.F.Pages.files c.load_first.new.folder) c.load_first.result whole.evident;
     }
@@ -70,6 +84,7 @@ returns-in-Err g c =
       undone = λ told. whole.undone told tt;
       lasting = λ told. whole.lasting told tt;
       lasts = λ told. whole.lasts told tt;
+      opened = λ told. record { opens = λ ok. absurd (false≢true ok); stays = λ bad. c.in-Err.ensures.files told };
       cause = whole.cause;
       evident = evident_all (IsTrue g.F.Pages.told) (g.F.Pages.files c.read_commit.new.folder) (Err c.in-Err.fault) whole.evident;
     }

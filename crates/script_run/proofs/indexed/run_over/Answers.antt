@@ -1,7 +1,10 @@
 -- The lines are done in a session on the index, or none is opened.
-use Rattle.std.proofs.Common.{ℕ, IsTrue, arith, inr, refl, subst, ap, ◌∙◌}
+use Rattle.std.proofs.Common.{ℕ, IsTrue, Result, arith, inr, refl, subst, ap, ◌∙◌}
+use Rattle.std.proofs.lemmas.Bool.{false≢true}
+use Rattle.std.specs.Prelude.{IsOk}
 use Rattle.std.proofs.lemmas.Grind.{merely}
 use Rattle.outer_io.specs.Files.{Files}
+use Rattle.commands.specs.Opens.{Opens}
 use Rattle.index_opening.specs.Evidence.{IsOfListed}
 use Rattle.index_core.specs.Carried.{AreOfListed, IsFileOf}
 use Rattle.index_core.proofs.Carrying.{listed_file}
@@ -11,6 +14,7 @@ use Rattle.index_core.proofs.Sizes.{session_fits}
 use Rattle.index_core.proofs.Undone.{fault_kept, kept_equal}
 use Rattle.script_run.specs.Costs.{NoneCommits}
 use Rattle.script_run.specs.Halted.{halt_result}
+use Rattle.script_run.specs.declared.halt.Halt.{Halt}
 use Rattle.script_run.specs.Kept.{HaltKeeps}
 use Rattle.script_run.specs.Origins.{dims_of}
 use Rattle.script_run.specs.Taking.{IsTakenOut}
@@ -115,3 +119,10 @@ returns-in-Ok-clause-lasting g c = λ told there.
 
 pub returns-in-Err-clause-lasting : goal.returns-in-Err-clause-lasting
 returns-in-Err-clause-lasting g c = λ told there. commit_equal _ _ (c.in-Err.ensures.files told)
+
+pub returns-in-Ok-clause-opened : goal.returns-in-Ok-clause-opened
+returns-in-Ok-clause-opened g c = λ told there ok. subst Opens (c.in-Ok.ensures.files told) (c.in-Ok.ensures.knows told there).opens
+
+pub returns-in-Err-clause-opened : goal.returns-in-Err-clause-opened
+returns-in-Err-clause-opened g c = λ told there ok.
+    absurd (false≢true (subst (λ (r : Result ℕ Halt). IsOk r) (c.halt_result.ensures ∙ ap halt_result c.stopped.ensures) ok))

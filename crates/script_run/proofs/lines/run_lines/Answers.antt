@@ -1,5 +1,7 @@
 -- The lines are those of a new reader over the source, or there is none.
 use Rattle.std.proofs.Common.{IsTrue, inl, refl, arith}
+use Rattle.std.proofs.lemmas.Bool.{false≢true}
+use Rattle.commands.proofs.Opening.{stays_same}
 use Rattle.script_lang.specs.Lines.{lines_of}
 use Rattle.stored_index.proofs.KeptFiles.{kept_itself}
 use Rattle.index_core.proofs.Brought.{commit_itself}
@@ -55,3 +57,9 @@ returns-in-Ok-clause-lasting g c = c.run_read.ensures.lasting
 
 pub returns-in-Err-clause-lasting : goal.returns-in-Err-clause-lasting
 returns-in-Err-clause-lasting g c = λ told. commit_itself _
+
+pub returns-in-Ok-clause-opened : goal.returns-in-Ok-clause-opened
+returns-in-Ok-clause-opened g c = c.run_read.ensures.opened
+
+pub returns-in-Err-clause-opened : goal.returns-in-Err-clause-opened
+returns-in-Err-clause-opened g c = λ told. stays_same _ _ (λ ok. false≢true ok)

@@ -1,5 +1,9 @@
 -- The lines are done on what the folder stores: no index, or the one whose commit was read.
-use Rattle.std.proofs.Common.{ℕ, IsTrue, refl, arith, Option, Err, ap, subst, ◌∙◌}
+use Rattle.std.proofs.Common.{ℕ, IsTrue, refl, arith, Option, Result, Err, inl, ap, subst, ◌∙◌}
+use Rattle.std.proofs.lemmas.Bool.{false≢true}
+use Rattle.std.specs.Prelude.{IsOk}
+use Rattle.commands.specs.Opens.{Opens}
+use Rattle.commands.proofs.Opening.{reads_none, reads_some}
 use Rattle.index_core.proofs.Brought.{commit_equal, commit_then}
 use Rattle.index_core.proofs.LosingNone.{keeps_none, keeps_same}
 use Rattle.index_core.proofs.Undone.{fault_kept, kept_equal}
@@ -8,6 +12,7 @@ use Rattle.outer_io.specs.Files.{Files}
 use Rattle.commit_list.specs.Commits.{CommitData}
 use Rattle.index_opening.proofs.Evident.{on_commit_evident, says_after}
 use Rattle.script_run.specs.Halted.{halt_result}
+use Rattle.script_run.specs.declared.halt.Halt.{Halt}
 use Rattle.script_run.specs.Kept.{HaltKeeps}
 use Rattle.script_run.specs.Progress.{start}
 use Rattle.script_run.specs.Taking.{IsTakenOutOf}
@@ -143,3 +148,23 @@ returns-in-Ok-Some-clause-lasting g c = λ told.
 
 pub returns-in-Err-clause-lasting : goal.returns-in-Err-clause-lasting
 returns-in-Err-clause-lasting g c = λ told. commit_equal _ _ (c.in-Err.ensures.files told)
+
+pub returns-in-Ok-None-clause-opened : goal.returns-in-Ok-None-clause-opened
+returns-in-Ok-None-clause-opened g c = λ told.
+    let none = rw c.in-Ok-None.field-0-is at (c.in-Ok-None.ensures.found told) in
+    record { opens = λ ok. inl none; stays = reads_none (g.F.Pages.files c.args.folder.now) none }
+
+pub returns-in-Ok-Some-clause-opened : goal.returns-in-Ok-Some-clause-opened
+returns-in-Ok-Some-clause-opened g c = λ told.
+    let found = rw c.in-Ok-Some.field-0-is at (c.in-Ok-Some.ensures.found told) in
+    record {
+      opens = λ ok. subst Opens (c.in-Ok-Some.ensures.files told)
+          (c.run_from.ensures.opened told (says_after _ _ c.in-Ok-Some.commit (c.in-Ok-Some.ensures.files told) found) ok);
+      stays = reads_some (g.F.Pages.files c.args.folder.now) c.in-Ok-Some.commit found;
+    }
+
+pub returns-in-Err-clause-opened : goal.returns-in-Err-clause-opened
+returns-in-Err-clause-opened g c = λ told. record {
+  opens = λ ok. absurd (false≢true (subst (λ (r : Result ℕ Halt). IsOk r) (c.halt_result.ensures ∙ ap halt_result c.stopped.ensures) ok));
+  stays = λ bad. c.in-Err.ensures.files told;
+}

@@ -1,9 +1,9 @@
 -- A new session, or one that is attached, stands over the files.
-use Rattle.std.proofs.Common.{ℕ, ◌≤◌, Some, subst}
+use Rattle.std.proofs.Common.{ℕ, ◌≤◌, Some, inl, subst}
 use Rattle.std.proofs.lemmas.Result.{err_from_is_err_and}
 use Rattle.script_lang.specs.Reading.{greatest_leaf}
 use Rattle.index_core.proofs.Sizes.{session_fits}
-use Rattle.script_run.proofs.Opened.{made_stands, attached_stands}
+use Rattle.script_run.proofs.Opened.{made_stands, attached_opens, attached_stands}
 use Rattle.script_run.proofs.Starting.{opens_new, opens_none, opens_stored}
 use Rattle.index_opening.proofs.Evident.{on_evident_files}
 use Rattle.script_run.proofs.Shown.{attached_knows}
@@ -78,6 +78,7 @@ returns-in_ok-create-in-New-clause-knows g c = λ told there.
       trusts = record { guards = made.guards _ none; faithful = made.faithful _; traced = made.traced _ };
       finds = bare_finds g.row.D _ _ made.bare none;
       own = made.own _;
+      opens = inl none;
     }
 
 pub returns-in_err-create-in-New-clause-knows : goal.returns-in_err-create-in-New-clause-knows
@@ -96,6 +97,8 @@ returns-in-Stored-clause-knows g c = λ told there.
     let attaches = c.attach.ensures.attaches in
     attached_knows g.row.D _ _ c.attach.result (c.attach.ensures.files told) (attaches.guards told says) (attaches.faithful told)
     (attaches.traced told says) (attaches.finds told says) (attaches.own told says)
+    (attached_opens g.row.D _ c.in-Stored.commit c.attach.result (rw c.in-Stored.is at c.requires.dims) says (attaches.guards told says)
+    (attaches.faithful told) attaches.unchanged)
 
 pub returns-in-Stored-clause-evident : goal.returns-in-Stored-clause-evident
 returns-in-Stored-clause-evident g c =

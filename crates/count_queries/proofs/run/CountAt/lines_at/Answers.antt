@@ -1,7 +1,10 @@
 -- The lines are told over the segments that were opened, or none is.
-use Rattle.std.proofs.Common.{IsTrue, arith, refl}
+use Rattle.std.proofs.Common.{IsTrue, arith, refl, sym, subst}
 use Rattle.segment_view.specs.LiveSegments.{heads_of, lives_of}
+use Rattle.index_opening.proofs.Listed.{opened_heads, opened_lives}
 use Rattle.index_opening.proofs.Named.{all_listed}
+use Rattle.commands.specs.Opens.{Opens}
+use Rattle.commands.proofs.Opening.{opens_all}
 use Rattle.commands.proofs.Looking.{looks_after, looks_fault, looks_no_memory, looks_runs}
 use Rattle.count_queries.specs.Counted.{IsScope, TellsCount}
 use Rattle.count_queries.proofs.Scoped.{has_heads, has_lives, opened_counting, own_heads, scope_holds}
@@ -24,6 +27,9 @@ returns-in-Ok-new-clause-does g c =
           omega (arith, few, e),
     ))
     (looks_runs TellsCount _ _ _ _ _ (IsScope old) _ _ (λ k. k.0)
+    (λ k. subst Opens (sym (opened.files k.0)) (opens_all old c.args.commit.now _ _ k.1
+    (opened_heads (IsTrue g.F.Pages.told) old c.args.commit.now c.in-Ok.segments k.0 opened.opened)
+    (opened_lives (IsTrue g.F.Pages.told) old c.args.commit.now c.in-Ok.segments k.0 opened.opened)))
     (λ k. true_at g.row.D old new c.in-Ok.segments c.in-Ok-new.cache c.in-Ok-new.cache (opened.files k.0) (λ a. agrees new) (
       agrees old,
       own_heads (IsTrue g.F.Pages.told) g.row.D old c.args.commit.now c.in-Ok.segments k.0 c.requires.dims opened.opened,

@@ -2,10 +2,11 @@
 use Rattle.std.proofs.Common.{arith, refl, sym, subst}
 use Rattle.outer_io.specs.Files.{Files}
 use Rattle.segment_set.proofs.Sizes.{set_fits}
+use Rattle.commands.specs.Opens.{Opens}
 use Rattle.commands.proofs.Looking.{looks_after, looks_fault, looks_runs}
 use Rattle.explain_queries.specs.Explained.{IsScope, TellsLine}
 use Rattle.explain_queries.specs.Explains.{IsExplaining, KnowsFiles}
-use Rattle.explain_queries.proofs.Scoped.{attached_explains, attached_part, scope_holds}
+use Rattle.explain_queries.proofs.Scoped.{attached_explains, attached_opens, attached_part, scope_holds}
 use Rattle.explain_queries.proofs.Sizes.{explaining_fits}
 use Rattle.explain_queries.proofs.run.ExplainAt.lines_at.Goals as goal
 
@@ -28,6 +29,8 @@ returns-in-Ok-clause-does g c =
           let few = opened.reads k.0 s.heads h.sets h.heads h.live in omega (arith, few, e),
     ))
     (looks_runs TellsLine _ _ _ _ _ (IsScope old) _ _ (λ k. k.0)
+    (λ k. subst Opens (sym (opened.files k.0))
+    (attached_opens g.row.D old c.args.commit.now c.in-Ok.set c.requires.dims k.1 opened.commit (opened.live k.0) (opened.faithful k.0)))
     (λ k. subst (λ (f : Files). KnowsFiles g.row.D f c.in-Ok.set) (sym (opened.files k.0)) (record {
       faithful = opened.faithful k.0;
       listed = attached_part old c.args.commit.now c.in-Ok.set k.1 opened.commit;

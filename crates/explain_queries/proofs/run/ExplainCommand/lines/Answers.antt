@@ -14,7 +14,7 @@ returns-in-Ok-None-clause-does g c =
     let old = g.F.Pages.files c.args.world.now.folder.now in
     looks_none IsScope scope_heads are_scopes TellsLine _ _ _ _ _ _
     (record { files = read.files; written = refl; folder_later = read.cause.later; sink_same = refl }) _ _ _
-    (λ told. read.unread told (rw c.in-Ok-None.field-0-is at (read.found told))) (λ told. tt)
+    (λ told. read.unread told (rw c.in-Ok-None.field-0-is at (read.found told))) (λ told. rw c.in-Ok-None.field-0-is at (read.found told)) (λ told. tt)
     (λ told s scope. none_scope old s (rw c.in-Ok-None.field-0-is at (read.found told)) scope) c.run_lines.ensures.runs
 
 pub returns-in-Ok-Some-clause-does : goal.returns-in-Ok-Some-clause-does
