@@ -1,5 +1,5 @@
 -- How cleaning ends: what there is to tell was sent, or cut, or a fault came before.
-use Rattle.std.proofs.Common.{◌≡◌, ◌++◌, ◌==◌, ◌⊎◌, inl, inr, ◌∙◌, ℕ, Bool, true, false, arith, List, Result, Ok, Err, None}
+use Rattle.std.proofs.Common.{◌≡◌, ◌++◌, ◌==◌, inl, inr, ◌∙◌, ℕ, Bool, true, false, List, Result, Ok, Err, None}
 use Rattle.std.proofs.Common.{OnErr, IfOk, IsErrOf, [], refl, sym, ap, subst}
 use Rattle.std.proofs.lemmas.Bool.{eqb-true}
 use Rattle.outer_io.specs.declared.file_name.FileName.{FileName}
@@ -9,7 +9,7 @@ use Rattle.outer_io.specs.Parts.{WritesPart}
 use Rattle.commit_list.specs.Commits.{CommitData}
 use Rattle.commit_list.specs.CommitFiles.{IsCommitFile}
 use Rattle.commit_list.proofs.CommitPages.{file_there, one_file}
-use Rattle.folder_check.specs.Checked.{IsChecked, IsOk}
+use Rattle.folder_check.specs.Checked.{IsChecked}
 use Rattle.page_cache.specs.declared.faults.PageFault.{PageFault}
 use Rattle.page_cache.specs.declared.faults.PageFault.TheVariants as page
 use Rattle.page_cache.specs.Evidence.{FaultShows}
@@ -19,7 +19,7 @@ use Rattle.run_status.specs.Sent.{IsSent}
 use Rattle.run_status.specs.Stops.{status_of, stop_of}
 use Rattle.run_status.specs.declared.stop.Stop.{Stop}
 use Rattle.run_status.specs.declared.stop.Stop.TheVariants as stop
-use Rattle.clean_folder.specs.Cleaned.{CleansIndex, CleansNone, EndsClean, IsCleaned}
+use Rattle.clean_folder.specs.Cleaned.{CleansNone, EndsClean, IsCleaned}
 
 -- there is no Commit file, and that was told
 pub cleans_none : (old new : Files) (before text : List ℕ) → before ≡ [] → old Commit ≡ None → new ≡ old

@@ -1,6 +1,6 @@
 -- Files that are taken away one after the other: what stays, and what is gone.
-use Rattle.std.proofs.Common.{◌≡◌, ◌≢◌, ◌⊎◌, inl, inr, ℕ, ◌+◌, ◌<◌, ◌≤◌, Bool, true, false, not, ◌↔◌}
-use Rattle.std.proofs.Common.{List, length, take, get_or, None, refl, sym, ap, subst, ◌∙◌}
+use Rattle.std.proofs.Common.{◌≡◌, ◌≢◌, inl, inr, ℕ, ◌+◌, ◌<◌, ◌≤◌, Bool, true, false, not, ◌↔◌}
+use Rattle.std.proofs.Common.{List, length, take, get_or, None, refl, sym, subst, ◌∙◌}
 use Rattle.std.specs.List.{All}
 use Rattle.std.proofs.lemmas.Bool.{both_ways}
 use Rattle.std.proofs.lemmas.List.{take_all}
@@ -9,12 +9,11 @@ use Rattle.outer_io.specs.declared.file_name.FileName.{FileName}
 use Rattle.outer_io.specs.declared.file_name.FileName.TheVariants.{Commit}
 use Rattle.outer_io.specs.Files.{Files, SameBut, bytes_of}
 use Rattle.outer_io.specs.Names.{same_name}
-use Rattle.outer_io.proofs.Names.{same_name-false, same_name-other, same_name-true}
+use Rattle.outer_io.proofs.Names.{same_name-false, same_name-true}
 use Rattle.commit_list.specs.Commits.{CommitData}
 use Rattle.commit_list.specs.CommitFiles.{IsCommitFile}
 use Rattle.commit_list.proofs.CommitPages.{file_there, one_file}
-use Rattle.stored_index.specs.Kept.{ListsFile, SameKept}
-use Rattle.stored_index.proofs.KeptFiles.{kept_none}
+use Rattle.stored_index.specs.Kept.{ListsFile}
 use Rattle.clean_folder.specs.Cleaned.{Fewer, IsUnlisted, Spares, TakesUnlisted}
 
 pub fewer_then : (name : FileName) (old middle new : Files) → Fewer name old middle → Fewer name middle new → Fewer name old new

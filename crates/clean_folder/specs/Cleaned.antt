@@ -3,7 +3,7 @@ use Rattle.std.specs.Prelude.{ℕ, ◌+◌, ◌^◌, ◌≡◌, ◌≢◌, ◌<�
 use Rattle.std.specs.Prelude.{codes, decimal}
 use Rattle.outer_io.specs.declared.file_name.FileName.{FileName}
 use Rattle.outer_io.specs.declared.file_name.FileName.TheVariants.{Commit}
-use Rattle.outer_io.specs.Files.{Files, SameBut, bytes_of}
+use Rattle.outer_io.specs.Files.{Files, bytes_of}
 use Rattle.outer_io.specs.Parts.{WritesPart}
 use Rattle.documents.specs.Documents.{Document}
 use Rattle.commit_list.specs.Commits.{CommitData}

@@ -1,4 +1,4 @@
-use Rattle.std.proofs.Common.{◌≡◌, ◌≢◌, ◌+◌, ◌<◌, ◌^◌, None, take}
+use Rattle.std.proofs.Common.{◌≡◌, ◌≢◌, None, take}
 use Rattle.std.specs.Prelude.{IsTrue, All, AllPairs}
 use Rattle.outer_io.specs.declared.file_name.FileName.{FileName}
 use Rattle.clean_folder.specs.Cleaned.{IsUnlisted, TakesUnlisted, CountsRemoved}

@@ -1,14 +1,11 @@
 -- What was checked is cleaned, or a fault came before.
-use Rattle.std.proofs.Common.{◌≡◌, ◌≢◌, ◌∙◌, Err, IsTrue, List, inl, inr, refl, sym, ap, subst}
-use Rattle.std.specs.Prelude.{AllPairs}
+use Rattle.std.proofs.Common.{◌∙◌, Err, IsTrue, inl, inr, refl, sym, ap, subst}
 use Rattle.std.proofs.lemmas.Result.{err_from_is_err_and}
 use Rattle.outer_io.specs.Files.{Files, bytes_of}
-use Rattle.outer_io.specs.declared.file_name.FileName.{FileName}
 use Rattle.outer_io.specs.declared.file_name.FileName.TheVariants.{Commit}
 use Rattle.commit_list.specs.CommitFiles.{IsCommitFile}
 use Rattle.index_opening.proofs.Evident.{on_evident_files}
 use Rattle.index_opening.proofs.Listed.{undefined_fault}
-use Rattle.stored_index.specs.Stored.{IsUndefined}
 use Rattle.folder_check.proofs.Whole.{commit_undefined}
 use Rattle.clean_folder.specs.Cleaned.{CountsRemoved}
 use Rattle.clean_folder.proofs.Ending.{cleans_none, holds_read}
