@@ -1,6 +1,6 @@
 -- What `clean` takes away, what it leaves, and what it tells (this project's own rules).
-use Rattle.std.specs.Prelude.{ℕ, ◌+◌, ◌^◌, ◌≡◌, ◌≢◌, ◌<◌, ◌⊎◌, List, ◌++◌, All, AllPairs, length, sum_by, Option, None, Some}
-use Rattle.std.specs.Prelude.{codes, decimal}
+use Rattle.std.specs.Prelude.{ℕ, ◌+◌, ◌^◌, ◌≡◌, ◌≢◌, ◌<◌, ◌⊎◌, List, ◌++◌, All, AllPairs, length, sum_by}
+use Rattle.std.specs.Prelude.{Option, None, Some, codes, decimal}
 use Rattle.outer_io.specs.declared.file_name.FileName.{FileName}
 use Rattle.outer_io.specs.declared.file_name.FileName.TheVariants.{Commit}
 use Rattle.outer_io.specs.Files.{Files, bytes_of}
