@@ -22,6 +22,22 @@ impl Asked {
             [] => ".",
         }
     }
+
+    /// The command, and no text where there is none.
+    pub(crate) fn command(&self) -> &str {
+        match self.words.as_slice() {
+            [_, command, ..] => command.as_str(),
+            _ => "",
+        }
+    }
+
+    /// Whether the command answers its input line by line.
+    pub(crate) fn answers_lines(&self) -> bool {
+        matches!(
+            self.command(),
+            "run" | "session" | "ranges" | "explain" | "count"
+        )
+    }
 }
 
 /// Why words ask for nothing.

@@ -1,0 +1,142 @@
+//! The forms of lines, and examples of them.
+
+use crate::forms::LINES;
+use std::alloc::AllocError;
+
+/// How many dimensions an example has where none are known.
+const EXAMPLE_DIMS: usize = 2;
+
+const POLYGON: &str = r#"{"type":"Polygon","coordinates":[[[0,0],[4,0],[4,4],[0,0]]]}"#;
+
+/// The first word of a form or of a line.
+pub(crate) fn verb_of(form: &str) -> &str {
+    form.split_ascii_whitespace().next().unwrap_or("")
+}
+
+/// Whether lines of this form are read by a command.
+fn is_read_by(commands: &str, command: &str) -> bool {
+    commands.split(' ').any(|it| it == command)
+}
+
+/// Appends the first words of the lines that a command reads, each once.
+pub(crate) fn put_verbs(note: &mut String, command: &str) -> Result<(), AllocError> {
+    let mut before = "";
+    for it in LINES {
+        let verb = verb_of(it.form);
+        if is_read_by(it.commands, command) && verb != before {
+            if !before.is_empty() {
+                note.push_str(", ")?;
+            }
+            note.push_str(verb)?;
+            before = verb;
+        }
+    }
+    Ok(())
+}
+
+/// The first word of a line that a command reads which begins as this one does.
+pub(crate) fn nearest_verb(command: &str, begun: &str) -> Option<&'static str> {
+    if begun.is_empty() {
+        return None;
+    }
+    for it in LINES {
+        let verb = verb_of(it.form);
+        if is_read_by(it.commands, command)
+            && (verb.starts_with(begun) || begun.starts_with(verb))
+        {
+            return Some(verb);
+        }
+    }
+    None
+}
+
+/// Appends the forms of a line that begins with these two words, with an example of the first.
+pub(crate) fn put_forms(
+    note: &mut String,
+    command: &str,
+    dims: usize,
+    verb: &str,
+    second: &str,
+) -> Result<(), AllocError> {
+    let mut first = "";
+    for it in LINES {
+        let is_this = verb_of(it.form) == verb && is_read_by(it.commands, command);
+        if is_this && !has_other(verb, it.form, second) {
+            note.push_str(if first.is_empty() { "expected: " } else { "; " })?;
+            note.push_str(it.form)?;
+            if first.is_empty() {
+                first = it.form;
+            }
+        }
+    }
+    if !first.is_empty() {
+        put_dims(note, dims)?;
+        note.push_str(", as in: ")?;
+        put_example(note, first, dims)?;
+    }
+    Ok(())
+}
+
+/// Whether another form of this first word has the second word, and this one hasn't.
+fn has_other(verb: &str, form: &str, second: &str) -> bool {
+    let has = |form: &str| form.split_ascii_whitespace().nth(1) == Some(second);
+    !has(form)
+        && LINES
+            .iter()
+            .any(|it| verb_of(it.form) == verb && has(it.form))
+}
+
+/// Appends of how many dimensions points are, where it is known.
+pub(crate) fn put_dims(note: &mut String, dims: usize) -> Result<(), AllocError> {
+    if dims > 0 {
+        write!(note, ", D is {dims} here")?;
+    }
+    Ok(())
+}
+
+/// Appends a line of a form: what may be left out is left out.
+pub(crate) fn put_example(note: &mut String, form: &str, dims: usize) -> Result<(), AllocError> {
+    let dims = if dims == 0 { EXAMPLE_DIMS } else { dims };
+    let (mut before, mut is_left_out) = ("", false);
+    for piece in form.split(' ') {
+        // (C1 stands for all of the point)
+        is_left_out = is_left_out || piece.starts_with('[') || piece == "..";
+        if !is_left_out {
+            note.push_str(before)?;
+            before = " ";
+            put_piece(note, piece, dims)?;
+        }
+        is_left_out = is_left_out && !piece.ends_with(']') && piece != "CD";
+    }
+    Ok(())
+}
+
+/// Appends what stands for a piece of a form.
+fn put_piece(note: &mut String, piece: &str, dims: usize) -> Result<(), AllocError> {
+    match piece {
+        "C1" => put_point(note, dims, 1, 1),
+        "LO" => put_point(note, dims, 0, 0),
+        "HI" => put_point(note, dims, 9, 0),
+        "D" | "R" => note.push('2'),
+        "N" => note.push('0'),
+        "K" => note.push('3'),
+        "X" => note.push_str("0"),
+        "Y" => note.push_str("1"),
+        "STEPX" | "STEPY" => note.push_str("10"),
+        "NAME" => note.push_str("monday"),
+        "POSITIONS" => note.push_str("0 1"),
+        "JSON" => note.push_str(POLYGON),
+        word => note.push_str(word),
+    }
+}
+
+/// Appends a point: so many numbers, from the first on, by this step.
+fn put_point(note: &mut String, dims: usize, first: usize, step: usize) -> Result<(), AllocError> {
+    let mut number = first;
+    for i in 0..dims {
+        let before = if i == 0 { "" } else { " " };
+        write!(note, "{before}{number}")?;
+        number = number.saturating_add(step);
+    }
+    Ok(())
+}
