@@ -20,18 +20,23 @@ fn is_read_by(commands: &str, command: &str) -> bool {
 
 /// Appends the first words of the lines that a command reads, each once.
 pub(crate) fn put_verbs(note: &mut String, command: &str) -> Result<(), AllocError> {
-    let mut before = "";
-    for it in LINES {
-        let verb = verb_of(it.form);
-        if is_read_by(it.commands, command) && verb != before {
-            if !before.is_empty() {
-                note.push_str(", ")?;
-            }
-            note.push_str(verb)?;
-            before = verb;
+    let mut is_first = true;
+    for (i, it) in LINES.iter().enumerate() {
+        if is_read_by(it.commands, command) && !is_repeated(i, it.form) {
+            note.push_str(if is_first { "" } else { ", " })?;
+            note.push_str(verb_of(it.form))?;
+            is_first = false;
         }
     }
     Ok(())
+}
+
+/// Whether the form before this place of the table begins with the same word as this one.
+fn is_repeated(at: usize, form: &str) -> bool {
+    match LINES.get(at.wrapping_sub(1)) {
+        Some(before) => verb_of(before.form) == verb_of(form),
+        None => false,
+    }
 }
 
 /// The first word of a line that a command reads which begins as this one does.
@@ -97,13 +102,13 @@ pub(crate) fn put_dims(note: &mut String, dims: usize) -> Result<(), AllocError>
 /// Appends a line of a form: what may be left out is left out.
 pub(crate) fn put_example(note: &mut String, form: &str, dims: usize) -> Result<(), AllocError> {
     let dims = if dims == 0 { EXAMPLE_DIMS } else { dims };
-    let (mut before, mut is_left_out) = ("", false);
+    let (mut is_first, mut is_left_out) = (true, false);
     for piece in form.split(' ') {
         // (C1 stands for all of the point)
         is_left_out = is_left_out || piece.starts_with('[') || piece == "..";
         if !is_left_out {
-            note.push_str(before)?;
-            before = " ";
+            note.push_str(if is_first { "" } else { " " })?;
+            is_first = false;
             put_piece(note, piece, dims)?;
         }
         is_left_out = is_left_out && !piece.ends_with(']') && piece != "CD";
