@@ -1,5 +1,5 @@
 #!/usr/bin/env python3
-"""Writes what comes from docs/commands.txt: the program's table of commands, the synopsis of docs/bkd.1, and
+"""Writes what comes from docs/commands.txt: the program's tables of commands and lines, the synopsis of docs/bkd.1, and
 docs/completion for bash, zsh and fish. The usage line is proved text, so it is only looked at.
 
 usage: bench/words.py            writes what is stale
@@ -9,24 +9,39 @@ import os
 import re
 import sys
 
-TOP = os.path.join(os.path.dirname(os.path.abspath(__file__)), "..")
+# the checkout stays as it is
+sys.dont_write_bytecode = True
+
+from words_table import at, read_table
+
 ANYWHERE = ("--wait", "--no-lock")
 
 SOURCE = """\
-//! The forms of the commands and what their options take. (bench/words.py writes this from docs/commands.txt.)
+//! The forms of the commands, of their options and of the lines that they read. (bench/words.py writes this from
+//! docs/commands.txt.)
 
 /// A command and the words that it has behind the folder.
 #[derive(Clone, Copy)]
 pub(crate) struct Form {
     pub(crate) command: &'static str,
     pub(crate) form: &'static str,
+    pub(crate) example: &'static str,
 }
 
-/// An option that takes a value, and what it takes.
+/// An option that takes a value, and what it takes: the whole numbers from the first to the second, or a text.
 #[derive(Clone, Copy)]
 pub(crate) struct Taken {
     pub(crate) option: &'static str,
     pub(crate) value: &'static str,
+    pub(crate) example: &'static str,
+    pub(crate) range: Option<(u32, u32)>,
+}
+
+/// A line that some commands read.
+#[derive(Clone, Copy)]
+pub(crate) struct LineForm {
+    pub(crate) commands: &'static str,
+    pub(crate) form: &'static str,
 }
 
 pub(crate) const FORMS: [Form; %d] = [
@@ -34,26 +49,10 @@ pub(crate) const FORMS: [Form; %d] = [
 
 pub(crate) const TAKEN: [Taken; %d] = [
 %s];
+
+pub(crate) const LINES: [LineForm; %d] = [
+%s];
 """
-
-
-def at(name):
-    return os.path.join(TOP, name)
-
-
-def read_table():
-    """The commands, each with its form and its input, and the options, each with its value and what it is."""
-    commands, options, about = {}, {}, None
-    for line in open(at("docs/commands.txt")):
-        words = line.split()
-        if line.startswith("command "):
-            form, _, given = line[len("command "):].strip().partition(" < ")
-            about = commands[words[1]] = [form, given, ""]
-        elif line.startswith("option "):
-            about = options[words[1]] = [" ".join(words[2:]), "", ""]
-        elif line.startswith("    "):
-            about[2] += line.strip()
-    return commands, options
 
 
 def named(form):
@@ -61,14 +60,42 @@ def named(form):
     return re.findall(r"--[a-z-]+", form)
 
 
-def source(commands, options):
-    forms = [("Form", ("command", name), ("form", form)) for name, (form, _, _) in commands.items()]
-    taken = [("Taken", ("option", name), ("value", about)) for name, (value, _, about) in options.items() if value]
+def source(table):
+    def text(value):
+        return '"%s"' % value
 
-    def rows(of):
-        return "".join("    %s {\n%s    },\n" % (kind, "".join('        %s: "%s",\n' % it for it in fields))
-                       for kind, *fields in of)
-    return SOURCE % (len(forms), rows(forms), len(taken), rows(taken))
+    def ranged(name):
+        return "Some((%s))" % ", ".join(map(grouped, table.ranges[name])) if name in table.ranges else "None"
+
+    def row(kind, fields):
+        return "    %s {\n%s    },\n" % (kind, "".join("        %s: %s,\n" % it for it in fields))
+
+    def rows(kind, of):
+        return "".join(row(kind, fields) for fields in of)
+
+    forms = [(("command", text(name)), ("form", text(form)), ("example", text(example_of(table, name))))
+             for name, (form, _, _) in table.commands.items()]
+    taken = [(("option", text(name)), ("value", text(lowered(about))),
+              ("example", text(table.examples.get(name, name + " " + value))), ("range", ranged(name)))
+             for name, (value, _, about) in table.options.items() if value]
+    lines = [(("commands", text(commands)), ("form", text(form))) for commands, form in table.lines]
+    return SOURCE % (len(forms), rows("Form", forms), len(taken), rows("Taken", taken),
+                     len(lines), rows("LineForm", lines))
+
+
+def example_of(table, name):
+    """Words of a command: the table's, else its form without what may be left out."""
+    return table.examples.get(name) or re.sub(r" \[[^\]]*\]", "", table.commands[name][0])
+
+
+def lowered(about):
+    """What is said of an option up to a semicolon, as the rest of a sentence."""
+    return about[:1].lower() + about[1:].partition(";")[0].removesuffix(".")
+
+
+def grouped(digits):
+    """A number as sources write it: in groups of three where it has more than four digits."""
+    return "{:_}".format(int(digits)) if len(digits) > 4 else digits
 
 
 def roff(text):
@@ -202,9 +229,10 @@ def fish(commands, options):
 
 def stale():
     """The files that differ from what the table makes of them, each with what it should be (None: look by hand)."""
-    commands, options = read_table()
+    table = read_table()
+    commands, options = table.commands, table.options
     made = {
-        "crates/bkd/src/forms.rt": source(commands, options),
+        "crates/run_notes/src/forms.rt": source(table),
         "docs/bkd.1": manual(commands),
         "docs/completion/bkd.bash": bash(commands, options),
         "docs/completion/_bkd": zsh(commands, options),

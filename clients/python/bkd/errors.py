@@ -7,8 +7,9 @@ from typing import Any
 
 from .damage import Damage
 
-# how the program's notes begin, and the form of those that name a file
+# how the program's notes begin, those on lines that were refused among them, and the form of those that name a file
 _NOTE = "bkd: "
+_OF_LINE = "bkd: line "
 _OF_FILE = re.compile(r"[a-z ]+ (?P<file>(?:seg|live|commit)[-.][-.0-9a-z]+): .+")
 # what they say where another run has the folder, or had it meanwhile
 _OTHERS = re.compile("another run works in|held by another run|another run has committed")
@@ -175,7 +176,7 @@ def cause_of(said: str) -> str | None:
     """The notes right before the last line of what a program said on standard error; None where there are none."""
     notes: list[str] = []
     for line in reversed(said.strip().splitlines()[:-1]):
-        if not line.startswith(_NOTE):
+        if not line.startswith(_NOTE) or line.startswith(_OF_LINE):
             break
         notes.insert(0, line.removeprefix(_NOTE))
     return "; ".join(notes) or None

@@ -8,6 +8,7 @@ from __future__ import annotations
 import contextlib
 import fcntl
 import os
+import re
 import subprocess
 import weakref
 from collections.abc import Sequence
@@ -75,6 +76,14 @@ class Pipes:
     def said(self) -> str:
         """The end of what the program wrote on standard error."""
         return self._said.decode(errors="replace")
+
+    def noted(self, number: int) -> str | None:
+        """What the program noted of a line that it refused, if anything; it does so before it answers."""
+        poll = polled(self._err)
+        while not self._is_over and poll.poll(0) and (data := os.read(self._err, READ)):
+            self._said = (self._said + data)[-_KEPT:]
+        notes = re.findall(rb"^bkd: line %d: (.*)$" % number, self._said, re.MULTILINE)
+        return notes[-1].decode(errors="replace") if notes else None
 
     # ---- what goes over them
 

@@ -42,6 +42,7 @@ HELP = {
 _HISTORY = 1000
 _CHANGING = ("add", "delete", "merge", "flush", "create", "reopen")
 _DONE = re.compile(rb"doc [0-9]+|deleted ([0-9]+)")
+_REFUSED = re.compile(rb"line ([0-9]+): ")
 
 
 class Shell:
@@ -112,6 +113,9 @@ class Shell:
             self.tell("(stopped; the session goes on)")
         finally:
             self._out.flush()
+        refused = _REFUSED.match(talk.head)
+        if refused is not None and (note := self._session.noted(int(refused[1]))) is not None:
+            self.tell(f"  {note}")
         if talk.head == b"ok" and line.split()[0] == "reopen":
             self._forget()
         elif talk.head == b"ok" and is_changing:

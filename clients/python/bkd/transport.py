@@ -162,6 +162,10 @@ class Session:
             self.is_dirty, self._live = True, None
             self._exchange(talk)
 
+    def noted(self, number: int) -> str | None:
+        """What the program noted of the line of this number, which it refused."""
+        return self._run.noted(number)
+
     def settle(self, talk: Many) -> None:
         """Has every line answered that was sent, also where the call was interrupted."""
         self._run.settle()

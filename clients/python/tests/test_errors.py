@@ -22,6 +22,8 @@ FULL = "bkd: writing seg-0000000000000003.bkd: no space left on device\n"
     (4, "bkd: bringing the names in the folder to the disk: input/output error\nfolder fault\n", bkd.FolderFault, None,
      "bringing the names in the folder to the disk: input/output error"),
     (4, FULL + "something else\nfolder fault\n", bkd.FolderFault, None, None),
+    (4, "bkd: line 2: expected: add C1 .. CD\n" + FULL + "folder fault\n", bkd.FolderFault, "seg-0000000000000003.bkd",
+     "writing seg-0000000000000003.bkd: no space left on device"),
     (3, "bkd: reading the input: input/output error\nsource fault\n", bkd.SourceFault, None,
      "reading the input: input/output error"),
     (7, "out of memory\n", bkd.OutOfMemory, None, None),

@@ -85,7 +85,7 @@ def test_lines_and_the_end(shell, real, tmp_path):
     assert "deleted 1\nplaces*> " in shell.done("delete 0")
     assert "hits 1\n1\nplaces*> " in shell.done("box 0 0 9 9")
     assert "near 1\n1 25\nplaces*> " in shell.done("nearest 1 0 0")
-    assert "wrong words" in shell.done("add 1 2 3")
+    assert re.search(r"wrong words\n  expected: add C1 .. CD, D is 2 here, as in: add 1 2\n", shell.done("add 1 2 3"))
     assert "unknown command" in shell.done("frobnicate")
     shell.type("\x04")
     assert "committed: 2 added, 1 deleted" in shell.until("deleted\n")

@@ -23,6 +23,22 @@ impl Asked {
         }
     }
 
+    /// The command, and no text where there is none.
+    pub(crate) fn command(&self) -> &str {
+        match self.words.as_slice() {
+            [_, command, ..] => command.as_str(),
+            _ => "",
+        }
+    }
+
+    /// Whether the command answers its input line by line.
+    pub(crate) fn answers_lines(&self) -> bool {
+        matches!(
+            self.command(),
+            "run" | "session" | "ranges" | "explain" | "count"
+        )
+    }
+
     /// Whether the words are those of the command `clean`, which is done here and not by `bkd_top::run`: the names of
     /// the folder's files are nothing that a `Folder` tells.
     pub(crate) fn is_clean(&self) -> bool {

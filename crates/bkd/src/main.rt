@@ -2,25 +2,30 @@
 #![tactic(auto)]
 
 mod asked;
-mod forms;
+mod files;
 mod notes;
+mod progress;
+mod watch;
+mod watched;
 
 use asked::{Asked, AskedFault, LONGEST_WAIT, read_asked};
 use bkd_build::OpenGate;
 use bkd_top::{Status, code, run, status_line};
 use clean_folder::run_clean;
 use leftovers::take_away;
-use notes::{aside_note, reason_note, usage_note, wants_notes};
-use outer_io::{DirFolder, Reason, StdSink, StdSource, write_all};
+use notes::{Note, aside_note, status_note};
+use outer_io::{Aside, DirFolder, StdSink, StdSource, write_all};
 use page_cache::PageFault;
 use std::alloc::{Alloc, AllocError, Global};
 use std::fs::{File, Files};
-use std::io::{Lock, Read};
+use std::io::Lock;
 use std::marker::Sync;
 use std::process::ExitCode;
 use std::thread::Threads;
 use std::time::Clock;
 use std::{env, io};
+use watch::{Watch, wants_notes};
+use watched::Watched;
 
 /// How a run ended, and what there is to tell of it beside its status.
 type Ended = (Status, Option<String>);
@@ -51,10 +56,12 @@ fn run_words<R: Threads + Sync>(rt: &HostRuntime, threads: &R) -> Ended {
         Err(AskedFault::Memory) => return (Status::Memory, None),
         Err(AskedFault::NotText) => format!(in alloc; "bkd: a word is not UTF-8\n"),
         Err(AskedFault::Wait) => {
-            format!(in alloc; "bkd: --wait takes seconds, 0 to {LONGEST_WAIT}, and stands once\n")
+            format!(in alloc;
+                "bkd: --wait takes seconds, 0 to {LONGEST_WAIT}, and stands once, as in: --wait 10\n"
+            )
         }
     };
-    (Status::Usage, wanted(rt, note))
+    (Status::Usage, told(rt, Note::Wanted(note)))
 }
 
 /// Runs the program as it is asked to.
@@ -64,9 +71,11 @@ fn run_asked<R: Threads + Sync>(rt: &HostRuntime, threads: &R, asked: &Asked) ->
     let Ok(mut folder) = DirFolder::open(rt, alloc, asked.dir(), asked.hold, asked.wait) else {
         return (Status::Memory, None);
     };
-    let mut input = StdSource::new(rt.stdin().lock());
-    let mut output = StdSink::new(rt.stdout().lock());
     let names = asked.is_clean().then(|| folder.names());
+    let watch = Watch::new(rt, asked);
+    let mut folder = Watched::new(folder, watch.as_ref());
+    let mut input = Watched::new(StdSource::new(rt.stdin().lock()), watch.as_ref());
+    let mut output = Watched::new(StdSink::new(rt.stdout().lock()), watch.as_ref());
     let status = match names {
         Some(Ok(names)) => run_clean(alloc, names.as_slice(), &mut folder, &mut output),
         Some(Err(_)) => Status::FolderFault,
@@ -80,26 +89,29 @@ fn run_asked<R: Threads + Sync>(rt: &HostRuntime, threads: &R, asked: &Asked) ->
             &OpenGate,
         ),
     };
+    if let Some(watch) = &watch {
+        watch.end();
+    }
+    let mut folder = folder.into_inner();
     let reason = folder.reason();
     let aside = folder.aside();
     if folder.is_changed() {
         // what is left after a fault here the next run takes away
         let _ = tidy(alloc, &mut folder);
     }
-    let note = match (&status, reason) {
-        (Status::Usage, _) => wanted(rt, usage_note(alloc, words)),
-        (Status::FolderFault, Some(reason @ (Reason::Call { .. } | Reason::Names(_)))) => {
-            wanted(rt, reason_note(alloc, &reason))
-        }
-        // that the directory can't be held is told to all, since something else is to be done then
-        (Status::FolderFault, Some(reason)) => reason_note(alloc, &reason).ok(),
-        _ => None,
+    let note = match status_note(rt, words, reason, &status) {
+        Some(note) => told(rt, note),
+        None => None,
     };
-    let note = match aside {
-        Some(aside) => wanted(rt, aside_note(alloc, &aside, note)),
+    (status, with_aside(rt, aside, note))
+}
+
+/// A note, behind one that says where files were put aside, if some were.
+fn with_aside(rt: &HostRuntime, aside: Option<Aside>, note: Option<String>) -> Option<String> {
+    match aside {
+        Some(aside) => told(rt, Note::Wanted(aside_note(rt.alloc(), &aside, note))),
         None => note,
-    };
-    (status, note)
+    }
 }
 
 /// Takes away what this run and those that were stopped before it have left in a folder that this run has changed.
@@ -112,9 +124,10 @@ fn tidy<R: Files<File = File> + Clock + Alloc + Clone + Drop>(
 }
 
 /// A note, where there is memory for it and somebody wants it.
-fn wanted(rt: &HostRuntime, note: Result<String, AllocError>) -> Option<String> {
+fn told(rt: &HostRuntime, note: Note) -> Option<String> {
     match note {
-        Ok(note) if wants_notes(rt) => Some(note),
-        _ => None,
+        Note::Always(note) => note.ok(),
+        Note::Wanted(Ok(note)) if wants_notes(rt) => Some(note),
+        Note::Wanted(_) => None,
     }
 }

@@ -1,31 +1,60 @@
-//! What the program tells beside its status: lines on standard error before the status's own.
+//! What the program tells of its status: lines on standard error before the status's own.
 
-use crate::forms::{FORMS, Form, TAKEN};
+use bkd_top::Status;
 use outer_io::{Aside, Reason};
+use run_notes::usage_note;
 use std::alloc::{AllocError, Global};
-use std::env;
-use std::io::IsTerminal;
+use std::io::{Lock, Read};
 
-/// Whether somebody wants notes: who looks at a terminal, or set BKD_NOTES to 1.
-pub(crate) fn wants_notes(rt: &HostRuntime) -> bool {
-    rt.stderr().is_terminal()
-        || match env::var(rt, "BKD_NOTES") {
-            Ok(value) => value.as_str() == "1",
-            Err(_) => false,
-        }
+/// What is told of a status, to whom it may concern.
+#[derive(Drop)]
+pub(crate) enum Note {
+    /// To all.
+    Always(Result<String, AllocError>),
+    /// To those that want notes.
+    Wanted(Result<String, AllocError>),
+}
+
+/// What there is to tell of a status.
+pub(crate) fn status_note(
+    rt: &HostRuntime,
+    words: &[String],
+    reason: Option<Reason>,
+    status: &Status,
+) -> Option<Note> {
+    let alloc = rt.alloc();
+    match status {
+        Status::Usage => Some(Note::Wanted(usage_note(alloc, words))),
+        Status::FolderFault => match reason {
+            Some(reason @ (Reason::Call { .. } | Reason::Names(_))) => {
+                Some(Note::Wanted(reason_note(alloc, &reason)))
+            }
+            // that the directory can't be held is told to all, since something else is to be done then
+            Some(reason) => Some(Note::Always(reason_note(alloc, &reason))),
+            None => None,
+        },
+        Status::SourceFault => Some(Note::Wanted(input_note(rt))),
+        Status::SinkFault => Some(Note::Wanted(String::from_str(
+            alloc,
+            "bkd: the output takes no more: it was closed, or its disk is full; the last commit stands\n",
+        ))),
+        Status::TooLarge => Some(Note::Wanted(String::from_str(
+            alloc,
+            "bkd: an input has 536,870,912 bytes at most: cut it in two\n",
+        ))),
+        Status::Damaged(_) => Some(Note::Wanted(String::from_str(
+            alloc,
+            "bkd: nothing was changed; copy the folder as it is, and see docs/DAMAGE.md\n",
+        ))),
+        _ => None,
+    }
 }
 
 /// Why the folder failed.
-pub(crate) fn reason_note(alloc: Global, reason: &Reason) -> Result<String, AllocError> {
+fn reason_note(alloc: Global, reason: &Reason) -> Result<String, AllocError> {
     match reason.error() {
         Some(error) => {
-            let error = format!(in alloc; "{error}")?;
-            // (the number says no more than the text, which begins a sentence where it comes from)
-            let mut said = match error.as_str().split_once(" (os error") {
-                Some((said, _)) => String::from_str(alloc, said)?,
-                None => error,
-            };
-            said.make_ascii_lowercase();
+            let said = said(format!(in alloc; "{error}")?, alloc)?;
             format!(in alloc; "bkd: {reason}: {said}\n")
         }
         None => format!(in alloc; "bkd: {reason}\n"),
@@ -45,74 +74,25 @@ pub(crate) fn aside_note(
     Ok(told)
 }
 
-/// What is wrong with words that were refused, as far as the table of commands tells, and what is expected.
-pub(crate) fn usage_note(alloc: Global, words: &[String]) -> Result<String, AllocError> {
-    let [folder, name, options @ ..] = words else {
-        return format!(in alloc;
-            "bkd: a folder and a command are expected, as in: bkd FOLDER check\n"
-        );
+/// What the system said, without its number: that says no more than the text, which begins a sentence where it comes
+/// from.
+fn said(error: String, alloc: Global) -> Result<String, AllocError> {
+    let mut said = match error.as_str().split_once(" (os error") {
+        Some((said, _)) => String::from_str(alloc, said)?,
+        None => error,
     };
-    if let Some(form) = form_of(name.as_str()) {
-        return options_note(alloc, form, options);
-    }
-    match form_of(folder.as_str()) {
-        Some(form) => {
-            let form = form.form;
-            format!(in alloc; "bkd: the folder comes first, as in: bkd FOLDER {form}\n")
-        }
-        None => {
-            let name = name.as_str();
-            format!(in alloc; "bkd: '{name}' is no command\n")
-        }
-    }
+    said.make_ascii_lowercase();
+    Ok(said)
 }
 
-fn form_of(name: &str) -> Option<Form> {
-    for form in FORMS {
-        if form.command == name {
-            return Some(form);
+/// Why the input failed, as far as it fails again.
+fn input_note(rt: &HostRuntime) -> Result<String, AllocError> {
+    let alloc = rt.alloc();
+    match rt.stdin().lock().read(&mut [0; 1]) {
+        Err(e) => {
+            let said = said(format!(in alloc; "{e}")?, alloc)?;
+            format!(in alloc; "bkd: reading the input: {said}\n")
         }
+        Ok(_) => format!(in alloc; "bkd: reading the input failed\n"),
     }
-    None
-}
-
-/// What is wrong with the options of a command.
-fn options_note(alloc: Global, form: Form, words: &[String]) -> Result<String, AllocError> {
-    let (command, whole) = (form.command, form.form);
-    for word in words {
-        let option = option_of(word.as_str());
-        if option.starts_with("--") && !whole.split(' ').any(|it| bare(it) == option) {
-            return format!(in alloc; "bkd: {command} takes no {option}, as in: {whole}\n");
-        }
-    }
-    for piece in whole.split(' ') {
-        if piece.starts_with("--") && !words.iter().any(|word| option_of(word.as_str()) == piece) {
-            return format!(in alloc; "bkd: {command} needs {piece}, as in: {whole}\n");
-        }
-    }
-    let mut note = format!(in alloc; "bkd: expected, each option once: {whole}\n")?;
-    for taken in TAKEN {
-        if words
-            .iter()
-            .any(|word| option_of(word.as_str()) == taken.option)
-        {
-            let (option, value) = (taken.option, taken.value);
-            write!(note, "bkd: {option}: {value}\n")?;
-        }
-    }
-    Ok(note)
-}
-
-/// The option that a word names, without a value behind it.
-fn option_of(word: &str) -> &str {
-    match word.split_once("=") {
-        Some((option, _)) => option,
-        None => word,
-    }
-}
-
-/// A piece of a form without its brackets.
-fn bare(piece: &str) -> &str {
-    let piece = piece.strip_prefix("[").unwrap_or(piece);
-    piece.strip_suffix("]").unwrap_or(piece)
 }
