@@ -11,7 +11,7 @@ use bkd_top::{Status, code, run, status_line};
 use clean_folder::run_clean;
 use leftovers::take_away;
 use notes::{aside_note, reason_note, usage_note, wants_notes};
-use outer_io::{DirFolder, Reason, StdSink, StdSource, write_all};
+use outer_io::{Aside, DirFolder, Reason, StdSink, StdSource, write_all};
 use page_cache::PageFault;
 use std::alloc::{Alloc, AllocError, Global};
 use std::fs::{File, Files};
@@ -95,11 +95,15 @@ fn run_asked<R: Threads + Sync>(rt: &HostRuntime, threads: &R, asked: &Asked) ->
         (Status::FolderFault, Some(reason)) => reason_note(alloc, &reason).ok(),
         _ => None,
     };
-    let note = match aside {
-        Some(aside) => wanted(rt, aside_note(alloc, &aside, note)),
+    (status, with_aside(rt, aside, note))
+}
+
+/// A note, behind one that says where files were put aside, if some were.
+fn with_aside(rt: &HostRuntime, aside: Option<Aside>, note: Option<String>) -> Option<String> {
+    match aside {
+        Some(aside) => wanted(rt, aside_note(rt.alloc(), &aside, note)),
         None => note,
-    };
-    (status, note)
+    }
 }
 
 /// Takes away what this run and those that were stopped before it have left in a folder that this run has changed.
