@@ -7,7 +7,7 @@ use Rattle.std.proofs.lemmas.List.{take_all}
 use Rattle.std.proofs.lemmas.List.Elements.{All-more, All-weaker}
 use Rattle.outer_io.specs.declared.file_name.FileName.{FileName}
 use Rattle.outer_io.specs.declared.file_name.FileName.TheVariants.{Commit}
-use Rattle.outer_io.specs.Files.{Files, SameBut, bytes_of}
+use Rattle.outer_io.specs.Files.{Files, bytes_of}
 use Rattle.outer_io.specs.Names.{same_name}
 use Rattle.outer_io.proofs.Names.{same_name-false, same_name-true}
 use Rattle.commit_list.specs.Commits.{CommitData}
