@@ -1,12 +1,10 @@
 -- Files that are taken away one after the other: what is counted of them.
 use Rattle.std.proofs.Common.{◌≡◌, ◌≢◌, ℕ, zero, suc, ◌+◌, ◌^◌, ◌<◌, ◌≤◌, arith}
-use Rattle.std.proofs.Common.{List, [], ◌∷◌, length, get_or, Option, None, Some, refl, sym, ap, ◌∙◌}
+use Rattle.std.proofs.Common.{List, [], ◌∷◌, length, get_or, Option, refl, sym, ap, ◌∙◌}
 use Rattle.std.specs.Prelude.{sum_by, AllPairs}
 use Rattle.std.proofs.lemmas.List.Sums.{sum_by-cons}
 use Rattle.outer_io.specs.declared.file_name.FileName.{FileName}
-use Rattle.outer_io.specs.Files.{Files, SameBut, size_of}
-use Rattle.clean_folder.specs.Cleaned.{IsCounted, KeepsCount, is_there, size_in}
-use Rattle.clean_folder.specs.declared.removing.Removed.{Removed}
+use Rattle.outer_io.specs.Files.{Files, SameBut}
 
 abbrev Measure : Type 0
 Measure = Option (List ℕ) → ℕ
@@ -72,20 +70,3 @@ counts_more g names i d first old new before now apart lt same so_far keeps few 
     let step = keeps (omega (arith, sum, most, few)) in
     let lost = lost_one g names i d old new apart lt same in
     omega (arith, sum, step, lost)
-
--- of one file that is gone
-pub keeps_gone : (old new : Option (List ℕ)) (before now : Removed) → new ≡ None → IsCounted (is_there old) before.files now.files
-    → IsCounted (size_in old) before.bytes now.bytes → KeepsCount old new before now
-keeps_gone old new before now none files bytes = rw none (record {
-  files = λ few. let more = files few in omega (arith, more);
-  bytes = λ few. let more = bytes few in omega (arith, more);
-})
-
--- a file without a size isn't there
-pub no_file : (file : Option (List ℕ)) → size_of file ≡ None → file ≡ None
-no_file None e = refl
-no_file (Some bytes) e = absurd cc
-
--- nothing is counted of a file that isn't there
-pub none_counted : (g : Measure) (file : Option (List ℕ)) (n : ℕ) → g None ≡ 0 → size_of file ≡ None → IsCounted (g file) n n
-none_counted g file n zero_is e = rw (no_file file e) (λ few. let z = zero_is in omega (arith, z))

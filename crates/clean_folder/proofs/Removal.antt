@@ -7,7 +7,7 @@ use Rattle.std.proofs.lemmas.List.{take_all}
 use Rattle.std.proofs.lemmas.List.Elements.{All-more, All-weaker}
 use Rattle.outer_io.specs.declared.file_name.FileName.{FileName}
 use Rattle.outer_io.specs.declared.file_name.FileName.TheVariants.{Commit}
-use Rattle.outer_io.specs.Files.{Files, SameBut, bytes_of}
+use Rattle.outer_io.specs.Files.{Files, bytes_of}
 use Rattle.outer_io.specs.Names.{same_name}
 use Rattle.outer_io.proofs.Names.{same_name-false, same_name-true}
 use Rattle.commit_list.specs.Commits.{CommitData}
@@ -26,18 +26,6 @@ takes_then c old middle new first second = record {
   others = λ name stays. second.others name stays ∙ first.others name stays;
   fewer = λ name. fewer_then name old middle new (first.fewer name) (second.fewer name);
 }
-
--- of one file that isn't listed
-pub takes_one : (c : CommitData) (name : FileName) (old new : Files) → IsUnlisted c name → SameBut name old new → Fewer name old new
-    → TakesUnlisted c old new
-takes_one c name old new unlisted same less = record {
-  others = λ other stays. same other (λ e. stays (subst (IsUnlisted c) (sym e) unlisted));
-  fewer = λ other. by other (same_name other name) refl;
-}
-  where
-    by : (other : FileName) → (b : Bool) → same_name other name ≡ b → Fewer other old new
-    by other true e = subst (λ (n : FileName). Fewer n old new) (sym (same_name-true other name e)) less
-    by other false e = inl (same other (same_name-false other name e))
 
 -- what is gone stays gone
 pub still_gone : (c : CommitData) (old new : Files) (name : FileName) → TakesUnlisted c old new → old name ≡ None → new name ≡ None
@@ -87,9 +75,6 @@ is_the_commit c name true is e = (
 is_the_commit c name false is e = absurd (both_ways false refl e)
 
 -- ---- what is kept
-
-pub spares_itself : (files : Files) → Spares files files
-spares_itself files = record { kept = record { commit = refl; listed = λ c says name lists. refl }; fewer = λ name. inl refl; without = λ none. refl }
 
 -- over the commit that the file says
 pub spares_listed : (old new : Files) (c : CommitData) → IsCommitFile (bytes_of (old Commit)) c → TakesUnlisted c old new → Spares old new

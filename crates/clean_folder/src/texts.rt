@@ -1,6 +1,6 @@
 //! What is told of the files that were taken away.
 
-ghost use Rattle.std.specs.Prelude.{◌≡◌, ◌++◌, IfOk, OnOk, decimal};
+ghost use Rattle.std.specs.Prelude.{◌≡◌, IfOk};
 ghost use Rattle.clean_folder.specs.Cleaned.{removed_text};
 
 use crate::removing::Removed;
