@@ -26,7 +26,7 @@ impl<'w, 'a, T> Watched<'w, 'a, T> {
     }
 
     pub(crate) fn into_inner(self) -> T
-        ensures { result ≡ self.inner }
+        ensures { result ≡ self.entry.inner }
     {
         self.inner
     }
