@@ -77,9 +77,9 @@ def generate(folder: Folder, docs: int, seed: int, forks: int = 1, *, program: W
 def _told(program: Program, folder: Folder, words: Sequence[str], timeout: float | None,
           source: bytes | IO[bytes] = b"", held: Held | None = None) -> str:
     """The text of a command that is refused as a whole or not at all."""
-    status, text = program.output(os.fspath(folder), words, source, options.timeout(timeout), held)
+    status, text, cause = program.noted(os.fspath(folder), words, source, options.timeout(timeout), held)
     if status == 2:
-        raise Refused(" ".join(words), text.decode().strip(), 1)
+        raise Refused(" ".join(words), text.decode().strip(), 1, cause=cause)
     return text.decode()
 
 

@@ -12,7 +12,7 @@ import subprocess
 import weakref
 from collections.abc import Sequence
 
-from .errors import Error, Hung
+from .errors import Error, Hung, notes_on
 from .processes import close, fileno, guard_of, left_open, polled, started, streams
 from .sending import Sending
 from .talk import Talk
@@ -75,6 +75,14 @@ class Pipes:
     def said(self) -> str:
         """The end of what the program wrote on standard error."""
         return self._said.decode(errors="replace")
+
+    def notes(self) -> dict[int, str]:
+        """What the program noted of lines that it refused, by their numbers, as far as the end of what it said has
+        them. It notes before it answers, so all that is answered is in it."""
+        poll = polled(self._err)
+        while not self._is_over and poll.poll(0) and (data := os.read(self._err, READ)):
+            self._said = (self._said + data)[-_KEPT:]
+        return notes_on(self.said)
 
     # ---- what goes over them
 

@@ -87,7 +87,7 @@ class Session:
         except BaseException as error:
             self._note.release()
             if isinstance(error, Locked):
-                raise lock.told(self._folder) from None
+                raise lock.told(self._folder, error.cause) from None
             raise
 
     @property
