@@ -122,8 +122,9 @@ class Program:
                 status = run.status(timeout)
                 if status not in (0, 2):
                     raise run.fault(folder, status)
+                cause = cause_of(run.said())
             sink.seek(0)
-            return status, sink.read(), cause_of(run.said())
+            return status, sink.read(), cause
 
     def lines(self, folder: str, words: Sequence[str], held: Held | None = None) -> Iterator[bytes]:
         """The lines that a command writes, as they come; a status but 0 and 2 raises its error, at the end."""
