@@ -1,6 +1,5 @@
-"""A scheduler and workers as processes, for tests of `bkd.shards`; and documents as a list, which they are held to."""
+"""A scheduler and workers as processes, for tests of `bkd.shards`."""
 import os
-import random
 import shutil
 import subprocess
 
@@ -8,8 +7,8 @@ import distributed
 import pytest
 
 from conftest import HERE, REAL, STAND_IN
+from plain import HIGH, LOW, box_of, drawn, nearest_of  # noqa: F401
 
-LOW, HIGH = -(1 << 31), (1 << 31) - 1
 KILLS = int(os.environ.get("BKD_CLUSTER_KILLS", 4))
 
 
@@ -80,20 +79,3 @@ def words():
 
 def folders(tmp_path, count=3):
     return [tmp_path / f"shard {i}" for i in range(count)]
-
-
-def drawn(count, seed, most=3, wide=40):
-    draw = random.Random(seed)
-    return [[(draw.randint(-wide, wide), draw.randint(-wide, wide)) for _ in range(draw.randint(1, most))]
-            for _ in range(count)]
-
-
-def nearest_of(documents, k, at):
-    found = sorted((min((x - at[0]) ** 2 + (y - at[1]) ** 2 for x, y in points), key)
-                   for key, points in documents.items())
-    return [(key, distance) for distance, key in found[:k]]
-
-
-def box_of(documents, low, high):
-    return sorted(key for key, points in documents.items()
-                  if any(low[0] <= x <= high[0] and low[1] <= y <= high[1] for x, y in points))

@@ -119,7 +119,7 @@ def load_table(folder: str) -> None:
     model = Model(load(folder))
     next(sys.stdin.buffer)
     for count, raw in enumerate(sys.stdin.buffer, 1):
-        model.line(b"add " + raw.replace(b",", b" "))
+        model.line(b"add " + raw.removesuffix(b"\n").replace(b",", b" "))
     store(folder, model.state)
     print(f"loaded {count}\nnext {model.state.next}")
     end(0)

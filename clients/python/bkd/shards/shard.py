@@ -142,6 +142,11 @@ class Shard:
             records = [found.of_token(token_of(token), [ADDED]) for token in tokens]
             return [0 if record is None else record.count for record in records]
 
+    def has(self, known: Known, token: str) -> bool:
+        """Whether a change of this token is done."""
+        with self._turn:
+            return self._open(known).done(token_of(token)) is not None
+
     def _stored(self, known: Known, token: str) -> State:
         look = self._read(known)
         if look.journal.of_token(token_of(token), [ADDED]) is None:
