@@ -29,7 +29,7 @@ class Steps:
     """Where something is to happen: before the step that it counts down to."""
 
     def __init__(self):
-        self.left, self.what = 0, None
+        self.left, self.what, self.hook = 0, None, lambda: None
 
     def set(self, left, what):
         self.left, self.what = left, what
@@ -60,6 +60,7 @@ class Local(Crew):
     def _result(self, call, address):
         if address in self.down:
             raise _Gone(address)
+        self._steps.hook()
         self._steps.step()
         told = call()
         self._steps.step()
@@ -233,3 +234,87 @@ def test_a_deletion_that_nobody_did(words, steps, tmp_path):
         (tmp_path / "layout.json.0123456789abcdef.keys").write_bytes(b"")
     index.recover()
     assert not list(tmp_path.glob("*.keys"))
+
+
+def test_stream(words, steps, tmp_path):
+    """Keys in order, in arrays, whatever is held at once; the same key in several folders, and twice in one."""
+    draw = random.Random(4)
+    created(tmp_path, 3, by="cells", leaf=8)
+    index = opened(tmp_path, words, steps)
+    assert list(index.stream(shards.box(*EVERYWHERE))) == []
+    points = [(draw.randint(-40, 40), draw.randint(-40, 40)) for _ in range(400)]
+    keys = [draw.randint(-90, 90) for _ in points]
+    index.add_many(points, keys)
+    for low, high in (EVERYWHERE, ((0, 0), (20, 40)), ((99, 99), (100, 100))):
+        inside = sorted(key for key, (x, y) in zip(keys, points) if low[0] <= x <= high[0] and low[1] <= y <= high[1])
+        for at_once in (1, 7, 1 << 16) if low == (0, 0) else (50, 400):
+            parts = list(index.stream(shards.box(low, high), at_once))
+            assert all(1 <= len(part) <= 3 * at_once for part in parts)
+            assert [key for part in parts for key in part.tolist()] == inside
+    square = [(-20, -20), (20, -20), (20, 20), (-20, 20), (-20, -20)]
+    assert numpy.concatenate(list(index.stream(shards.polygon([square]), 9))).tolist() == index.polygon([square]).tolist()
+    for wrong in (lambda: index.stream(shards.nearest(1, (0, 0))), lambda: index.stream(shards.box(*EVERYWHERE), 0)):
+        with pytest.raises(ValueError):
+            next(wrong())
+    begun = index.stream(shards.box(*EVERYWHERE), 3)
+    assert len(next(begun))
+    with pytest.raises(bkd.Locked):
+        Shards(tmp_path / "layout.json", Client(), words, None, True, 0.1).add((1, 1))
+    begun.close()
+    index.add((1, 1))
+
+
+@pytest.mark.skipif(REAL is None or "batch" not in REAL.commands, reason="no program with batch")
+def test_batch(words, steps, tmp_path):
+    """As `ask`, in one message a worker; the nearest of equally far ones too."""
+    draw = random.Random(6)
+    created(tmp_path, 3, by="cells", leaf=8)
+    index = opened(tmp_path, words, steps)
+    documents = {key: [(draw.randint(-40, 40), draw.randint(-40, 40))] for key in range(600, 0, -1)}
+    index.add_many(list(documents.values()), list(documents))
+    asked = [shards.box((x, -40), (x + 9, 20)) for x in range(-40, 40)]
+    asked += [shards.nearest(4, (x, x)) for x in range(-40, 40)]
+    asked.append(shards.polygon([[(0, 0), (9, 0), (9, 9), (0, 0)]]))
+    calls = []
+    each = index._crew._round
+    index._crew._round = lambda method, *words: calls.append(method) or each(method, *words)
+    found = index.batch(asked, forks=0)
+    assert calls in (["batch"], ["batch"] * 2)
+    for one, other in zip(found, index.ask(asked)):
+        assert list(one) == list(other)
+    assert list(found[0]) == box_of(documents, (-40, -40), (-31, 20))
+    with pytest.raises(ValueError):
+        index.batch(asked, forks=7)
+
+
+def test_queries_go_on_while_cells_are_split(words, steps, tmp_path):
+    """At each step of a rebalance another client asks, and finds all; one that writes waits."""
+    draw = random.Random(8)
+    created(tmp_path, 4, by="cells", leaf=8)
+    index, other = (opened(tmp_path, words, Steps()) for _ in range(2))
+    documents = {key: [(draw.randint(-40, 40), draw.randint(-40, 40))] for key in range(300)}
+    documents |= {key: [(draw.randint(30, 40), draw.randint(30, 40))] for key in range(300, 900)}
+    index.add_many([points[0] for key, points in documents.items() if key < 300], range(300))
+    index.add_many([points[0] for key, points in documents.items() if key >= 300], range(300, 900))
+    asked = []
+
+    def ask():
+        asked.append(other.box((25, 25), (35, 38)).tolist())
+        assert asked[-1] == box_of(documents, (25, 25), (35, 38)) and len(other.box(*EVERYWHERE)) == 900
+        late = Shards(tmp_path / "layout.json", Client(), words, None, True, 0.01)
+        with pytest.raises(bkd.Locked):
+            late.add((1, 1))
+
+    index._crew._steps.hook = ask
+    assert index.rebalance() > 0 and len(asked) >= 2
+    index._crew._steps.hook = lambda: None
+    assert stored_in(index) == documents
+
+
+def test_rescue_is_refused(words, steps, tmp_path):
+    created(tmp_path, 2)
+    index = opened(tmp_path, words, steps)
+    index.add((1, 1))
+    with pytest.raises(bkd.Unsupported, match="has no command rescue"):
+        index.rescue()
+    assert index.box(*EVERYWHERE).tolist() == [0]

@@ -14,7 +14,7 @@ import numpy
 from .. import requests
 from ..commands import Folder
 from ..errors import Locked
-from ..requests import Point, Request, coordinates
+from ..requests import Point, coordinates
 from .additions import Additions
 from .crew import Crew
 from .deletions import Deletions
@@ -203,6 +203,12 @@ class Shards(Asking):
                 place.order, place.mark, place.live = state.order, state.mark, state.live
             layout.write(self._path)
             return told
+
+    def rescue(self) -> None:
+        """What can be read of damaged folders: raises `Unsupported`, naming the program, as long as it has no such
+        command. `check` says which folder is damaged; a copy of it, of the same state, may stand in its place."""
+        with self._alone() as layout:
+            self._crew.each("rescue", layout, {at: () for at in range(len(layout.places))})
 
     # ---- cells
 
