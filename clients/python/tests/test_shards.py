@@ -222,7 +222,7 @@ def test_a_token_is_done_once(client, words, tmp_path):
 def test_the_first_use_of_the_readme(cluster, words, tmp_path, monkeypatch):
     monkeypatch.chdir(tmp_path)
     text = (HERE.parent / "README.md").read_text()
-    lines = text[text.index("    from bkd import shards\n"):text.index("It answers as one index would, or")].split("\n\n")[0]
+    lines = text[text.index("    from bkd import shards\n"):].split("\n\n")[0]
     where = cluster.client.scheduler.address
     code = textwrap.dedent(lines).replace("/data", str(tmp_path)).replace("tcp://localhost:8786", where)
     told = []

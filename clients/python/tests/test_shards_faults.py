@@ -1,5 +1,6 @@
 """An index over several folders where something goes wrong: a folder that isn't what was stored, a full disk, a worker
-or a client that dies. (Workers are killed in `test_shards_kills.py`.) Nothing is lost, nothing is there twice, and no answer is wrong."""
+or a client that dies. (Workers are killed in `test_shards_kills.py`.) Nothing is lost, nothing is there twice, and no
+answer is wrong."""
 import os
 import random
 import shutil

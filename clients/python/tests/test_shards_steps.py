@@ -252,7 +252,8 @@ def test_stream(words, steps, tmp_path):
             assert all(1 <= len(part) <= 3 * at_once for part in parts)
             assert [key for part in parts for key in part.tolist()] == inside
     square = [(-20, -20), (20, -20), (20, 20), (-20, 20), (-20, -20)]
-    assert numpy.concatenate(list(index.stream(shards.polygon([square]), 9))).tolist() == index.polygon([square]).tolist()
+    inside = index.polygon([square]).tolist()
+    assert numpy.concatenate(list(index.stream(shards.polygon([square]), 9))).tolist() == inside
     for wrong in (lambda: index.stream(shards.nearest(1, (0, 0))), lambda: index.stream(shards.box(*EVERYWHERE), 0)):
         with pytest.raises(ValueError):
             next(wrong())

@@ -95,7 +95,8 @@ class Layout:
     `by` is `"number"`, the documents in turn, or `"cells"`: a sample of the first points is cut into as many cells as
     there are folders, each with as many of them, and a document goes where its first point lies; until enough points
     have come for that, all go to the first folder. `given` counts the documents ever added. `calls` are the calls
-    that aren't done, and the last thousand that are, by their tokens, and so are `deletions`. `leaving` are folders that are to be removed.
+    that aren't done, and the last thousand that are, by their tokens; so are `deletions`. `leaving` are folders that
+    are to be removed.
     """
 
     dims: int

@@ -155,8 +155,8 @@ class Shards(Asking):
         """Deletes the documents of these keys, and answers how many were live.
 
         With a `token` it is done once, and answers the same again where the call is made again. Where folders can't do
-        it `Unfinished` or `WorkerLost` tell which have and the token; where none has, nothing has happened and the cause
-        is raised. What is left open in a folder is done before that gets anything more.
+        it `Unfinished` or `WorkerLost` tell which have and the token; where none has, nothing has happened and the
+        cause is raised. What is left open in a folder is done before that gets anything more.
         """
         found = keys_of(keys)
         with self._alone() as layout:
@@ -184,9 +184,9 @@ class Shards(Asking):
     def recover(self) -> dict[str, bool]:
         """Ends the calls that weren't done to their end, and answers of each token whether it is done.
 
-        A deletion is finished. An addition whose parts are all stored is done; of another what was stored is taken back,
-        so that its call may be made again. Folders that a rebalance has left are removed. Raises `WorkerLost`, `NoIndex` or `Changed` where a
-        folder can't be asked; then it may be done again.
+        A deletion is finished. An addition whose parts are all stored is done; of another what was stored is taken
+        back, so that its call may be made again. Folders that a rebalance has left are removed. Raises `WorkerLost`,
+        `NoIndex` or `Changed` where a folder can't be asked; then it may be done again.
         """
         with self._alone() as layout:
             told = {}
