@@ -141,7 +141,7 @@ class Shards(Asking):
             named = numpy.arange(len(found)) + call.first if given is None else given
             if not call.is_done:
                 places = layout.place(firsts, call)
-                self._deletions.settle(layout, numpy.unique(places).tolist())
+                self._deletions.settle(layout, numpy.flatnonzero(numpy.bincount(places)).tolist())
                 self._additions.add(layout, name, call, found, named, places)
             return named
 
