@@ -6,9 +6,11 @@ import subprocess
 import distributed
 import pytest
 
-from conftest import HERE, REAL, STAND_IN
+from conftest import EACH, HERE, REAL, STAND_IN
 from plain import HIGH, LOW, box_of, drawn, nearest_of  # noqa: F401
 
+# seconds that workers may take to start
+PATIENCE = EACH / 2
 KILLS = int(os.environ.get("BKD_CLUSTER_KILLS", 4))
 
 
@@ -39,8 +41,8 @@ class Cluster:
         self.workers[name].wait()
 
     def __enter__(self):
-        self.client = distributed.Client(scheduler_file=self.file, direct_to_workers=True, timeout=60)
-        self.client.wait_for_workers(2, timeout=60)
+        self.client = distributed.Client(scheduler_file=self.file, direct_to_workers=True, timeout=PATIENCE)
+        self.client.wait_for_workers(2, timeout=PATIENCE)
         return self
 
     def __exit__(self, *_):
@@ -68,7 +70,7 @@ def doomed(cluster):
     for name, process in list(cluster.workers.items()):
         if process.poll() is not None:
             cluster.start(name)
-    cluster.client.wait_for_workers(2, timeout=60)
+    cluster.client.wait_for_workers(2, timeout=PATIENCE)
 
 
 @pytest.fixture

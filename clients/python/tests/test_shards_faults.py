@@ -15,7 +15,7 @@ distributed = pytest.importorskip("distributed")
 
 import bkd
 from bkd import lock, shards
-from clusters import HIGH, KILLS, LOW, client, cluster, doomed, folders, words  # noqa: F401
+from clusters import HIGH, KILLS, LOW, PATIENCE, client, cluster, doomed, folders, words  # noqa: F401
 from conftest import HERE
 
 pytestmark = pytest.mark.slow
@@ -80,7 +80,7 @@ def test_a_folder_whose_worker_is_gone(doomed, words, tmp_path):
             assert told.value.committed == (paths[0],) and told.value.open == (paths[1],)
             assert told.value.token == token
         doomed.start("w1")
-        doomed.client.wait_for_workers(2, timeout=60)
+        doomed.client.wait_for_workers(2, timeout=PATIENCE)
         keys = index.add_many([(i, 50) for i in range(6)], token="kept").tolist()
         assert keys == list(range(10, 16))
         assert index.recover() == {"given up": False}

@@ -17,7 +17,7 @@ distributed = pytest.importorskip("distributed")
 
 import bkd
 from bkd import shards
-from clusters import KILLS, box_of, client, cluster, doomed, folders, nearest_of, words  # noqa: F401
+from clusters import KILLS, PATIENCE, box_of, client, cluster, doomed, folders, nearest_of, words  # noqa: F401
 
 KINDS = "add", "delete", "ask", "rebalance"
 # a kill and the look at all that is there behind it, in tests that have a time each
@@ -84,7 +84,7 @@ def killed(doomed, tmp_path, words, kinds, seed):
             dying.join()
             beside.tried(beside.whole)
             doomed.start(name)
-            doomed.client.wait_for_workers(2, timeout=60)
+            doomed.client.wait_for_workers(2, timeout=PATIENCE)
         assert index.recover() == {} and not index.layout.left()
         assert sum(live for *_, live in index.about()) == len(beside.documents)
 
