@@ -6,7 +6,7 @@ usage: measure.py own [COUNT]      opening, one box beside the bare pipe, add_ma
        measure.py parts [COUNT]    ten million points into eight folders, one after the other, and what each part costs
        measure.py read [COUNT]     a million points read from the files by bkd.formats and exported
 Times are by the clock (those of parts are of processors), the least of several spells that take turns. BKD names the
-one.
+program where it is not the usual one.
 """
 import contextlib
 import os

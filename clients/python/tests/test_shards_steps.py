@@ -219,6 +219,26 @@ def test_a_deletion_that_a_worker_leaves(words, steps, tmp_path):
         assert stored_in(index) == documents and not list(tmp_path.glob("*.keys"))
 
 
+def test_what_lacks_a_deletion_gets_nothing_more(words, steps, tmp_path):
+    """The folder that has done it takes more; what the other one would have got isn't begun, and comes when it is there
+    again, behind the deletion."""
+    created(tmp_path, 2, workers={str(tmp_path / f"shard {i}"): f"w{i}" for i in range(2)})
+    index = opened(tmp_path, words, steps)
+    index.add_many([(i, i) for i in range(40)])
+    index._crew.down = {"w1"}
+    with pytest.raises(shards.WorkerLost):
+        index.delete_many(range(6), token="gone")
+    assert index.add((7, 7), 100) == 100
+    for change in (lambda: index.add((8, 8), 1), lambda: index.add_many([(8, 8)] * 2), lambda: index.delete_many([9])):
+        with pytest.raises(shards.WorkerLost) as told:
+            change()
+        assert told.value.token == "gone" and index.layout.left() == ["gone"]
+    index._crew.down = set()
+    assert index.add((8, 8), 1) == 1 and index.layout.left() == []
+    documents = {i: [(i, i)] for i in range(6, 40)} | {100: [(7, 7)], 1: [(8, 8)]}
+    assert stored_in(index) == documents and index.delete_many(range(6), token="gone") == 6
+
+
 def test_a_deletion_that_nobody_did(words, steps, tmp_path):
     """Nothing has happened, and nothing happens later."""
     created(tmp_path, 1)

@@ -14,12 +14,19 @@ from ..kept import sync_names
 from ..requests import Request
 from .crew import Crew
 from .documents import Array
-from .errors import BadLayout, Changed
+from .errors import BadLayout, Changed, Unfinished
 from .layout import Deletion, Layout
 from .outcomes import is_lost, take, unfinished
 
 # what a folder raises before it changes anything
 _BEFORE = (NoIndex, Changed, Locked, Refused)
+
+
+def refuse(lacking: Mapping[int, Unfinished], places: Iterable[int]) -> None:
+    """Raises why one of these places gets nothing more."""
+    for at in places:
+        if at in lacking:
+            raise lacking[at]
 
 
 class Deletions:
@@ -36,7 +43,7 @@ class Deletions:
         digest = hashlib.sha256(keys).hexdigest()
         deletion = layout.deletions.get(name)
         if deletion is None:
-            self.settle(layout, places)
+            refuse(self.settle(layout), places)
             deletion = Deletion(line, digest, list(places), list(places))
             if line is None and places:
                 self._keep(name, keys)
@@ -49,12 +56,14 @@ class Deletions:
             self._fail(layout, name, deletion, failed)
         return deletion.gone
 
-    def settle(self, layout: Layout, places: Iterable[int]) -> None:
-        """Does what deletions left open in folders, before these get anything more; what others can't do stays open."""
+    def settle(self, layout: Layout) -> dict[int, Unfinished]:
+        """Does what deletions left open in folders, and answers of those that can't do it what is raised where they
+        are to get anything more."""
+        lacking: dict[int, Unfinished] = {}
         for name, deletion in [(name, one) for name, one in layout.deletions.items() if one.open]:
             failed = self._try(layout, name, deletion, self._what(name, deletion))
-            if any(at in failed for at in places):
-                raise unfinished(layout, name, deletion.places, failed)
+            lacking |= {at: unfinished(layout, name, deletion.places, failed) for at in failed}
+        return lacking
 
     def end(self, layout: Layout, name: str, deletion: Deletion) -> None:
         """Does what a deletion left open. Raises why that can't be done."""

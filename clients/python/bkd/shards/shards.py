@@ -17,7 +17,7 @@ from ..errors import Locked
 from ..requests import Point, coordinates
 from .additions import Additions
 from .crew import Crew
-from .deletions import Deletions
+from .deletions import Deletions, refuse
 from .documents import Array, documents_of, keys_of
 from .errors import Unfinished
 from .layout import Layout
@@ -134,14 +134,14 @@ class Shards(Asking):
             given = None if keys is None else keys_of(keys)
             if given is not None and len(given) != len(found):
                 raise ValueError(f"{len(given)} keys for {len(found)} documents")
-            firsts = found.firsts()
+            firsts, lacking = found.firsts(), self._deletions.settle(layout)
             call = layout.calls.get(name) or layout.begin(name, firsts)
             if call.count != len(found):
                 raise ValueError(f"token {name} is of {call.count} documents, not of {len(found)}")
             named = numpy.arange(len(found)) + call.first if given is None else given
             if not call.is_done:
                 places = layout.place(firsts, call)
-                self._deletions.settle(layout, numpy.flatnonzero(numpy.bincount(places)).tolist())
+                refuse(lacking, numpy.flatnonzero(numpy.bincount(places)).tolist())
                 self._additions.add(layout, name, call, found, named, places)
             return named
 
