@@ -122,6 +122,17 @@ def script(folder: str, stays: bool) -> None:
     end(2 if model.count else 0, f"refused {model.count}" if model.count else "")
 
 
+def load_table(folder: str) -> None:
+    """A table whose columns are all named, in an index that is there."""
+    model = Model(load(folder))
+    next(sys.stdin.buffer)
+    for count, raw in enumerate(sys.stdin.buffer, 1):
+        model.line(b"add " + raw.removesuffix(b"\n").replace(b",", b" "))
+    store(folder, model.state)
+    print(f"loaded {count}\nnext {model.state.next}")
+    end(0)
+
+
 def check(folder: str) -> None:
     state = load(folder)
     if state is None:
@@ -246,8 +257,8 @@ def info(folder: str) -> None:
 def main() -> None:
     commands = os.environ.get("STAND_IN_COMMANDS", "run|load|explain|check|generate|session").split("|")
     does = {"session": lambda f: script(f, True), "run": lambda f: script(f, False),
-            "explain": explain, "check": check, "count": count, "batch": batch, "ranges": ranges, "export": export,
-            "info": info}
+            "load": load_table, "explain": explain, "check": check, "count": count, "batch": batch, "ranges": ranges,
+            "export": export, "info": info}
     if len(sys.argv) < 3 or sys.argv[2] not in commands or sys.argv[2] not in does:
         end(1, f"usage: bkd FOLDER {'|'.join(commands)} [options]")
     folder = sys.argv[1]
