@@ -136,3 +136,13 @@ async function check() {
     byId("check").disabled = false;
   }
 }
+/* What is damaged, each of its parts by name, and what can be done about it. */
+function showDamage({ damage, remedy }) {
+  byId("damage").hidden = !damage && !remedy;
+  byId("damage").replaceChildren();
+  if (damage) byId("damage").append(listed(Object.entries(damage)));
+  for (const line of remedy || []) byId("damage").append(made("p", line));
+}
+
+  showDamage({});
+    showDamage(told);
