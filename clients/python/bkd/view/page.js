@@ -2,7 +2,7 @@
 "use strict";
 const byId = name => document.getElementById(name);
 const state = {
-  about: null, view: null, answer: null, query: null, drawing: false, ring: [], corner: null, cross: null, pointers: new Map(), drag: null,
+  about: null, view: null, answer: null, query: null, drawing: false, ring: [], corner: null, cross: null, pointers: new Map(), drag: null, coasts: null, cells: null,
   pinch: null, past: [], wait: 0, slow: true, asked: 0, viewed: 0,
 };
 // milliseconds between two looks at the commit, before a view is asked for, and that make one slow, so that the next
@@ -88,6 +88,7 @@ function draw() {
   clear();
   drawAxes(isFlat());
   clipped(() => {
+    if (hasCoasts()) drawCoasts(state.coasts.lines);
     if (state.view) drawSquares(state.view, state.view.squares, colours.many, .18, isFlat());
     const found = state.answer && state.answer.drawn;
     if (found) {

@@ -122,6 +122,25 @@ async function check() {
   let told = await fetched("check", { method: "POST" });
   byId("check").disabled = true;
   try {
+  tellCoasts();
+}
+
+/* ---- coast lines, where longitude goes across and latitude up */
+
+const hasCoasts = () => state.coasts !== null && byId("degrees").checked && axes().x === 0 && axes().y === 1;
+
+/* Says whose lines are drawn, or why none are; they are asked for once. */
+async function tellCoasts() {
+  byId("coasts").hidden = !byId("degrees").checked || isFlat();
+  if (byId("coasts").hidden) return;
+  try {
+    state.coasts = state.coasts || await fetched("coasts");
+    const { source, lacks } = state.coasts;
+    byId("coasts").textContent = lacks ? `No coast lines: ${lacks}.` : `Coast lines: ${source}.`;
+  } catch (error) {
+    byId("coasts").textContent = `No coast lines: ${error.message}.`;
+  }
+  draw();
     while (told.state === "runs") {
       byId("progress").hidden = false;
       byId("progress").value = told.size ? Math.min(told.read / told.size, 1) : 0;

@@ -99,6 +99,25 @@ function drawAxes(isFlat) {
   ink.strokeRect(room.left - .5, room.top - .5, room.width + 1, room.height + 1);
 }
 
+/* Lines of coasts, in degrees; those that lie beside the frame aren't drawn. */
+function drawCoasts(lines) {
+  const [left, bottom, right, top] = frame.map(c => c / scale.unit);
+  ink.strokeStyle = colours.soft;
+  ink.lineWidth = 1;
+  ink.globalAlpha = .7;
+  ink.beginPath();
+  for (const line of lines) {
+    for (let i = 0; i + 3 < line.length; i += 2) {
+      const [x, y, x2, y2] = line.slice(i, i + 4);
+      if (Math.max(x, x2) < left || Math.min(x, x2) > right || Math.max(y, y2) < bottom || Math.min(y, y2) > top) continue;
+      ink.moveTo(...toScreen(x * scale.unit, y * scale.unit));
+      ink.lineTo(...toScreen(x2 * scale.unit, y2 * scale.unit));
+    }
+  }
+  ink.stroke();
+  ink.globalAlpha = 1;
+}
+
 /* A number beside the axis, shortened where it has no room. */
 function upText(text, x, y) {
   let size = 12;
