@@ -56,7 +56,7 @@ async function loadView() {
     draw();
     tellShown();
     document.body.dataset.ready = "yes";
-    if (told.across === 1 && told.up === 1) return;
+    if (isOne(told)) return;
     if (dots === 4) state.slow = performance.now() > begun + SLOW;
   }
 }
@@ -95,15 +95,20 @@ function draw() {
       drawSquares(found, found.partly, colours.partly, .35, isFlat());
       drawSquares(found, found.squares, colours.found, .3, isFlat());
     }
+    state.cells = state.view && !isOne(state.view) && byId("counts").checked ? cellsOf(state.view, isFlat()) : null;
+    if (state.cells) drawCells(state.cells, isFlat());
     drawQuery(state.query, isFlat());
     if (state.cross && mode() !== "move") drawCross(state.cross);
   });
 }
 
+/* Whether squares are single coordinates. */
+const isOne = view => view.across === 1 && view.up === 1;
+
 function size(view) {
-  if (view.across === 1 && view.up === 1) return "one by one";
+  if (isOne(view)) return "one by one";
   const told = [view.across, view.up].slice(0, isFlat() ? 1 : 2).map(n => scale.unit > 1 ? `${(n / scale.unit).toPrecision(2)}${scale.sign}` : n.toLocaleString("en"));
-  return `by ${isFlat() ? "pieces" : "squares"} of ${told.join(" \u00d7 ")}, ${many(view.most, "point")} in the fullest`;
+  return `by ${many(view.squares.length, isFlat() ? "piece" : "square")} of ${told.join(" \u00d7 ")}, ${many(view.most, "point")} in the fullest`;
 }
 
 function tellShown() {
