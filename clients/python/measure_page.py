@@ -53,7 +53,7 @@ def views(folder):
     with subprocess.Popen(words, stdout=subprocess.PIPE, text=True) as server:
         try:
             url = urlsplit(server.stdout.readline().strip())
-            for part, name in ((1, "all"), (1 / 3, "a third across"), (1 / 30, "a thirtieth"), (1 / 1000, "a thousandth")):
+            for part, name in ((1, "all"), (1 / 3, "a third across"), (1 / 1000, "a thousandth across")):
                 took, used = [], []
                 for turn in range(TURNS):
                     far = int(SPAN * part) - turn
@@ -64,8 +64,8 @@ def views(folder):
                     told = json.loads(connection.getresponse().read())
                     took.append(time.perf_counter() - begun)
                     used.append(spent(server.pid) - before)
-                print(f"  {name}: {told['points']:,} points in {len(told['squares']):,} squares, {min(took):.2f} s by the "
-                      f"clock, {min(used):.2f} s of processor time")
+                print(f"  {name}: {told['points']:,} points in {len(told['squares']):,} squares, "
+                      f"{min(took):.2f} s by the clock, {min(used):.2f} s of processor time")
             print(f"  the page's process had {memory(server.pid):.0f} MB at most")
         finally:
             server.terminate()

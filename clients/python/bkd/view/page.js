@@ -2,8 +2,8 @@
 "use strict";
 const byId = name => document.getElementById(name);
 const state = {
-  about: null, view: null, answer: null, query: null, drawing: false, ring: [], corner: null, cross: null, pointers: new Map(), drag: null, coasts: null, cells: null,
-  pinch: null, past: [], wait: 0, slow: true, asked: 0, viewed: 0,
+  about: null, view: null, answer: null, query: null, drawing: false, ring: [], corner: null, cross: null,
+  pointers: new Map(), drag: null, coasts: null, cells: null, pinch: null, past: [], wait: 0, slow: true, asked: 0, viewed: 0,
 };
 // milliseconds between two looks at the commit, before a view is asked for, and that make one slow, so that the next
 // is first asked for by larger squares; steps that may be taken back

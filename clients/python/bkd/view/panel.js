@@ -47,7 +47,8 @@ function drawnOf(told) {
   if (!drawn) return `${found}, 0 points drawn: not in these dimensions.`;
   const partly = drawn.partly.reduce((sum, square) => sum + square[2], 0);
   const some = partly ? ` ${many(partly, "point")} more, of which some are found, in ${many(drawn.partly.length, "square")} that an edge meets.` : "";
-  return `${found}, ${many(drawn.points, "point")} of them drawn ${size(drawn)}.${some}`;
+  const which = told.kind === "nearest" ? "as near" : "of them";
+  return `${found}, ${many(drawn.points, "point")} ${which} drawn ${size(drawn)}.${some}`;
 }
 
 function numbersOf(told) {

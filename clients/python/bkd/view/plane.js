@@ -159,7 +159,7 @@ const short = n => n < 100000 ? n.toLocaleString("en") : n.toLocaleString("en", 
 /* A cell's side: a square's, doubled until it has so many dots. */
 function cellSide(side, dots, least) {
   let by = 1;
-  while (side > 0 && dots * by < least) by *= 2;
+  while (dots > 0 && dots * by < least) by *= 2;
   return side * by;
 }
 
