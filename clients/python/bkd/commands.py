@@ -95,6 +95,19 @@ def check(folder: Folder, *, program: Which = None, timeout: float | None = None
     return Checked(*map(int, found.groups()))
 
 
+def removed(folder: Folder, *, program: Which = None, timeout: float | None = None, held: Held | None = None) -> int:
+    """Has the program remove the files that the folder's commit doesn't list, and answers how many they were. `NoIndex`
+    where there is no commit; `Damaged` where what it lists isn't whole."""
+    try:
+        text = _told(find(program), folder, ["clean"], timeout, held=held)
+    except Refused as refused:
+        raise NoIndex(f"{os.fspath(folder)} holds no index") from refused
+    found = re.fullmatch(r"removed (\d+) files \d+ bytes\n", text)
+    if found is None:
+        raise BadAnswer(f"clean answered {text[:100]!r}")
+    return int(found.group(1))
+
+
 @dataclass(frozen=True, slots=True)
 class Info:
     """What is stored, as opening it finds: dimensions, leaf size, next number, points given, live documents, segments,
