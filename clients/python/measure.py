@@ -2,10 +2,11 @@
 """Measures the client beside the program alone; measure_peers.py does it beside others. Prints lines of one run.
 
 usage: measure.py own [COUNT]      opening, one box beside the bare pipe, add_many beside the program, many numbers
-       measure.py shards [COUNT]   ten million points over four folders of a local cluster, and queries over them
+       measure.py shards [COUNT]   a million points over folders of a local cluster, and queries: README's table
+       measure.py parts [COUNT]    ten million points into eight folders, one after the other, and what each part costs
        measure.py read [COUNT]     a million points read from the files by bkd.formats and exported
-Times are by the clock, the least of several spells that take turns. BKD names the program where it is not the usual
-one.
+Times are by the clock (those of parts are of processors), the least of several spells that take turns. BKD names the
+program where it is not the usual one.
 """
 import contextlib
 import os
@@ -150,54 +151,108 @@ def shard(count):
 
     from bkd import shards
     os.environ["PYTHONPATH"] = os.path.dirname(os.path.abspath(__file__))
-    points = drawn(count)
-    print(f"shards: {count} points by cells, {WORKERS} workers on this machine with {os.cpu_count()} processors")
+    points, program = drawn(count), bkd.find()
+    spread = (1, WORKERS, 2 * WORKERS)
+    names = ["a session", *(f"{folders} folder{'s' * (folders > 1)}" for folders in spread)]
     with tempfile.TemporaryDirectory() as top, \
             LocalCluster(n_workers=WORKERS, threads_per_worker=1, dashboard_address=None) as cluster, \
             Client(cluster, direct_to_workers=True) as client:
-        taken = {}
+        layouts, least = [os.path.join(top, f"{folders}.json") for folders in spread], {}
         for turn in range(3 if count <= 1_000_000 else 1):
+            adding = {}
             with Clock() as clock, bkd.open(os.path.join(top, f"plain {turn}"), create=True, arrays=True) as index:
                 index.add_many(points)
-            taken.setdefault("a plain index", []).append(clock.seconds)
-            for folders in (1, WORKERS, 2 * WORKERS):
-                path = os.path.join(top, f"{folders} {turn}.json")
+            adding["a session"] = clock.seconds
+            for path, folders, name in zip(layouts, spread, names[1:]):
+                path = path if not turn else f"{path}.{turn}"
                 shards.create(path, [os.path.join(top, f"{folders}-{i} {turn}") for i in range(folders)], by="cells")
-                with shards.open(path, client, program=bkd.find().words) as index, Clock() as clock:
+                with shards.open(path, client, program=program.words) as index, Clock() as clock:
                     index.add_many(points)
-                taken.setdefault(f"{folders} folders", []).append(clock.seconds)
-        for name, spent in taken.items():
-            print(f"  {name}: added and committed in {', '.join(f'{one:.1f}' for one in spent)} s")
+                adding[name] = clock.seconds
+            least = {name: min(spent, least.get(name, spent)) for name, spent in adding.items()}
+        rows = {f"adding {count:,} documents": [f"{least[name]:.1f} s" for name in names]}
         with bkd.open(os.path.join(top, "plain 0"), read=True, arrays=True) as index:
-            asked(index, "a session")
-        for folders in (1, WORKERS, 2 * WORKERS):
-            with shards.open(os.path.join(top, f"{folders} 0.json"), client, program=bkd.find().words) as index:
-                asked(index, f"{folders} folders")
+            asked(index, rows)
+        for path in layouts:
+            with shards.open(path, client, program=program.words) as index:
+                asked(index, rows)
+    print(f"{WORKERS} workers on {os.cpu_count()} processors, whose load was {os.getloadavg()[0]:.0f}:\n")
+    for row in (["", *names], ["---"] * (1 + len(names)), *([what, *cells] for what, cells in rows.items())):
+        print("| " + " | ".join(row) + " |", flush=True)
 
 
-def asked(index, name):
-    """Tells what a thousand boxes at once, a thousand times the ten nearest, and one box alone take: the least of five
-    times."""
+def asked(index, rows):
+    """Puts behind the rows what a thousand boxes at once, a thousand times the ten nearest, and one box alone take: the
+    least of several times."""
     from bkd import requests, shards
     kinds = shards if hasattr(index, "layout") else requests
     centres = drawn(1000, 7).tolist()
     boxes = [kinds.box((x - 500, y - 500), (x + 500, y + 500)) for x, y in centres]
     near = [kinds.nearest(10, at) for at in centres]
-    takes = {"a thousand boxes at once": lambda: sum(map(len, index.ask(boxes))),
-             "a thousand times the ten nearest": lambda: len(index.ask(near)),
-             "one box alone": lambda: len(index.box((0, 0), (1000, 1000)))}
+    takes = {"a thousand boxes at once": lambda: index.ask(boxes), "a thousand times the ten nearest":
+             lambda: index.ask(near), "one box": lambda: index.box((0, 0), (1000, 1000))}
     for what, work in takes.items():
-        spent = []
-        for _ in range(5 if what[0] == "a" else 100):
-            with Clock() as clock:
-                found = work()
-            spent.append(clock.seconds)
-        middle = sorted(spent)[len(spent) // 2]
-        print(f"    {name}: {what} {min(spent) * 1000:8.1f} ms, in the middle {middle * 1000:8.1f} ms ({found})")
+        spent = min(seconds(work) for _ in range(100 if what == "one box" else 5))
+        rows.setdefault(what, []).append(f"{spent * 1000:.{1 if what == 'one box' else 0}f} ms")
+
+
+def parts(count, folders=8):
+    """What an addition over folders is made of, each part on its own, without a cluster. Told is the time of processors
+    and not of the clock, so that a busy machine tells the same."""
+    import pickle
+
+    from bkd.shards import changing, journal, spelled
+    from bkd.shards.documents import Documents, documents_of
+    from bkd.shards.layout import Layout, Place
+    program, points, spent = bkd.find(), drawn(count), {}
+
+    def part(what, work):
+        begun = sum(os.times()[:4])
+        told = work()
+        spent[what] = spent.get(what, 0) + sum(os.times()[:4]) - begun
+        return told
+
+    with tempfile.TemporaryDirectory() as top:
+        layout = Layout(2, [Place.new(os.path.join(top, f"{i}")) for i in range(folders)], by="cells")
+        found = part("the client takes the documents", lambda: documents_of(points, 2))
+        places = part("it cuts cells and finds each one's place",
+                      lambda: layout.place(found.firsts(), layout.begin("all", found.firsts())))
+        for at, place in enumerate(layout.places):
+            rows = part("it parts the documents by folder", lambda: numpy.flatnonzero(places == at))
+            mine = part("it parts the documents by folder", lambda: found.chosen(rows))
+            sent = part("they are packed and unpacked", lambda: pickle.loads(pickle.dumps((mine, rows), 5)))
+            os.mkdir(place.folder)
+            with bkd.lock.locked(place.folder) as held:
+                changing.run(program, place.folder, [b"create 2\n"], held)
+                for begin in range(0, len(rows), 1_000_000):
+                    some = slice(begin, begin + 1_000_000)
+                    log = journal.Journal(os.path.join(place.folder, journal.NAME))
+                    record = journal.Record(journal.ADDED, 0, bytes(16), 0, 0, len(rows[some]), bytes(32))
+                    part("keys are written and synced", lambda: log.append(record, rows[some]))
+                    piece = Documents(sent[0].points[some])
+                    alone = part("the table is spelled", lambda: b"".join(spelled.table(piece)))
+                    with program_input(alone) as table:
+                        words = ["load", "--columns", spelled.columns(2)]
+                        part("the program loads it", lambda: program.output(place.folder, words, table, None, held))
+    total = sum(spent.values())
+    print(f"{count:,} documents into {folders} folders, one after the other, seconds of processors:\n")
+    print("| part | seconds | share |\n| --- | --- | --- |")
+    for what, took in (*spent.items(), ("all", total)):
+        print(f"| {what} | {took:.2f} | {took / total:.0%} |", flush=True)
+
+
+@contextlib.contextmanager
+def program_input(text):
+    """A file of this text, at its begin."""
+    with tempfile.TemporaryFile() as file:
+        file.write(text)
+        file.seek(0)
+        yield file
 
 
 if __name__ == "__main__":
-    kinds = {"own": (own, 1_000_000), "read": (read, 1_000_000), "shards": (shard, 10_000_000)}
+    kinds = {"own": (own, 1_000_000), "read": (read, 1_000_000), "shards": (shard, 1_000_000),
+             "parts": (parts, 10_000_000)}
     if len(sys.argv) not in (2, 3) or sys.argv[1] not in kinds:
         sys.exit(__doc__)
     work, usual = kinds[sys.argv[1]]

@@ -77,9 +77,9 @@ def generate(folder: Folder, docs: int, seed: int, forks: int = 1, *, program: W
 def _told(program: Program, folder: Folder, words: Sequence[str], timeout: float | None,
           source: bytes | IO[bytes] = b"", held: Held | None = None) -> str:
     """The text of a command that is refused as a whole or not at all."""
-    status, text = program.output(os.fspath(folder), words, source, options.timeout(timeout), held)
+    status, text, cause = program.noted(os.fspath(folder), words, source, options.timeout(timeout), held)
     if status == 2:
-        raise Refused(" ".join(words), text.decode().strip(), 1)
+        raise Refused(" ".join(words), text.decode().strip(), 1, cause=cause)
     return text.decode()
 
 
@@ -93,6 +93,19 @@ def check(folder: Folder, *, program: Which = None, timeout: float | None = None
     if found is None:
         raise BadAnswer(f"check answered {text[:100]!r}")
     return Checked(*map(int, found.groups()))
+
+
+def removed(folder: Folder, *, program: Which = None, timeout: float | None = None, held: Held | None = None) -> int:
+    """Has the program remove the files that the folder's commit doesn't list, and answers how many they were. `NoIndex`
+    where there is no commit; `Damaged` where what it lists isn't whole."""
+    try:
+        text = _told(find(program), folder, ["clean"], timeout, held=held)
+    except Refused as refused:
+        raise NoIndex(f"{os.fspath(folder)} holds no index") from refused
+    found = re.fullmatch(r"removed (\d+) files \d+ bytes\n", text)
+    if found is None:
+        raise BadAnswer(f"clean answered {text[:100]!r}")
+    return int(found.group(1))
 
 
 @dataclass(frozen=True, slots=True)

@@ -130,6 +130,7 @@ class Coprocess(Pipes):
                 raise self._ended(talk, first)
         self._note(talk, self._sending.last - first)
         self._unsettled = None
+        talk.explain(self.notes)
         return stopped_by
 
     def _single(self, request: Request, text: bytes) -> Any:
@@ -161,6 +162,7 @@ class Coprocess(Pipes):
             self._unsettled = talk
             if (inbox and not inbox[-1]) or not self._receive(talk):
                 raise self._ended(talk, first)
+        talk.explain(self.notes)
         return talk.values[0]
 
     def _settle(self, talk: Talk) -> None:

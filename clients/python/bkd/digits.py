@@ -24,9 +24,25 @@ def _groups() -> Any:
     return numpy.frombuffer(b"".join(spelled), dtype=numpy.uint32)
 
 
-def lines(word: bytes, rows: Any) -> bytes:
+def lines(word: bytes, rows: Any, begins: Any = slice(None)) -> bytes:
     """A line for each row of an array of shape (n, dims) of whole numbers of 32 bits: a word of 3 letters, and its
-    numbers."""
+    numbers. Where `begins` is given only the rows that it chooses begin a line, the first among them, and the others go
+    on with it."""
+    text = _cells(rows).view(numpy.uint8).reshape(len(rows), -1)
+    text[begins, :4] = numpy.frombuffer(b"\n" + word, dtype=numpy.uint8)
+    return text.tobytes()[1:] + b"\n"
+
+
+def records(rows: Any) -> bytes:
+    """The same rows as records of a CSV table, without a word."""
+    text = _cells(rows).view(numpy.uint8).reshape(len(rows), rows.shape[1], _BYTES)
+    text[:, 1:, 0] = ord(",")
+    text[:, 0, 0] = ord("\n")
+    return text.tobytes()[1:] + b"\n"
+
+
+def _cells(rows: Any) -> Any:
+    """Each number in a cell, whose first four bytes are spaces."""
     numbers = rows.astype(numpy.int64)
     is_negative = numbers < 0
     upper, low = numpy.divmod(numpy.abs(numbers).astype(numpy.uint32), numpy.uint32(10_000))
@@ -40,6 +56,4 @@ def lines(word: bytes, rows: Any) -> bytes:
     cells[..., 1] = table[numpy.where(high > 0, high + first, before_middle)]
     cells[..., 2] = table[numpy.where(high > 0, middle, numpy.where(upper > 0, middle + first, before_low))]
     cells[..., 3] = table[numpy.where(upper > 0, low, low + first)]
-    text = cells.view(numpy.uint8).reshape(len(rows), -1)
-    text[:, :4] = numpy.frombuffer(b"\n" + word, dtype=numpy.uint8)
-    return text.tobytes()[1:] + b"\n"
+    return cells

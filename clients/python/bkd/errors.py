@@ -2,14 +2,14 @@
 from __future__ import annotations
 
 import re
-from collections.abc import Sequence
+from collections.abc import Mapping, Sequence
 from typing import Any
 
 from .damage import Damage
 
-# how the program's notes begin, those on lines that were refused among them, and the form of those that name a file
+# how the program's notes begin, the form of those on a line that it refused, and of those that name a file
 _NOTE = "bkd: "
-_OF_LINE = "bkd: line "
+_OF_LINE = re.compile(r"bkd: line (?P<number>[0-9]+): (?P<note>.*)")
 _OF_FILE = re.compile(r"[a-z ]+ (?P<file>(?:seg|live|commit)[-.][-.0-9a-z]+): .+")
 # what they say where another run has the folder, or had it meanwhile
 _OTHERS = re.compile("another run works in|held by another run|another run has committed")
@@ -38,7 +38,12 @@ class Unsupported(Error):
 
 class Locked(Error):
     """Another run works on the folder, or has changed it meanwhile, or this process has it open already; the text says
-    which."""
+    which. `folder` is the folder, and `cause` what the program noted, None where no program was asked."""
+
+    def __init__(self, text: str, folder: str | None = None, cause: str | None = None) -> None:
+        super().__init__(text)
+        self.folder = folder
+        self.cause = cause
 
 
 class Closed(Error):
@@ -96,6 +101,13 @@ class Refused(Error):
         self.others = tuple(others)
         self.answers = answers
         self.cause = cause
+
+    def noted(self, notes: Mapping[int, str]) -> Refused:
+        """The same, with what the program noted of this line as its cause."""
+        cause = notes.get(self.number)
+        if cause is None:
+            return self
+        return Refused(self.line, self.reason, self.number, self.others, self.answers, cause)
 
 
 def unrefused(values: list[Any]) -> list[Any]:
@@ -172,11 +184,21 @@ _FAULTS: dict[int, type[Fault]] = {
 }
 
 
+def notes_on(said: str) -> dict[int, str]:
+    """What a program noted on standard error of lines that it refused, by their numbers."""
+    found: dict[int, str] = {}
+    for note in filter(None, map(_OF_LINE.fullmatch, said.splitlines())):
+        number = int(note["number"])
+        found[number] = f"{found[number]}; {note['note']}" if number in found else note["note"]
+    return found
+
+
 def cause_of(said: str) -> str | None:
-    """The notes right before the last line of what a program said on standard error; None where there are none."""
+    """The notes right before the last line of what a program said on standard error; None where there are none. Those
+    on lines that it refused are no part of it."""
     notes: list[str] = []
     for line in reversed(said.strip().splitlines()[:-1]):
-        if not line.startswith(_NOTE) or line.startswith(_OF_LINE):
+        if not line.startswith(_NOTE) or _OF_LINE.fullmatch(line):
             break
         notes.insert(0, line.removeprefix(_NOTE))
     return "; ".join(notes) or None
@@ -189,7 +211,7 @@ def fault_of(status: int, said: str, done: int | None = None, last: str | None =
     if status == 1 and line.startswith("usage: "):
         return Unsupported(f"the program doesn't know these words: {cause or line}")
     if status == 4 and cause and _OTHERS.search(cause):
-        return Locked(cause + ("; what wasn't committed is undone" if done else ""))
+        return Locked(cause + ("; what wasn't committed is undone" if done else ""), cause=cause)
     if status == 6 and line.startswith("damaged: ") and (damage := Damage.read(line.removeprefix("damaged: "))):
         return Damaged(damage, done, last, cause)
     if status in _FAULTS:

@@ -54,7 +54,7 @@ _mine = _Mine()
 
 
 def _of_this_process(folder: str) -> Locked:
-    return Locked(f"this process has {folder} open already: use that index, or close it first")
+    return Locked(f"this process has {folder} open already: use that index, or close it first", folder)
 
 
 def _place(folder: str) -> Place:
@@ -86,11 +86,11 @@ class Opened:
 _notes: weakref.WeakSet[Opened] = weakref.WeakSet()
 
 
-def told(folder: str) -> Locked:
-    """What is raised where a folder can't be had."""
+def told(folder: str, cause: str | None = None) -> Locked:
+    """What is raised where a folder can't be had; `cause` is what the program noted of it."""
     if _mine.has(_place(folder)):
         return _of_this_process(folder)
-    return Locked(f"another process works on {folder}")
+    return Locked(f"another process works on {folder}" + (f": {cause}" if cause else ""), folder, cause)
 
 
 def need_unopened(folder: str) -> None:

@@ -2,8 +2,8 @@
 from __future__ import annotations
 
 from collections import deque
-from collections.abc import Iterable, Iterator
-from dataclasses import dataclass, field
+from collections.abc import Callable, Iterable, Iterator, Mapping
+from dataclasses import dataclass, field, replace
 
 from .answers import DELETED, DOC, Answer
 from .errors import BadAnswer, Refused
@@ -113,6 +113,11 @@ class Many:
     def cut(self, last: int) -> None:
         if self._limit is None:
             self._limit = last + 1 - self._first
+
+    def explain(self, notes: Callable[[], Mapping[int, str]]) -> None:
+        if self._told.refusals:
+            found = notes()
+            self._told = replace(self._told, refusals=tuple(one.noted(found) for one in self._told.refusals))
 
     def may_change(self) -> bool:
         """Whether something may have been sent that changes documents."""

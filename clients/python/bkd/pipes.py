@@ -8,12 +8,11 @@ from __future__ import annotations
 import contextlib
 import fcntl
 import os
-import re
 import subprocess
 import weakref
 from collections.abc import Sequence
 
-from .errors import Error, Hung
+from .errors import Error, Hung, notes_on
 from .processes import close, fileno, guard_of, left_open, polled, started, streams
 from .sending import Sending
 from .talk import Talk
@@ -77,13 +76,13 @@ class Pipes:
         """The end of what the program wrote on standard error."""
         return self._said.decode(errors="replace")
 
-    def noted(self, number: int) -> str | None:
-        """What the program noted of a line that it refused, if anything; it does so before it answers."""
+    def notes(self) -> dict[int, str]:
+        """What the program noted of lines that it refused, by their numbers, as far as the end of what it said has
+        them. It notes before it answers, so all that is answered is in it."""
         poll = polled(self._err)
         while not self._is_over and poll.poll(0) and (data := os.read(self._err, READ)):
             self._said = (self._said + data)[-_KEPT:]
-        notes = re.findall(rb"^bkd: line %d: (.*)$" % number, self._said, re.MULTILINE)
-        return notes[-1].decode(errors="replace") if notes else None
+        return notes_on(self.said)
 
     # ---- what goes over them
 

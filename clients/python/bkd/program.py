@@ -17,7 +17,7 @@ from typing import IO
 
 from . import lock
 from .coprocess import Coprocess
-from .errors import Died, Error, Hung, Locked, NotFound, Unsupported, fault_of
+from .errors import Died, Error, Hung, Locked, NotFound, Unsupported, cause_of, fault_of, notes_on
 from .lock import Held
 from .processes import polled, started
 from .talk import Talk
@@ -98,6 +98,7 @@ class Program:
                     raise run.fault(folder, status, done, last)
                 if done < due:
                     raise Died(f"the program ended and left {due - done} lines unanswered", done, last)
+                talk.explain(lambda: notes_on(run.said()))
 
     def output(self, folder: str, words: Sequence[str], source: bytes | IO[bytes] = b"",
                timeout: float | None = None, held: Held | None = None) -> tuple[int, bytes]:
@@ -105,18 +106,25 @@ class Program:
 
         Statuses but 0 and 2 raise their error. It writes into a file, so that nobody is woken for a part of it.
         """
+        status, text, _ = self.noted(folder, words, source, timeout, held)
+        return status, text
+
+    def noted(self, folder: str, words: Sequence[str], source: bytes | IO[bytes] = b"",
+              timeout: float | None = None, held: Held | None = None) -> tuple[int, bytes, str | None]:
+        """The same, with what the program noted of it, None where it noted nothing."""
         if isinstance(source, bytes):
             with scratch() as file:
                 file.write(source)
                 file.seek(0)
-                return self.output(folder, words, file, timeout, held)
+                return self.noted(folder, words, file, timeout, held)
         with scratch() as sink:
             with self._started(folder, words, held, source, sink) as run:
                 status = run.status(timeout)
                 if status not in (0, 2):
                     raise run.fault(folder, status)
+                cause = cause_of(run.said())
             sink.seek(0)
-            return status, sink.read()
+            return status, sink.read(), cause
 
     def lines(self, folder: str, words: Sequence[str], held: Held | None = None) -> Iterator[bytes]:
         """The lines that a command writes, as they come; a status but 0 and 2 raises its error, at the end."""
@@ -173,11 +181,15 @@ class _Run:
                 os.close(ended)
         return self.process.wait()
 
+    def said(self) -> str:
+        """What it said on standard error."""
+        self._said.seek(0)
+        return self._said.read().decode(errors="replace")
+
     def fault(self, folder: str, status: int, done: int | None = None, last: str | None = None) -> Error:
         """The error of a status over a folder, with what was said."""
-        self._said.seek(0)
-        found = fault_of(status, self._said.read().decode(errors="replace"), done, last)
-        return lock.told(folder) if isinstance(found, Locked) else found
+        found = fault_of(status, self.said(), done, last)
+        return lock.told(folder, found.cause) if isinstance(found, Locked) else found
 
 
 def scratch() -> IO[bytes]:

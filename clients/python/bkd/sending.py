@@ -1,6 +1,8 @@
 """What is kept of a call over the pipes, so that one that was interrupted can be brought to its end."""
 from __future__ import annotations
 
+from collections.abc import Callable, Mapping
+
 # a line that every program refuses, with its number
 MARKER = b"?\n"
 # more than the answer to it has
@@ -29,6 +31,9 @@ class Silence:
 
     def cut(self, last: int) -> None:
         """Nobody looks at what was interrupted."""
+
+    def explain(self, notes: Callable[[], Mapping[int, str]]) -> None:
+        """Nothing is refused that somebody looks at."""
 
 
 class Sending(Silence):

@@ -1,17 +1,19 @@
 """What is asked of an open index by commands that look at what is stored, in the folder that its program holds."""
 from __future__ import annotations
 
+import operator
 from collections.abc import Iterable, Iterator
-from typing import Any
+from typing import Any, SupportsIndex
 
 from . import commands
-from .answers import Explained
+from . import requests as _queries
+from .answers import HITS, Answer, Explained
 from .commands import Checked, Info
 from .errors import Refused, Uncommitted, unrefused
 from .exporting import Document, export, to_arrays
 from .program import Program
 from .requests import Point, Request
-from .scale import Scale
+from .scale import GREATEST, LEAST, Scale
 from .transport import Session
 
 
@@ -22,6 +24,7 @@ class Stored:
     _folder: str
     _session: Session
     _scale: Scale | None
+    dims: int
 
     def __iter__(self) -> Iterator[Document]:
         return self.export()
@@ -33,6 +36,50 @@ class Stored:
         """
         with self._session.still() as held:
             self._need_stored()
+            return export(self._folder, program=self._program, held=held)
+
+    def __contains__(self, number: object) -> bool:
+        """Whether the document of this number is live, committed or not."""
+        try:
+            wanted = b"\n%d\n" % operator.index(number)  # type: ignore[arg-type]
+        except TypeError:
+            return False
+        every = _queries.box((LEAST,) * self.dims, (GREATEST,) * self.dims)
+        has = Answer(HITS.word, True, lambda words, text: wanted in b"\n" + text)
+        return unrefused([self._session.query(Request(every.line, has))])[0]
+
+    def get(self, number: SupportsIndex, default: Any = None) -> Any:
+        """The points of the document of this number as `export` has them, or `default` where it isn't live.
+
+        Raises `Uncommitted` where it is live and isn't committed.
+        """
+        wanted = operator.index(number)
+        if wanted not in self:
+            return default
+        for found, points in self._stored():
+            if found == wanted:
+                return points
+            if found > wanted:
+                break
+        raise Uncommitted(f"document {wanted} isn't committed: commit first")
+
+    def items(self, lo: Point, hi: Point) -> Iterator[Document]:
+        """The documents that have a point in the box as (number, points), by ascending number, as `export` has them.
+
+        Raises `Uncommitted`, before the first one, where one of them isn't committed.
+        """
+        if self._scale is not None:
+            lo, hi = self._scale.box(lo, hi)
+        with self._session.still():
+            hits = set(unrefused([self._session.query(_queries.box(lo, hi))])[0])
+            if hits and self._session.is_dirty and max(hits) >= self.info().next:
+                raise Uncommitted(f"document {max(hits)} isn't committed: commit first")
+            stored = self._stored() if hits else iter(())
+        return (document for document in stored if document[0] in hits)
+
+    def _stored(self) -> Iterator[Document]:
+        """What is stored, whatever isn't committed."""
+        with self._session.still() as held:
             return export(self._folder, program=self._program, held=held)
 
     def to_arrays(self) -> tuple[Any, Any]:

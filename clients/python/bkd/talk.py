@@ -7,7 +7,7 @@ say) comes at any moment, and looking again does no harm.
 from __future__ import annotations
 
 import re
-from collections.abc import Iterable, Iterator
+from collections.abc import Callable, Iterable, Iterator, Mapping
 from typing import Any, Protocol
 
 from .answers import DELETED, DOC, OK, rows_after, value_of
@@ -42,6 +42,9 @@ class Talk(Protocol):
 
     def cut(self, last: int) -> None:
         """Tells a talk that was interrupted the number of its last line that was sent; answers behind it aren't its."""
+
+    def explain(self, notes: Callable[[], Mapping[int, str]]) -> None:
+        """Gives what was refused its cause, where the program noted one; `notes` reads them, by the lines' numbers."""
 
 
 def take(talk: Talk, data: bytes) -> int:
@@ -78,6 +81,7 @@ class Asking:
         self._counted = 0
         self._ends = 0
         self._needed = 1
+        self._refused: list[int] = []
 
     def begin(self, first: int) -> None:
         self._first = first
@@ -118,6 +122,7 @@ class Asking:
         head, request = text[at:end], self._sent[len(self.values)]
         value: Any = refusal_of(head, request.line, self._first + len(self.values))
         if value is not None:
+            self._refused.append(len(self.values))
             self.values.append(value)
             self._ends -= 1
             return end + 1, 1
@@ -142,6 +147,12 @@ class Asking:
 
     def cut(self, last: int) -> None:
         """Nobody looks at the answers of requests that were interrupted."""
+
+    def explain(self, notes: Callable[[], Mapping[int, str]]) -> None:
+        if self._refused:
+            found = notes()
+            for place in self._refused:
+                self.values[place] = self.values[place].noted(found)
 
 
 def _end_of(text: bytes, at: int, rows: int, there: int) -> int:

@@ -87,7 +87,7 @@ class Session:
         except BaseException as error:
             self._note.release()
             if isinstance(error, Locked):
-                raise lock.told(self._folder) from None
+                raise lock.told(self._folder, error.cause) from None
             raise
 
     @property
@@ -164,7 +164,7 @@ class Session:
 
     def noted(self, number: int) -> str | None:
         """What the program noted of the line of this number, which it refused."""
-        return self._run.noted(number)
+        return self._run.notes().get(number)
 
     def settle(self, talk: Many) -> None:
         """Has every line answered that was sent, also where the call was interrupted."""

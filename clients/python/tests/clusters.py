@@ -1,15 +1,16 @@
-"""A scheduler and workers as processes, for tests of `bkd.shards`; and documents as a list, which they are held to."""
+"""A scheduler and workers as processes, for tests of `bkd.shards`."""
 import os
-import random
 import shutil
 import subprocess
 
 import distributed
 import pytest
 
-from conftest import HERE, REAL, STAND_IN
+from conftest import EACH, HERE, REAL, STAND_IN
+from plain import HIGH, LOW, box_of, drawn, nearest_of  # noqa: F401
 
-LOW, HIGH = -(1 << 31), (1 << 31) - 1
+# seconds that workers may take to start
+PATIENCE = EACH / 2
 KILLS = int(os.environ.get("BKD_CLUSTER_KILLS", 4))
 
 
@@ -40,8 +41,8 @@ class Cluster:
         self.workers[name].wait()
 
     def __enter__(self):
-        self.client = distributed.Client(scheduler_file=self.file, direct_to_workers=True, timeout=60)
-        self.client.wait_for_workers(2, timeout=60)
+        self.client = distributed.Client(scheduler_file=self.file, direct_to_workers=True, timeout=PATIENCE)
+        self.client.wait_for_workers(2, timeout=PATIENCE)
         return self
 
     def __exit__(self, *_):
@@ -69,7 +70,7 @@ def doomed(cluster):
     for name, process in list(cluster.workers.items()):
         if process.poll() is not None:
             cluster.start(name)
-    cluster.client.wait_for_workers(2, timeout=60)
+    cluster.client.wait_for_workers(2, timeout=PATIENCE)
 
 
 @pytest.fixture
@@ -80,20 +81,3 @@ def words():
 
 def folders(tmp_path, count=3):
     return [tmp_path / f"shard {i}" for i in range(count)]
-
-
-def drawn(count, seed, most=3, wide=40):
-    draw = random.Random(seed)
-    return [[(draw.randint(-wide, wide), draw.randint(-wide, wide)) for _ in range(draw.randint(1, most))]
-            for _ in range(count)]
-
-
-def nearest_of(documents, k, at):
-    found = sorted((min((x - at[0]) ** 2 + (y - at[1]) ** 2 for x, y in points), key)
-                   for key, points in documents.items())
-    return [(key, distance) for distance, key in found[:k]]
-
-
-def box_of(documents, low, high):
-    return sorted(key for key, points in documents.items()
-                  if any(low[0] <= x <= high[0] and low[1] <= y <= high[1] for x, y in points))

@@ -32,9 +32,11 @@ STAND_IN = (sys.executable, "-S", str(HERE / "stand_in.py"))
 EVERY = "run|load|explain|check|generate|session|ranges|count|batch|export|info"
 BUILT = TOP / "crates" / "bkd" / "out" / "bkd"
 RELEASED = TOP / "release" / "bkd"
-# seconds for a test, for the end of one, and for all of them: what isn't reached by then fails
-EACH, END = 120, 30
+# seconds for all tests, for one of them, and for its end: what isn't reached by then fails. Who gives much time for all
+# has a slow machine, and so each gets more too
 ALL = float(os.environ.get("BKD_TEST_SECONDS", 330))
+EACH = max(120, ALL / 8)
+END = EACH / 4
 BEGUN = time.monotonic()
 
 

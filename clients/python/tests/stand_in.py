@@ -4,9 +4,10 @@ have.
 
 It keeps its documents in `model.json`, and writes a commit file that lists no segments, so that a client finds the
 dimensions; with STAND_IN_FILES there are segments too, which hold the documents. The environment tells how it differs:
-STAND_IN_COMMANDS is the list of its commands, and STAND_IN_AT, as `LINE:WHAT`, tells what it does in place of that
-line: `die` (by SIGKILL), `hang`, `damaged`, `noted` (a folder fault and why), `garbage`, or a status. STAND_IN_LAST is
-what a script says when all is done. It holds its folder as the program does.
+STAND_IN_COMMANDS is the list of its commands, with STAND_IN_NOTES it notes why it refuses a line, and STAND_IN_AT, as
+`LINE:WHAT`, tells what it does in place of that line: `die` (by SIGKILL), `hang`, `damaged`, `noted` (a folder fault
+and why), `garbage`, or a status. STAND_IN_LAST is what a script says when all is done. It holds its folder as the
+program does.
 """
 from __future__ import annotations
 
@@ -95,6 +96,10 @@ def fail(what: str) -> None:
     end(int(what), STATUS.get(int(what), ""))
 
 
+def note_on(line: int) -> None:
+    print(f"bkd: line {line}: expected: add C1 .. CD, as in: add 1 2", file=sys.stderr, flush=True)
+
+
 def script(folder: str, stays: bool) -> None:
     model = Model(load(folder))
     at, _, what = os.environ.get("STAND_IN_AT", "0:").partition(":")
@@ -102,7 +107,10 @@ def script(folder: str, stays: bool) -> None:
     for raw in lines:
         if model.lines + 1 == int(at):
             fail(what)
+        refused = model.count
         answer = model.line(raw.removesuffix(b"\n"))
+        if model.count > refused and os.environ.get("STAND_IN_NOTES"):
+            note_on(model.lines)
         if model.committed:
             store(folder, model.state)
             model.committed = False
@@ -112,6 +120,17 @@ def script(folder: str, stays: bool) -> None:
     store(folder, model.state)
     sys.stdout.write(os.environ.get("STAND_IN_LAST", ""))
     end(2 if model.count else 0, f"refused {model.count}" if model.count else "")
+
+
+def load_table(folder: str) -> None:
+    """A table whose columns are all named, in an index that is there."""
+    model = Model(load(folder))
+    next(sys.stdin.buffer)
+    for count, raw in enumerate(sys.stdin.buffer, 1):
+        model.line(b"add " + raw.removesuffix(b"\n").replace(b",", b" "))
+    store(folder, model.state)
+    print(f"loaded {count}\nnext {model.state.next}")
+    end(0)
 
 
 def check(folder: str) -> None:
@@ -159,7 +178,10 @@ def batch(folder: str) -> None:
         fail("noted")
     model = Model(load(folder))
     for raw in sys.stdin.buffer:
+        refused = model.count
         sys.stdout.write(model.line(raw.removesuffix(b"\n")))
+        if model.count > refused and os.environ.get("STAND_IN_NOTES"):
+            note_on(model.lines)
     end(2 if model.count else 0, f"refused {model.count}" if model.count else "")
 
 
@@ -235,8 +257,8 @@ def info(folder: str) -> None:
 def main() -> None:
     commands = os.environ.get("STAND_IN_COMMANDS", "run|load|explain|check|generate|session").split("|")
     does = {"session": lambda f: script(f, True), "run": lambda f: script(f, False),
-            "explain": explain, "check": check, "count": count, "batch": batch, "ranges": ranges, "export": export,
-            "info": info}
+            "load": load_table, "explain": explain, "check": check, "count": count, "batch": batch, "ranges": ranges,
+            "export": export, "info": info}
     if len(sys.argv) < 3 or sys.argv[2] not in commands or sys.argv[2] not in does:
         end(1, f"usage: bkd FOLDER {'|'.join(commands)} [options]")
     folder = sys.argv[1]

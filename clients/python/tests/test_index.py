@@ -167,6 +167,34 @@ def test_closed(program, tmp_path):
             use()
 
 
+def test_documents_by_their_numbers(program, tmp_path):
+    with bkd.open(tmp_path, create=True, program=program) as index:
+        assert 0 not in index and index.get(0) is None and list(index.items(*EVERY)) == []
+        index.add_many([(5, 5), [(2, 2), (1, 1), (2, 2)], (9, 9), (1, 7)])
+        index.commit()
+        index.delete(2)
+        assert index.get(1) == ((1, 1), (2, 2)) and index.get(0) == ((5, 5),) and index.get(3) == ((1, 7),)
+        assert index.get(2) is None and index.get(4, "none") == "none" and index.get(-1) is None
+        assert [number in index for number in (0, 1, 2, 3, 4, -1)] == [True, True, False, True, False, False]
+        assert "0" not in index and len(index) == 3
+        assert list(index.items((0, 0), (2, 9))) == [(1, ((1, 1), (2, 2))), (3, ((1, 7),))]
+        with pytest.raises(TypeError):
+            index.get("0")
+
+
+def test_documents_that_are_not_committed_are_told_as_such(program, tmp_path):
+    with bkd.open(tmp_path, create=True, program=program) as index:
+        index.add((1, 1))
+        index.commit()
+        index.add((50, 50))
+        assert 1 in index and index.get(0) == ((1, 1),) and list(index.items((0, 0), (9, 9))) == [(0, ((1, 1),))]
+        for use in (lambda: index.get(1), lambda: index.items(*EVERY)):
+            with pytest.raises(bkd.Uncommitted, match="document 1 isn't committed"):
+                use()
+        index.commit()
+        assert index.get(1) == ((50, 50),) and len(list(index.items(*EVERY))) == 2
+
+
 def test_what_is_not_committed_is_not_counted_in_silence(program, tmp_path):
     with bkd.open(tmp_path, create=True, program=program) as index:
         index.add((1, 1))

@@ -181,6 +181,28 @@ def test_what_is_not_as_it_was(program, tmp_path):
         folder.keys()
 
 
+@pytest.mark.parametrize("most", [1, 5])
+def test_every_coordinate_goes_over(program, tmp_path, most):
+    """Documents of one point go as a table, others as lines; whatever digits they have."""
+    edges = [0, *(sign * (10 ** d + off) for sign in (1, -1) for d in range(10) for off in (-1, 0, 1)),
+             -(1 << 31), (1 << 31) - 1]
+    draw = random.Random(most)
+    documents = [[tuple(draw.choice(edges) for _ in range(3)) for _ in range(draw.randint(1, most))]
+                 for _ in range(9000 if REAL else 900)]
+    folder = Folder(tmp_path / "a", program)
+    folder.do("make", 3, None)
+    found = documents_of(documents, 3)
+    assert (found.counts is None) == (most == 1)
+    folder.do("add", "one", found, numpy.arange(len(documents)))
+    keys, stored = folder.do("export")
+    begins = stored.begins().tolist()
+    points = [stored.points[a:b].tolist() for a, b in zip(begins, [*begins[1:], len(stored.points)])]
+    assert keys.tolist() == list(range(len(documents)))
+    assert points == [sorted(map(list, set(document))) for document in documents]
+    rows = numpy.array(draw.sample(range(len(documents)), 50))
+    assert found.chosen(rows).points.tolist() == [list(point) for row in rows for point in documents[row]]
+
+
 @pytest.mark.parametrize("line", ["add 9 9", "merge"])
 def test_something_else_writes(program, tmp_path, line):
     folder = Folder(tmp_path / "a", program)

@@ -1,8 +1,10 @@
 """An index over several folders, with a scheduler and workers as processes: as one list of documents, whoever writes it
 and however it is spread. What goes wrong is in `test_shards_faults.py`."""
+import functools
 import json
 import os
 import random
+import textwrap
 import threading
 
 import pytest
@@ -15,7 +17,7 @@ import bkd
 from bkd import shards
 from bkd.shards.layout import Layout, Place, cut
 from clusters import HIGH, LOW, box_of, client, cluster, drawn, folders, nearest_of, words  # noqa: F401
-from conftest import STAND_IN
+from conftest import HERE, STAND_IN
 from model import in_polygon
 
 pytestmark = pytest.mark.slow
@@ -215,6 +217,21 @@ def test_a_token_is_done_once(client, words, tmp_path):
         assert index.delete_many([1, 2, 3], token="tuesday") == 3
         assert index.delete_many([1, 2, 3], token="tuesday") == 3
         assert index.delete_many([1, 2, 3]) == 0
+
+
+def test_the_first_use_of_the_readme(cluster, words, tmp_path, monkeypatch):
+    monkeypatch.chdir(tmp_path)
+    text = (HERE.parent / "README.md").read_text()
+    lines = text[text.index("    from bkd import shards\n"):].split("\n\n")[0]
+    where = cluster.client.scheduler.address
+    code = textwrap.dedent(lines).replace("/data", str(tmp_path)).replace("tcp://localhost:8786", where)
+    told = []
+    monkeypatch.setattr(shards, "open", functools.partial(shards.open, program=words))
+    exec(code, {"print": told.append})
+    assert told == [[70, 80, 90]]
+    with shards.open("points.json", cluster.client, program=words) as index, index.snapshot() as then:
+        assert then.box((0, 0), (9, 9)).tolist() == [80] and then.nearest(1, (5, 50)) == [(90, 100)]
+        assert list(then.export()) == [(80, ((3, 4),)), (90, ((5, 60),))]
 
 
 def test_cells():

@@ -1,10 +1,10 @@
 """An index over several folders where something goes wrong: a folder that isn't what was stored, a full disk, a worker
-or a client that dies. Nothing is lost, nothing is there twice, and no answer is wrong."""
+or a client that dies. (Workers are killed in `test_shards_kills.py`.) Nothing is lost, nothing is there twice, and no
+answer is wrong."""
 import os
 import random
 import shutil
 import subprocess
-import threading
 import time
 
 import pytest
@@ -15,7 +15,7 @@ distributed = pytest.importorskip("distributed")
 
 import bkd
 from bkd import lock, shards
-from clusters import HIGH, KILLS, LOW, box_of, client, cluster, doomed, folders, nearest_of, words  # noqa: F401
+from clusters import HIGH, KILLS, LOW, PATIENCE, client, cluster, doomed, folders, words  # noqa: F401
 from conftest import HERE
 
 pytestmark = pytest.mark.slow
@@ -80,7 +80,7 @@ def test_a_folder_whose_worker_is_gone(doomed, words, tmp_path):
             assert told.value.committed == (paths[0],) and told.value.open == (paths[1],)
             assert told.value.token == token
         doomed.start("w1")
-        doomed.client.wait_for_workers(2, timeout=60)
+        doomed.client.wait_for_workers(2, timeout=PATIENCE)
         keys = index.add_many([(i, 50) for i in range(6)], token="kept").tolist()
         assert keys == list(range(10, 16))
         assert index.recover() == {"given up": False}
@@ -112,40 +112,6 @@ def test_a_full_disk_on_one(client, words, tmp_path):
                 pass  # the worker's session has ended
     finally:
         subprocess.run(["umount", "-l", small], check=True)
-
-
-def test_workers_that_are_killed(doomed, words, tmp_path):
-    """At drawn moments of adding, deleting, asking and rebalancing: nothing is lost, nothing twice, no wrong answer."""
-    draw = random.Random(int(os.environ.get("BKD_SEED", 7)))
-    shards.create(tmp_path / "layout.json", folders(tmp_path, 3), by="cells", leaf=8)
-    documents, following = {}, 0
-    with shards.open(tmp_path / "layout.json", doomed.client, program=words) as index:
-        for kill in range(KILLS):
-            points = [(draw.randint(-40, 40), draw.randint(-40, 40)) for _ in range(300)]
-            keys = list(range(following, following + 300))
-            following += 300
-            gone = draw.sample(sorted(documents), len(documents) // 4)
-            work = [lambda: index.add_many(points, keys, token=f"add {kill}"),
-                    lambda: index.delete_many(gone, token=f"delete {kill}"), index.rebalance,
-                    lambda: index.box((-9, -9), (9, 9))]
-            dying = threading.Timer(draw.choice([0.02, 0.1, 0.3, 0.6, 1]), doomed.kill, ["w0" if kill % 2 else "w1"])
-            dying.start()
-            for step in work:
-                while True:
-                    try:
-                        step()
-                        break
-                    except (shards.Unfinished, bkd.WorkerLost):
-                        time.sleep(0.2)
-            documents |= {key: [point] for key, point in zip(keys, points)}
-            documents = {key: found for key, found in documents.items() if key not in set(gone)}
-            dying.join()
-            doomed.start("w0" if kill % 2 else "w1")
-            assert dict(index.export()) == {key: tuple(found) for key, found in documents.items()}
-            assert index.box((-9, -9), (9, 9)).tolist() == box_of(documents, (-9, -9), (9, 9))
-            assert index.nearest(5, (1, 2)) == nearest_of(documents, 5, (1, 2))
-        assert all(index.recover().values())
-        assert sum(live for *_, live in index.about()) == len(documents)
 
 
 def test_a_client_that_is_killed(cluster, words, tmp_path):

@@ -41,9 +41,11 @@ class Documents:
         """Some of the documents."""
         if self.counts is None:
             return Documents(self.points[rows])
-        begins = self.begins()
-        places = [range(begins[row], begins[row] + self.counts[row]) for row in rows]
-        return Documents(self.points[list(chain.from_iterable(places))], self.counts[rows])
+        counts = self.counts[rows]
+        ends = counts.cumsum()
+        # each point's row: where its document begins, and its place in that
+        places = numpy.repeat(self.begins()[rows] - ends + counts, counts) + numpy.arange(counts.sum())
+        return Documents(self.points[places], counts)
 
     def firsts(self) -> Array:
         """Each document's first point."""
@@ -52,12 +54,6 @@ class Documents:
     def part(self, of: slice) -> Documents:
         """Some documents that follow each other."""
         return Documents(self.points[of]) if self.counts is None else self.chosen(numpy.arange(len(self))[of])
-
-    def spelled(self) -> Any:
-        """As `Index.add_many` takes them."""
-        if self.counts is None:
-            return self.points
-        return (part.tolist() for part in numpy.split(self.points, self.begins()[1:]))
 
 
 def documents_of(given: Any, dims: int) -> Documents:

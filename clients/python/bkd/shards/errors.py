@@ -27,7 +27,7 @@ class Unfinished(Error):
 
     `token` is the change's: the same call with it does what isn't done, once. `committed` names the folders where all
     of it is stored, `open` those where it isn't or where that isn't known. `Shards.recover` takes back what an
-    addition stored.
+    addition stored, and finishes a deletion.
     """
 
     def __init__(self, what: str, token: str, committed: Sequence[str], open: Sequence[str]) -> None:

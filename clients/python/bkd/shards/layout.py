@@ -77,13 +77,26 @@ class Call:
 
 
 @dataclass
+class Deletion:
+    """A call that deletes: the line that does it, or None where keys do, whose digest is `sum`; the places that it
+    is asked of, those of them that haven't done it yet, and how many documents the others have deleted."""
+
+    line: str | None
+    sum: str
+    places: list[int]
+    open: list[int]
+    gone: int = 0
+
+
+@dataclass
 class Layout:
     """The folders of an index, its dimensions, and how documents are spread.
 
     `by` is `"number"`, the documents in turn, or `"cells"`: a sample of the first points is cut into as many cells as
     there are folders, each with as many of them, and a document goes where its first point lies; until enough points
     have come for that, all go to the first folder. `given` counts the documents ever added. `calls` are the calls
-    that aren't done, and the last thousand that are, by their tokens. `leaving` are folders that are to be removed.
+    that aren't done, and the last thousand that are, by their tokens; so are `deletions`. `leaving` are folders that
+    are to be removed.
     """
 
     dims: int
@@ -97,6 +110,7 @@ class Layout:
     given: int = 0
     calls: dict[str, Call] = field(default_factory=dict)
     leaving: list[Place] = field(default_factory=list)
+    deletions: dict[str, Deletion] = field(default_factory=dict)
 
     def __post_init__(self) -> None:
         paths = [(os.path.normpath(place.folder), place.worker) for place in self.places]
@@ -128,6 +142,7 @@ class Layout:
             for name in ("places", "leaving"):
                 body[name] = [Place(**place) for place in body[name]]
             body["calls"] = {token: Call(**call) for token, call in body["calls"].items()}
+            body["deletions"] = {token: Deletion(**one) for token, one in body.get("deletions", {}).items()}
             return cls(**body)
         except (ValueError, KeyError, TypeError) as error:
             raise BadLayout(f"{os.fspath(path)} is no layout: {error}") from error
@@ -163,9 +178,19 @@ class Layout:
     def done(self, token: str) -> None:
         """Notes that all of a call is stored, and forgets the oldest ones."""
         self.calls[token].is_done = True
-        finished = [name for name, call in self.calls.items() if call.is_done]
-        for name in finished[:-_TOKENS]:
+        self.forget()
+
+    def forget(self) -> None:
+        """Forgets the oldest calls that are done."""
+        for name in [name for name, call in self.calls.items() if call.is_done][:-_TOKENS]:
             del self.calls[name]
+        for name in [name for name, one in self.deletions.items() if not one.open][:-_TOKENS]:
+            del self.deletions[name]
+
+    def left(self) -> list[str]:
+        """The tokens of the calls that aren't done to their end."""
+        return ([name for name, call in self.calls.items() if not call.is_done]
+                + [name for name, deletion in self.deletions.items() if deletion.open])
 
     def _sample(self, firsts: Array) -> None:
         drawn = sample(firsts, self.given)

@@ -7,7 +7,7 @@ from typing import Any, SupportsIndex
 
 import numpy
 
-from .. import commands, requests
+from .. import commands, options, requests
 from ..requests import Point, Request, coordinates
 from .crew import Crew
 from .documents import Array, Query
@@ -59,25 +59,52 @@ class Asking:
         Only folders whose bounds meet a query are asked it, all of a worker's in one message; of the nearest first the
         folders that lie nearest, then those that may have nearer ones than were found there.
         """
+        return self._answers(queries, "ask")
+
+    def batch(self, queries: Sequence[Query], forks: int = 1) -> list[Any]:
+        """The same by the program's `batch`, which reads each folder into memory and answers by `forks` levels of two
+        threads each: quicker for very many queries."""
+        return self._answers(queries, "batch", options.forks(forks))
+
+    def _answers(self, queries: Sequence[Query], method: str, *words: Any) -> list[Any]:
         with self._asking() as (layout, is_exact):
             for query in queries:
                 query.check(layout.dims)
             found: list[list[Any]] = [[] for _ in queries]
             first = _first(layout, queries)
-            self._gather(layout, queries, first, found, is_exact)
+            self._gather(layout, queries, first, found, is_exact, method, words)
             rest = {i: _rest(layout, query, first[i], found[i]) for i, query in enumerate(queries) if query.k}
-            self._gather(layout, queries, rest, found, is_exact)
+            self._gather(layout, queries, rest, found, is_exact, method, words)
         return [_joined(query, parts) for query, parts in zip(queries, found)]
 
+    def stream(self, query: Query, at_once: int = 1 << 16) -> Iterator[Array]:
+        """The keys that a box or a polygon finds, ascending, in arrays; of each folder no more than `at_once` are held
+        here. All are of one moment: nothing is written until the last array is taken."""
+        if query.k or at_once < 1:
+            raise ValueError("what is streamed are the keys of a box or a polygon, one or more at once")
+        with self._asking() as (layout, is_exact):
+            query.check(layout.dims)
+            begins = dict.fromkeys(_first(layout, [query])[0], 0)
+            held: dict[int, Array] = {}
+            while begins or held:
+                asked = {at: (query, begin, at_once) for at, begin in begins.items() if at not in held}
+                for at, keys in self._crew.each("page", layout, asked, is_exact).items():
+                    begins[at] += len(keys)
+                    held |= {at: keys} if len(keys) else {}
+                    if len(keys) < at_once:
+                        del begins[at]
+                if held:
+                    yield _least(held, begins)
+
     def _gather(self, layout: Layout, queries: Sequence[Query], where: Mapping[int, Sequence[int]],
-                found: list[list[Any]], is_exact: bool) -> None:
+                found: list[list[Any]], is_exact: bool, method: str, words: Sequence[Any]) -> None:
         """Asks places queries, by the queries' numbers, and puts what they answer behind what was found."""
         rows: dict[int, list[int]] = {}
         for i, places in where.items():
             for place in places:
                 rows.setdefault(place, []).append(i)
-        asked = {place: ([queries[i] for i in some],) for place, some in rows.items()}
-        for place, values in self._crew.each("ask", layout, asked, is_exact).items():
+        asked = {place: ([queries[i] for i in some], *words) for place, some in rows.items()}
+        for place, values in self._crew.each(method, layout, asked, is_exact).items():
             for i, value in zip(rows[place], values.unpacked()):
                 found[i].append(value)
 
@@ -168,6 +195,19 @@ def _rest(layout: Layout, query: Query, asked: Sequence[int], found: Sequence[An
     farthest = near[query.k - 1] if len(near) >= query.k else None
     return [at for at in layout.holding() if at not in asked
             and (farthest is None or layout.places[at].distance(query.at) <= farthest)]
+
+
+def _least(held: dict[int, Array], begins: Mapping[int, int]) -> Array:
+    """Takes out of what is held of each place the keys that none which is still to come is below."""
+    last = min((keys[-1] for at, keys in held.items() if at in begins), default=None)
+    parts = []
+    for at, keys in list(held.items()):
+        count = len(keys) if last is None else int(numpy.searchsorted(keys, last, "right"))
+        parts.append(keys[:count])
+        held[at] = keys[count:]
+        if count == len(keys):
+            del held[at]
+    return numpy.sort(numpy.concatenate(parts))
 
 
 def _joined(query: Query, parts: list[Any]) -> Any:

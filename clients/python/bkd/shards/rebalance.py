@@ -37,8 +37,8 @@ class Rebalancing:
         new = 0
         for _ in range(_MOST_ROUNDS):
             layout = Layout.read(self._path)
-            if left := [name for name, call in layout.calls.items() if not call.is_done]:
-                raise Unfinished("an addition isn't done to its end", left[0], (), ())
+            if left := layout.left():
+                raise Unfinished("a change isn't done to its end", left[0], (), ())
             self.remove_left(layout)
             step = _next_step(layout)
             if step is None:

@@ -5,20 +5,20 @@ import contextlib
 import os
 import threading
 import time
-from collections.abc import Iterable, Iterator, Sequence
-from typing import IO, Any
+from collections.abc import Callable, Iterator, Sequence
+from typing import Any
 
 import numpy
 
-from .. import commands, lock, requests, spelling
+from .. import commands, lock, requests
 from ..coprocess import Coprocess
-from ..errors import Error, Fault, NoIndex, Refused, unrefused
+from ..errors import Error, NoIndex, Refused, Unsupported, unrefused
 from ..formats.commit import read_commit
 from ..lock import Held
-from ..program import Program, scratch
+from ..program import Program
 from ..requests import Request
-from ..talk import Asking, refusal_of
-from . import journal
+from ..talk import Asking
+from . import changing, journal
 from .documents import Array, Documents, Packed, Query, packed
 from .errors import Changed
 from .journal import ADDED, CHANGED, MADE, VOID, Journal, Record
@@ -26,11 +26,9 @@ from .nearest import nearest_keys
 from .state import Known, Look, Outcome, State, live_in, look_at, signature, token_of
 from .stored import documents_in
 
-# seconds that the folder's lock is waited for, and that the program may take for one change
+# seconds that the folder's lock is waited for
 _WAIT = 60.0
-_TIMEOUT = 1800.0
 _POINTS = 1 << 24
-Pieces = Iterable[tuple[bytes, int]]
 
 
 class Shard:
@@ -53,6 +51,7 @@ class Shard:
         self._journal: Journal | None = None
         self._keys: Array = numpy.empty(0, dtype=numpy.int64)
         self._is_ordered = True
+        self._found: tuple[Query, Array] | None = None
         self._seen: tuple[int, ...] = ()
         self._used = 0.0
 
@@ -76,7 +75,7 @@ class Shard:
                 token, before = bytes.fromhex(known.layout), bytes.fromhex(known.place).ljust(32, b"\0")
                 found.append(Record(MADE, 0, token, 0, 0, 0, before))
             if read_commit(self.folder) is None and len(found.records) == 1:
-                self._run([(f"{requests.create(dims, leaf).line}\n".encode(), 1)], held)
+                changing.run(self._program, self.folder, [f"{requests.create(dims, leaf).line}\n".encode()], held)
             return Outcome(self._read(known).state())
 
     def about(self, known: Known) -> State:
@@ -96,7 +95,7 @@ class Shard:
             if look.commit.given + len(documents.points) > _POINTS:
                 raise Refused("add", f"{self.folder} is full", 1)
             look.intend(ADDED, token, keys)
-            self._run(spelling.added(documents.spelled(), look.commit.dims), held)
+            changing.add(self._program, self.folder, documents, look.commit.dims, held)
             return Outcome(self._stored(known, token))
 
     def delete(self, known: Known, token: str, keys: Array) -> Outcome:
@@ -104,12 +103,12 @@ class Shard:
         with self._alone() as held:
             look = self._read(known)
             numbers = numpy.flatnonzero(numpy.isin(look.journal.all_keys(), keys))
-            return self._change(known, look, token, spelling.deleted(numbers), held)
+            return self._change(known, look, token, changing.deleted(numbers), held)
 
     def change(self, known: Known, token: str, request: Request) -> Outcome:
         """Has one line done."""
         with self._alone() as held:
-            return self._change(known, self._read(known), token, [(f"{request.line}\n".encode(), 1)], held)
+            return self._change(known, self._read(known), token, [f"{request.line}\n".encode()], held)
 
     def take_back(self, known: Known, token: str) -> Outcome:
         """Deletes what an addition of this token stored; from then on it stores nothing."""
@@ -119,9 +118,9 @@ class Shard:
             if look.journal.of_token(token_of(token), [VOID]) is None:
                 look.intend(VOID, token)
             numbers = range(added.next, added.next + added.count) if added else ()
-            return self._change(known, look, f"take back {token}", spelling.deleted(numbers), held)
+            return self._change(known, look, f"take back {token}", changing.deleted(numbers), held)
 
-    def _change(self, known: Known, look: Look, token: str, pieces: Pieces, held: Held) -> Outcome:
+    def _change(self, known: Known, look: Look, token: str, pieces: changing.Pieces, held: Held) -> Outcome:
         """Has lines done that add nothing, in one commit, once however often this token is tried."""
         done = look.done(token_of(token))
         if done is not None:
@@ -129,7 +128,7 @@ class Shard:
         live, asked = live_in(look.commit), list(pieces)
         if asked:
             look.intend(CHANGED, token)
-            self._run(asked, held)
+            changing.run(self._program, self.folder, asked, held)
             look = self._read(known)
             if look.journal.records[-1].token != token_of(token):
                 look.journal.cut()  # it changed nothing
@@ -141,6 +140,11 @@ class Shard:
             found = self._open(known).journal
             records = [found.of_token(token_of(token), [ADDED]) for token in tokens]
             return [0 if record is None else record.count for record in records]
+
+    def has(self, known: Known, token: str) -> bool:
+        """Whether a change of this token is done."""
+        with self._turn:
+            return self._open(known).done(token_of(token)) is not None
 
     def _stored(self, known: Known, token: str) -> State:
         look = self._read(known)
@@ -158,27 +162,40 @@ class Shard:
             with lock.locked(self.folder, wait=_WAIT) as held:
                 yield held
 
-    def _run(self, pieces: Pieces, held: Held) -> None:
-        """Has the program do a whole script, which it reads from a file: where this process dies meanwhile, it is done
-        whole or not at all. Raises the first refusal, or the error of the program's status."""
-        with scratch() as script:
-            script.writelines(piece for piece, _ in pieces)
-            script.seek(0)
-            status, answers = self._program.output(self.folder, ["run"], script, _TIMEOUT, held)
-            if status == 2:
-                raise _refusal(answers, script)
-
     # ---- queries
 
     def ask(self, known: Known, queries: Sequence[Query]) -> Packed:
         """What queries find: of boxes and polygons keys, ascending, of the nearest (distance, key) in that order."""
         with self._turn:
             self._open(known)
-            keys, is_ordered = self._keys, self._is_ordered
-            values = self._asked([query.request() for query in queries])
-            return packed([nearest_keys(query, value, keys, is_ordered, self._asked, self.folder) if query.k
-                           else keys[value] if is_ordered else numpy.sort(keys[value])
-                           for query, value in zip(queries, values)])
+            return self._answers(queries, self._asked)
+
+    def batch(self, known: Known, queries: Sequence[Query], forks: int) -> Packed:
+        """The same by the program's `batch`."""
+        def asked(lines: Sequence[Request]) -> list[Any]:
+            return unrefused(commands.batch(self.folder, lines, forks, program=self._program))
+
+        with self._turn:
+            self._open(known)
+            return self._answers(queries, asked)
+
+    def _answers(self, queries: Sequence[Query], ask: Callable[[Sequence[Request]], list[Any]]) -> Packed:
+        keys, is_ordered = self._keys, self._is_ordered
+        return packed([nearest_keys(query, value, keys, is_ordered, ask, self.folder) if query.k
+                       else keys[value] if is_ordered else numpy.sort(keys[value])
+                       for query, value in zip(queries, ask([query.request() for query in queries]))])
+
+    def page(self, known: Known, query: Query, begin: int, count: int) -> Array:
+        """So many of the keys that a query finds, from the one at this place on. They are kept while the session is,
+        until the last ones are asked for."""
+        with self._turn:
+            self._open(known)
+            if self._found is None or self._found[0] != query:
+                self._found = query, self._answers([query], self._asked).keys
+            keys = self._found[1]
+            if begin + count >= len(keys):
+                self._found = None
+            return keys[begin:begin + count]
 
     def export(self, known: Known) -> tuple[Array, Documents]:
         """The keys and the points of all live documents, by number."""
@@ -197,6 +214,11 @@ class Shard:
         with self._turn:
             look = self._open(known)
             return look.state(), commands.check(self.folder, program=self._program)
+
+    def rescue(self, known: Known) -> None:
+        """Raises `Unsupported`, as the program has no such command, or none that keeps keys."""
+        self._program.require("rescue")
+        raise Unsupported(f"{self.folder}: what a rescue leaves has numbers, and no keys")
 
     def _open(self, known: Known) -> Look:
         """Has a session over the folder as it is, and what its files say."""
@@ -224,10 +246,10 @@ class Shard:
         try:
             if "session" in self._program.commands:
                 if self._session is None:
-                    self._session = self._program.start(self.folder, ["session"], _TIMEOUT)
+                    self._session = self._program.start(self.folder, ["session"], changing.TIMEOUT)
                 self._session.exchange(talk)
             else:
-                self._program.run(self.folder, ["run"], talk, _TIMEOUT)
+                self._program.run(self.folder, ["run"], talk, changing.TIMEOUT)
         except BaseException:
             self.close()
             raise
@@ -248,13 +270,4 @@ class Shard:
                 self._session.kill()
             if self._held is not None:
                 self._held.release()
-            self._session = self._held = self._look = None
-
-
-def _refusal(answers: bytes, script: IO[bytes]) -> Error:
-    """The first refusal in the answers to a script of lines that are answered by one line each."""
-    script.seek(0)
-    for number, (line, answer) in enumerate(zip(script, answers.splitlines()), 1):
-        if refused := refusal_of(answer, " ".join(line.decode().split()), number):
-            return refused
-    return Fault("the program refused a line and doesn't say which")
+            self._session = self._held = self._look = self._found = None

@@ -14,13 +14,15 @@ import numpy
 from .. import requests
 from ..commands import Folder
 from ..errors import Locked
-from ..requests import Point, Request, coordinates
+from ..requests import Point, coordinates
 from .additions import Additions
 from .crew import Crew
+from .deletions import Deletions, refuse
 from .documents import Array, documents_of, keys_of
+from .errors import Unfinished
 from .layout import Layout
 from .locks import Locks
-from .outcomes import is_lost, take, unfinished
+from .outcomes import take
 from .queries import Asking, Moment
 from .rebalance import Rebalancing
 
@@ -44,6 +46,7 @@ class Shards(Asking):
         super().__init__(Crew(client, program, workers or {}))
         self._path = os.path.abspath(path)
         self._additions = Additions(self._path, self._crew)
+        self._deletions = Deletions(self._path, self._crew)
         self._locks = Locks(self._path, wait)
         self._client = client
         self._owns = owns
@@ -91,9 +94,12 @@ class Shards(Asking):
     @contextlib.contextmanager
     def snapshot(self) -> Iterator[Moment]:
         """The documents of one moment over all folders; who writes waits until it ends. Raises `Locked` where somebody
-        writes, `Changed` where a call of a client that died is still being done."""
+        writes, `Unfinished` where a change isn't done to its end, `Changed` where one is still being done for a client
+        that died."""
         with self._locks.asking():
             layout = Layout.read(self._path)
+            if left := layout.left():
+                raise Unfinished("a change isn't done to its end", left[0], (), ())
             made = {at: () for at, place in enumerate(layout.places) if place.mark is not None}
             for at, state in self._crew.each("about", layout, made).items():
                 layout.places[at].order, layout.places[at].mark = state.order, state.mark
@@ -128,13 +134,15 @@ class Shards(Asking):
             given = None if keys is None else keys_of(keys)
             if given is not None and len(given) != len(found):
                 raise ValueError(f"{len(given)} keys for {len(found)} documents")
-            firsts = found.firsts()
+            firsts, lacking = found.firsts(), self._deletions.settle(layout)
             call = layout.calls.get(name) or layout.begin(name, firsts)
             if call.count != len(found):
                 raise ValueError(f"token {name} is of {call.count} documents, not of {len(found)}")
             named = numpy.arange(len(found)) + call.first if given is None else given
             if not call.is_done:
-                self._additions.add(layout, name, call, found, named, layout.place(firsts, call))
+                places = layout.place(firsts, call)
+                refuse(lacking, numpy.flatnonzero(numpy.bincount(places)).tolist())
+                self._additions.add(layout, name, call, found, named, places)
             return named
 
     # ---- deletions
@@ -144,58 +152,63 @@ class Shards(Asking):
         return self.delete_many([int(key)]) > 0
 
     def delete_many(self, keys: Iterable[int] | Array, *, token: str | None = None) -> int:
-        """Deletes the documents of these keys, and answers how many were live. With a `token` it answers the same again
-        where the call is made again."""
+        """Deletes the documents of these keys, and answers how many were live.
+
+        With a `token` it is done once, and answers the same again where the call is made again. Where folders can't do
+        it `Unfinished` or `WorkerLost` tell which have and the token; where none has, nothing has happened and the
+        cause is raised. What is left open in a folder is done before that gets anything more.
+        """
         found = keys_of(keys)
         with self._alone() as layout:
-            return self._change(layout, "delete", layout.holding(), token, found)
+            return self._deletions.delete(layout, token or uuid.uuid4().hex, list(layout.holding()), found)
 
     def delete_box(self, lo: Point, hi: Point, *, token: str | None = None) -> int:
         """Deletes the documents that have a point in the box, and answers how many; a token is as of `delete_many`."""
         request, low, high = requests.delete_box(lo, hi), coordinates(lo), coordinates(hi)
         with self._alone() as layout:
             places = [at for at, place in enumerate(layout.places) if place.meets(low, high)]
-            return self._change(layout, "change", places, token, request)
+            return self._deletions.delete(layout, token or uuid.uuid4().hex, places, request)
 
     def merge(self) -> None:
         """Merges each folder's segments into one."""
         with self._alone() as layout:
-            self._change(layout, "change", layout.holding(), None, requests.MERGE)
-
-    def _change(self, layout: Layout, method: str, places: Iterable[int], token: str | None,
-                word: Request | Array) -> int:
-        name, failed = token or uuid.uuid4().hex, dict[int, BaseException]()
-        asked = {at: (name, word) for at in places}
-        told = self._crew.each(method, layout, asked, failed=failed)
-        take(layout, told)
-        if told:
+            failed, name = dict[int, BaseException](), uuid.uuid4().hex
+            asked = {at: (name, requests.MERGE) for at in layout.holding()}
+            take(layout, self._crew.each("change", layout, asked, failed=failed))
             layout.write(self._path)
-        if failed and not any(outcome.gone for outcome in told.values()) and not is_lost(failed):
-            raise failed[min(failed)]
-        if failed:
-            raise unfinished(layout, name, list(asked), failed)
-        return sum(outcome.gone for outcome in told.values())
+            if failed:
+                raise failed[min(failed)]
 
     # ---- after a fault
 
     def recover(self) -> dict[str, bool]:
-        """Ends the additions that weren't done to their end, and answers of each token whether it is stored.
+        """Ends the calls that weren't done to their end, and answers of each token whether it is done.
 
-        One whose parts are all stored is; of another what was stored is taken back, so that its call may be
-        made again. Folders that a rebalance has left are removed. Raises `WorkerLost`, `NoIndex` or `Changed` where a
-        folder can't be asked; then it may be done again.
+        A deletion is finished. An addition whose parts are all stored is done; of another what was stored is taken
+        back, so that its call may be made again. Folders that a rebalance has left are removed. Raises `WorkerLost`,
+        `NoIndex` or `Changed` where a folder can't be asked; then it may be done again.
         """
         with self._alone() as layout:
             told = {}
+            for name, deletion in [(name, one) for name, one in layout.deletions.items() if one.open]:
+                self._deletions.end(layout, name, deletion)
+                told[name] = True
             for name, call in [(name, call) for name, call in layout.calls.items() if not call.is_done]:
                 told[name] = self._additions.end(layout, name, call)
             self._remove_left(layout)
+            self._deletions.clean(layout)
             made = {at: () for at, place in enumerate(layout.places) if place.mark is not None}
             for at, state in self._crew.each("about", layout, made).items():
                 place = layout.places[at]
                 place.order, place.mark, place.live = state.order, state.mark, state.live
             layout.write(self._path)
             return told
+
+    def rescue(self) -> None:
+        """What can be read of damaged folders: raises `Unsupported`, naming the program, as long as it has no such
+        command. `check` says which folder is damaged; a copy of it, of the same state, may stand in its place."""
+        with self._alone() as layout:
+            self._crew.each("rescue", layout, {at: () for at in range(len(layout.places))})
 
     # ---- cells
 

@@ -8,12 +8,13 @@ import os
 import tempfile
 import time
 from collections.abc import Iterator, Sequence
-from dataclasses import dataclass
+from dataclasses import dataclass, fields
 from subprocess import DEVNULL, Popen
 from typing import IO, Any
 
 from .. import commands, lock
-from ..errors import NoIndex, fault_of, unrefused
+from ..damage import Damage
+from ..errors import Damaged, NoIndex, fault_of, unrefused
 from ..formats.commit import Commit, read_commit
 from ..formats.pages import COMMIT_FILE, FileName, PagedFile, is_own_name
 from ..processes import started
@@ -142,8 +143,21 @@ class Shown:
         one.said.seek(0)
         text = one.said.read().decode(errors="replace").strip()
         error = None if status == 0 else fault_of(status, text)
-        return {"state": "whole" if error is None else "damaged" if status == 6 else "failed",
+        told = {"state": "whole" if error is None else "damaged" if status == 6 else "failed",
                 "seconds": one.ended - one.begun, "said": text if error is None else str(error)}
+        if isinstance(error, Damaged):
+            parts = {field.name: getattr(error.damage, field.name) for field in fields(error.damage)}
+            told["damage"] = {name: value for name, value in parts.items() if value is not None}
+            told["remedy"] = self._remedy(error.damage)
+        return told
+
+    def _remedy(self, damage: Damage) -> list[str]:
+        """What can be done about a damage, with the commands that the program has."""
+        again = f", {damage.file} first" if damage.file else ""
+        return [f"Write nothing to {self.folder}: copy it as it is{again}, and run check on the copy on another disk.",
+                "Go on from an older copy of the whole folder that check finds whole, or load the source anew.",
+                "The program has rescue: its help says what it takes over." if "rescue" in self.program.commands else
+                "This program has no rescue, which would take over what is whole."]
 
     def close(self) -> None:
         """Ends a check that runs."""

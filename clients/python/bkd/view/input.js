@@ -159,6 +159,7 @@ function pressed(event) {
   else if (key === "0") showAll();
   else if (key === "u" || key === "Backspace" || key === "z") undo();
   else if (key === "c") closeRing();
+  else if (key === "t") byId("counts").click();
   else if (key in MODES) choose(MODES[key]);
   else if ((key === "Enter" || key === " ") && mode() !== "move") {
     state.cross = state.cross || middle();
@@ -209,6 +210,7 @@ byId("degrees").addEventListener("change", () => {
   if (state.view) tellShown();
   showAnswer();
 });
+byId("counts").addEventListener("change", draw);
 byId("check").addEventListener("click", () => tried(check));
 matchMedia("(prefers-color-scheme: dark)").addEventListener("change", draw);
 new ResizeObserver(() => {

@@ -2,8 +2,8 @@
 "use strict";
 const byId = name => document.getElementById(name);
 const state = {
-  about: null, view: null, answer: null, query: null, drawing: false, ring: [], corner: null, cross: null, pointers: new Map(), drag: null,
-  pinch: null, past: [], wait: 0, slow: true, asked: 0, viewed: 0,
+  about: null, view: null, answer: null, query: null, drawing: false, ring: [], corner: null, cross: null,
+  pointers: new Map(), drag: null, coasts: null, cells: null, pinch: null, past: [], wait: 0, slow: true, asked: 0, viewed: 0,
 };
 // milliseconds between two looks at the commit, before a view is asked for, and that make one slow, so that the next
 // is first asked for by larger squares; steps that may be taken back
@@ -56,7 +56,7 @@ async function loadView() {
     draw();
     tellShown();
     document.body.dataset.ready = "yes";
-    if (told.across === 1 && told.up === 1) return;
+    if (isOne(told)) return;
     if (dots === 4) state.slow = performance.now() > begun + SLOW;
   }
 }
@@ -88,21 +88,27 @@ function draw() {
   clear();
   drawAxes(isFlat());
   clipped(() => {
+    if (hasCoasts()) drawCoasts(state.coasts.lines);
     if (state.view) drawSquares(state.view, state.view.squares, colours.many, .18, isFlat());
     const found = state.answer && state.answer.drawn;
     if (found) {
       drawSquares(found, found.partly, colours.partly, .35, isFlat());
       drawSquares(found, found.squares, colours.found, .3, isFlat());
     }
+    state.cells = state.view && !isOne(state.view) && byId("counts").checked ? cellsOf(state.view, isFlat()) : null;
+    if (state.cells) drawCells(state.cells, isFlat());
     drawQuery(state.query, isFlat());
     if (state.cross && mode() !== "move") drawCross(state.cross);
   });
 }
 
+/* Whether squares are single coordinates. */
+const isOne = view => view.across === 1 && view.up === 1;
+
 function size(view) {
-  if (view.across === 1 && view.up === 1) return "one by one";
+  if (isOne(view)) return "one by one";
   const told = [view.across, view.up].slice(0, isFlat() ? 1 : 2).map(n => scale.unit > 1 ? `${(n / scale.unit).toPrecision(2)}${scale.sign}` : n.toLocaleString("en"));
-  return `by ${isFlat() ? "pieces" : "squares"} of ${told.join(" \u00d7 ")}, ${many(view.most, "point")} in the fullest`;
+  return `by ${many(view.squares.length, isFlat() ? "piece" : "square")} of ${told.join(" \u00d7 ")}, ${many(view.most, "point")} in the fullest`;
 }
 
 function tellShown() {

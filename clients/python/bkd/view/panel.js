@@ -36,10 +36,19 @@ function showAnswer() {
   rows.push(["leaves read at most", touched]);
   if (told.milliseconds !== null) rows.push(["run of the program", told.milliseconds.toFixed(1) + " ms"]);
   parts.push(listed(rows));
-  const drawn = told.drawn ? `Drawn ${size(told.drawn)}.` : "Where they lie isn't drawn in these dimensions.";
-  parts.push(made("p", drawn, "drawn"));
+  parts.push(made("p", drawnOf(told), "drawn"));
   parts.push(numbersOf(told));
   byId("answer").replaceChildren(...parts);
+}
+
+/* How many were found, and how many points of them are drawn and how. */
+function drawnOf(told) {
+  const found = `${many(told.count, "document")} found`, { drawn } = told;
+  if (!drawn) return `${found}, 0 points drawn: not in these dimensions.`;
+  const partly = drawn.partly.reduce((sum, square) => sum + square[2], 0);
+  const some = partly ? ` ${many(partly, "point")} more, of which some are found, in ${many(drawn.partly.length, "square")} that an edge meets.` : "";
+  const which = told.kind === "nearest" ? "as near" : "of them";
+  return `${found}, ${many(drawn.points, "point")} ${which} drawn ${size(drawn)}.${some}`;
 }
 
 function numbersOf(told) {
@@ -56,7 +65,7 @@ function numbersOf(told) {
     }
     part.append(table);
   } else if (!told.numbers) {
-    part.append(made("p", "They are too many to list their numbers."));
+    part.append(made("p", `0 of ${many(told.count, "number")} listed: they are too many.`));
   } else {
     if (told.count > told.numbers.length) part.append(made("p", `${firstOf(told.numbers, told.count)} numbers:`));
     part.append(made("p", told.numbers.join(" ")));
@@ -114,11 +123,39 @@ function lookLikeDegrees() {
 function chooseScale() {
   const { decimals } = state.about, isDegrees = byId("degrees").checked;
   scale = { unit: 10 ** (decimals ?? (isDegrees ? 7 : 0)), sign: isDegrees ? "\u00b0" : "" };
+  tellCoasts();
+}
+
+/* ---- coast lines, where longitude goes across and latitude up */
+
+const hasCoasts = () => state.coasts !== null && byId("degrees").checked && axes().x === 0 && axes().y === 1;
+
+/* Says whose lines are drawn, or why none are; they are asked for once. */
+async function tellCoasts() {
+  byId("coasts").hidden = !byId("degrees").checked || isFlat();
+  if (byId("coasts").hidden) return;
+  try {
+    state.coasts = state.coasts || await fetched("coasts");
+    const { source, lacks } = state.coasts;
+    byId("coasts").textContent = lacks ? `No coast lines: ${lacks}.` : `Coast lines: ${source}.`;
+  } catch (error) {
+    byId("coasts").textContent = `No coast lines: ${error.message}.`;
+  }
+  draw();
 }
 
 /* ---- the check */
 
+/* What is damaged, each of its parts by name, and what can be done about it. */
+function showDamage({ damage, remedy }) {
+  byId("damage").hidden = !damage && !remedy;
+  byId("damage").replaceChildren();
+  if (damage) byId("damage").append(listed(Object.entries(damage)));
+  for (const line of remedy || []) byId("damage").append(made("p", line));
+}
+
 async function check() {
+  showDamage({});
   let told = await fetched("check", { method: "POST" });
   byId("check").disabled = true;
   try {
@@ -131,6 +168,7 @@ async function check() {
     }
     const found = { whole: "All is whole", damaged: "It is damaged" }[told.state] || "It can't be read";
     byId("checked").textContent = `${found}, after ${told.seconds.toFixed(1)} s: ${told.said}`;
+    showDamage(told);
   } finally {
     byId("progress").hidden = true;
     byId("check").disabled = false;

@@ -99,6 +99,25 @@ function drawAxes(isFlat) {
   ink.strokeRect(room.left - .5, room.top - .5, room.width + 1, room.height + 1);
 }
 
+/* Lines of coasts, in degrees; those that lie beside the frame aren't drawn. */
+function drawCoasts(lines) {
+  const [left, bottom, right, top] = frame.map(c => c / scale.unit);
+  ink.strokeStyle = colours.soft;
+  ink.lineWidth = 1;
+  ink.globalAlpha = .7;
+  ink.beginPath();
+  for (const line of lines) {
+    for (let i = 0; i + 3 < line.length; i += 2) {
+      const [x, y, x2, y2] = line.slice(i, i + 4);
+      if (Math.max(x, x2) < left || Math.min(x, x2) > right || Math.max(y, y2) < bottom || Math.min(y, y2) > top) continue;
+      ink.moveTo(...toScreen(x * scale.unit, y * scale.unit));
+      ink.lineTo(...toScreen(x2 * scale.unit, y2 * scale.unit));
+    }
+  }
+  ink.stroke();
+  ink.globalAlpha = 1;
+}
+
 /* A number beside the axis, shortened where it has no room. */
 function upText(text, x, y) {
   let size = 12;
@@ -129,6 +148,53 @@ function drawSquares(view, squares, colour, least, isFlat) {
   }
   ink.globalAlpha = 1;
   if (isDot && wide > 26) drawCounts(squares);
+}
+
+/* ---- how many there are: squares joined to cells that have room for their number */
+
+/* The fewest dots of a cell's sides. */
+const CELL_WIDE = 84, CELL_HIGH = 52;
+const short = n => n < 100000 ? n.toLocaleString("en") : n.toLocaleString("en", { notation: "compact", maximumFractionDigits: 1 });
+
+/* A cell's side: a square's, doubled until it has so many dots. */
+function cellSide(side, dots, least) {
+  let by = 1;
+  while (dots > 0 && dots * by < least) by *= 2;
+  return side * by;
+}
+
+/* The cells of a view, with their counts. */
+function cellsOf(view, isFlat) {
+  const [x0, y0] = toScreen(0, 0), [x1, y1] = toScreen(view.across, view.up);
+  const across = cellSide(view.across, x1 - x0, CELL_WIDE), up = isFlat ? 1 : cellSide(view.up, y0 - y1, CELL_HIGH);
+  const counts = new Map();
+  for (const [x, y, n] of view.squares) {
+    const at = [Math.floor(x / across) * across, isFlat ? 0 : Math.floor(y / up) * up], key = at.join();
+    counts.set(key, { at, n: n + (counts.has(key) ? counts.get(key).n : 0) });
+  }
+  return { across, up, cells: [...counts.values()] };
+}
+
+/* Cells by thin lines, with their number in the middle. */
+function drawCells({ across, up, cells }, isFlat) {
+  ink.font = "12px system-ui, 'DejaVu Sans', sans-serif";
+  ink.textAlign = "center";
+  ink.textBaseline = "middle";
+  ink.lineJoin = "round";
+  for (const { at: [x, y], n } of cells) {
+    const [left, below] = toScreen(x, y), [right, above] = toScreen(x + across, isFlat ? y : y + up);
+    ink.strokeStyle = colours.line;
+    ink.lineWidth = 1;
+    ink.globalAlpha = .7;
+    if (!isFlat) ink.strokeRect(left, above, right - left, below - above);
+    ink.globalAlpha = 1;
+    ink.strokeStyle = colours.ground;
+    ink.lineWidth = 4;
+    const px = (left + right) / 2, py = isFlat ? above - 24 : (above + below) / 2;
+    ink.strokeText(short(n), px, py);
+    ink.fillStyle = colours.text;
+    ink.fillText(short(n), px, py);
+  }
 }
 
 function drawCounts(squares) {

@@ -19,6 +19,7 @@ from urllib.parse import parse_qsl, urlsplit
 from ..commands import Folder, Which
 from ..errors import Error, Locked
 from ..program import find
+from . import coasts
 from .answers import Viewer
 from .folder import Shown
 
@@ -85,6 +86,8 @@ class _Handler(BaseHTTPRequestHandler):
             self._answer(lambda: viewer.view(dict(parse_qsl(path.query))))
         elif name == "check":
             self._answer(viewer.shown.check)
+        elif name == "coasts":
+            self._answer(coasts.told)
         else:
             self._tell(404, "no such page")
 
