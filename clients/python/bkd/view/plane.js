@@ -69,7 +69,8 @@ function roundStep(width, count) {
 /* A coordinate in the index's scale, to as many places as a step needs. */
 function label(value, step) {
   const places = Math.max(0, -Math.floor(Math.log10(step / scale.unit) + 1e-9));
-  return (Math.round(value) / scale.unit).toLocaleString("en", { minimumFractionDigits: places, maximumFractionDigits: places }) + scale.sign;
+  const text = (Math.round(value) / scale.unit).toLocaleString("en", { minimumFractionDigits: places, maximumFractionDigits: places });
+  return text.replace(/^-(?=[0.]+$)/, "") + scale.sign;  // (no zero has a sign)
 }
 
 function drawAxes(isFlat) {
