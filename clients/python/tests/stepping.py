@@ -1,4 +1,4 @@
-"""Two workers in this process whose calls, and the writings of the layout, are counted down to where they are to die."""
+"""Two workers in this process: calls of them, and writings of the layout, are counted down to where they die."""
 import pytest
 
 from bkd import shards
