@@ -54,7 +54,7 @@ def test_a_folder_that_is_not_what_was_stored(client, words, tmp_path):
                 call()
         with open(commit, "wb") as file:
             file.write(whole)
-        # a damaged folder can't say whether it did the deletion, so that was told as not finished, and is finished now
+        # a damaged folder can't say whether it did the deletion: that was told as not finished, and is finished now
         index.recover()
         assert index.box(*everywhere).tolist() == [key for key in range(20) if key != 3]
         with bkd.open(where, wait=60, program=words) as plain:
