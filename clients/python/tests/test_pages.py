@@ -62,7 +62,7 @@ def completed(*words):
 @pytest.mark.parametrize("words, wanted", [
     (("bkd", "doc"), ["docs"]),
     (("bkd", ".", ""), ["run", "load", "explain", "check", "generate", "session", "count",
-                      "ranges", "batch", "export", "info"]),
+                      "ranges", "batch", "export", "info", "clean"]),
     (("bkd", ".", "ge"), ["generate"]),
     (("bkd", ".", "run", "--"), ["--cache", "--forks", *COMMON]),
     (("bkd", ".", "session", "--"), ["--cache", "--forks", *COMMON]),
