@@ -41,6 +41,8 @@ class Many:
         self._given = 0
         self._told = _Told()
         self._limit: int | None = None
+        # who is told of each piece before it is sent
+        self.sent: Callable[[bytes, int], None] | None = None
 
     def begin(self, first: int) -> None:
         self._first = first
@@ -51,6 +53,8 @@ class Many:
 
     def piece(self) -> tuple[bytes, int]:
         text, count = next(self._pieces, (b"", 0))
+        if text and self.sent is not None:
+            self.sent(text, count)
         self._asked.append((self._given, text, count))
         self._given += count
         return text, count
@@ -132,6 +136,26 @@ class Many:
     def deleted(self) -> int:
         """How many documents were deleted."""
         return self._told.sum
+
+    @property
+    def adds(self) -> bool:
+        """Whether its lines are additions."""
+        return self._answer is DOC
+
+    @property
+    def given(self) -> int:
+        """How many lines its pieces had so far."""
+        return self._given
+
+    @property
+    def is_whole(self) -> bool:
+        """Whether all lines that it gave were sent and are answered."""
+        return self._limit is None and self._told.done == self._given
+
+    @property
+    def refused_places(self) -> list[int]:
+        """The places, counted from 0, of the lines that were refused."""
+        return [one.number - self._first for one in self._told.refusals]
 
     @property
     def refusals(self) -> tuple[Refused, ...]:

@@ -1,30 +1,44 @@
-"""What is asked of an open index by commands that look at what is stored, in the folder that its program holds."""
+"""What is asked of an open index beyond its program's session: documents and counts, and the commands over its folder.
+
+Documents and counts are of all that was done, committed or not: what is stored comes from the program's commands in the
+folder that the session holds, which of it is still live from the session, and what isn't stored from what was sent.
+"""
 from __future__ import annotations
 
 import operator
-from collections.abc import Iterable, Iterator
+from bisect import bisect_left
+from collections import Counter
+from collections.abc import Iterable, Iterator, Sequence
+from itertools import chain
 from typing import Any, SupportsIndex
 
 from . import commands
 from . import requests as _queries
-from .answers import HITS, Answer, Explained
+from .answers import HITS, HOW_MANY, Answer, Explained
 from .commands import Checked, Info
 from .errors import Refused, Uncommitted, unrefused
 from .exporting import Document, export, to_arrays
+from .lock import Held
 from .program import Program
-from .requests import Point, Request
+from .requests import Point, Request, coordinates
 from .scale import GREATEST, LEAST, Scale
 from .transport import Session
 
+# so many documents the session lists before a command of the program's has counted them
+_FEW = 50_000
+
 
 class Stored:
-    """The commands over what an index has stored."""
+    """The documents, counts, and commands over what an index has stored."""
 
     _program: Program
     _folder: str
     _session: Session
     _scale: Scale | None
+    _counted: int | None = None
     dims: int
+
+    # ---- documents
 
     def __iter__(self) -> Iterator[Document]:
         return self.export()
@@ -32,62 +46,138 @@ class Stored:
     def export(self) -> Iterator[Document]:
         """All live documents as (number, points), by ascending number; points ascend, and are whole numbers.
 
-        Raises `Uncommitted` where something isn't committed.
+        They are those of the moment of the call. Raises `Uncommitted` where the points of one aren't known here: where
+        a call that added it was interrupted, and nothing was committed since.
         """
         with self._session.still() as held:
-            self._need_stored()
-            return export(self._folder, program=self._program, held=held)
+            if not self._session.is_dirty:
+                return export(self._folder, program=self._program, held=held)
+            return self._documents(self._hits(*self._every()), held)
 
     def __contains__(self, number: object) -> bool:
-        """Whether the document of this number is live, committed or not."""
+        """Whether the document of this number is live."""
         try:
             wanted = b"\n%d\n" % operator.index(number)  # type: ignore[arg-type]
         except TypeError:
             return False
-        every = _queries.box((LEAST,) * self.dims, (GREATEST,) * self.dims)
         has = Answer(HITS.word, True, lambda words, text: wanted in b"\n" + text)
-        return unrefused([self._session.query(Request(every.line, has))])[0]
+        return unrefused([self._session.query(Request(_queries.box(*self._every()).line, has))])[0]
 
     def get(self, number: SupportsIndex, default: Any = None) -> Any:
-        """The points of the document of this number as `export` has them, or `default` where it isn't live.
-
-        Raises `Uncommitted` where it is live and isn't committed.
-        """
+        """The points of the document of this number as `export` has them, or `default` where it isn't live."""
         wanted = operator.index(number)
-        if wanted not in self:
-            return default
-        for found, points in self._stored():
-            if found == wanted:
-                return points
-            if found > wanted:
-                break
-        raise Uncommitted(f"document {wanted} isn't committed: commit first")
+        with self._session.still() as held:
+            found = self._documents([wanted], held) if wanted in self else iter(())
+        return next((points for number, points in found), default)
 
     def items(self, lo: Point, hi: Point) -> Iterator[Document]:
-        """The documents that have a point in the box as (number, points), by ascending number, as `export` has them.
+        """The documents that have a point in the box as (number, points), by ascending number, as `export` has them,
+        and raises as it does, before the first one."""
+        if self._scale is not None:
+            lo, hi = self._scale.box(lo, hi)
+        with self._session.still() as held:
+            hits = self._hits(lo, hi)
+            return self._documents(hits, held) if hits else iter(())
 
-        Raises `Uncommitted`, before the first one, where one of them isn't committed.
+    def to_arrays(self) -> tuple[Any, Any]:
+        """The same as `export` as two arrays, a row for each point: numbers, uint32, and points, int32 of shape
+        (n, dims); wants numpy."""
+        with self._session.still() as held:
+            live = self._hits(*self._every()) if self._session.is_dirty else None
+            stored = to_arrays(self._folder, program=self._program, held=held)
+            if live is None:
+                return stored
+            import numpy
+            rest = [(number, *point) for number, points in self._fresh(live) for point in points]
+            rows = numpy.array(rest, dtype=numpy.int64).reshape(-1, 1 + self.dims)
+            of_live = numpy.isin(stored[0], numpy.array(live, dtype=numpy.uint32))
+            return (numpy.concatenate([stored[0][of_live], rows[:, 0].astype(numpy.uint32)]),
+                    numpy.concatenate([stored[1][of_live], rows[:, 1:].astype(numpy.int32)]))
+
+    def _every(self) -> tuple[Point, Point]:
+        """The corners of the box that has all points."""
+        return (LEAST,) * self.dims, (GREATEST,) * self.dims
+
+    def _hits(self, lo: Point, hi: Point) -> list[int]:
+        """The numbers of the live documents that have a point in a box."""
+        return unrefused([self._session.query(_queries.box(lo, hi))])[0]
+
+    def _documents(self, numbers: Sequence[int], held: Held) -> Iterator[Document]:
+        """The documents of these ascending numbers, which are live."""
+        fresh = self._fresh(numbers)
+        wanted = numbers[:bisect_left(numbers, self._session.stored().next)]
+        stored = _chosen(export(self._folder, program=self._program, held=held), wanted) if wanted else iter(())
+        return chain(stored, fresh)
+
+    def _fresh(self, numbers: Sequence[int]) -> Iterator[Document]:
+        """Those of live documents that aren't stored."""
+        first = bisect_left(numbers, self._session.stored().next)
+        return self._session.unstored.documents(numbers[first:], self.dims)
+
+    # ---- counts
+
+    def count(self, lo: Point, hi: Point) -> int:
+        """How many live points lie in the box; a document of several points counts for each.
+
+        Where each document has one point the session counts them, but for many that are all stored.
         """
         if self._scale is not None:
             lo, hi = self._scale.box(lo, hi)
-        with self._session.still():
-            hits = set(unrefused([self._session.query(_queries.box(lo, hi))])[0])
-            if hits and self._session.is_dirty and max(hits) >= self.info().next:
-                raise Uncommitted(f"document {max(hits)} isn't committed: commit first")
-            stored = self._stored() if hits else iter(())
-        return (document for document in stored if document[0] in hits)
-
-    def _stored(self) -> Iterator[Document]:
-        """What is stored, whatever isn't committed."""
         with self._session.still() as held:
-            return export(self._folder, program=self._program, held=held)
+            if self._session.is_single() and (self._session.is_dirty or self._may_be_few()):
+                found = self._session.query(_queries.box(lo, hi)._replace(answer=HOW_MANY))
+                if not isinstance(found, Refused):  # (else the program's command says why)
+                    self._counted = found
+                    return found
+            stored = self._asked(commands.points_in(lo, hi), held)
+            if not self._session.is_dirty:
+                self._counted = stored
+                return stored
+            return stored + sum(sign * len(points) for sign, points in self._changed(lo, hi, held))
 
-    def to_arrays(self) -> tuple[Any, Any]:
-        """The same as two arrays, a row for each point: numbers, uint32, and points, int32 of shape (n, dims); wants
-        numpy."""
+    def _may_be_few(self) -> bool:
+        """Whether a count may be small: as the last one was, and at first as the index is."""
+        counted = self._counted
+        if counted is None:
+            counted = sum(one.live for one in self._session.stored().listed)
+        return counted <= _FEW
+
+    def grid(self, x: int, step_x: int, y: int, step_y: int, lo: Point, hi: Point) -> list[tuple[int, int, int]]:
+        """The buckets (i, j, points) of the box that have points, cut in steps along the dimensions `x` and `y`.
+
+        Steps and corners are whole numbers, whatever the scale.
+        """
         with self._session.still() as held:
-            self._need_stored()
-            return to_arrays(self._folder, program=self._program, held=held)
+            stored = self._asked(commands.grid_over(x, step_x, y, step_y, lo, hi), held)
+            if not self._session.is_dirty:
+                return stored
+            found, low = Counter({(i, j): points for i, j, points in stored}), coordinates(lo)
+            for sign, points in self._changed(lo, hi, held):
+                for point in points:
+                    found[(point[x] - low[x]) // step_x, (point[y] - low[y]) // step_y] += sign
+            return sorted((i, j, points) for (i, j), points in found.items() if points)
+
+    def _asked(self, request: Request, held: Held) -> Any:
+        """What the program's `count` says of what is stored."""
+        return unrefused(commands.count(self._folder, [request], program=self._program, held=held))[0]
+
+    def _changed(self, lo: Point, hi: Point, held: Held) -> Iterator[tuple[int, list[tuple[int, ...]]]]:
+        """The points in a box of documents that came since the last commit, with 1, and of those that went, with -1."""
+        low, high = coordinates(lo), coordinates(hi)
+        live = self._hits(lo, hi)
+
+        def within(points: Iterable[tuple[int, ...]]) -> list[tuple[int, ...]]:
+            return [point for point in points if all(a <= c <= b for a, c, b in zip(low, point, high))]
+
+        for _, points in self._fresh(live):
+            yield 1, within(points)
+        if self._session.book.has_deleted:
+            kept = set(live)
+            for number, points in export(self._folder, program=self._program, held=held):
+                if number not in kept:
+                    yield -1, within(points)
+
+    # ---- commands over what is stored
 
     def info(self) -> Info:
         """What is stored, in numbers; see `bkd.info`."""
@@ -100,38 +190,27 @@ class Stored:
             return commands.explain(self._folder, queries, program=self._program, held=held)
 
     def check(self) -> Checked | None:
-        """Reads all that is stored: `Damaged` where it isn't whole."""
+        """Reads all that is stored, and nothing else: `Damaged` where it isn't whole."""
         with self._session.still() as held:
             return commands.check(self._folder, program=self._program, held=held)
 
-    def count(self, lo: Point, hi: Point) -> int:
-        """How many live points lie in the box; a document of several points counts for each.
-
-        Raises `Uncommitted` where something isn't committed, as `grid` and `batch` do: they ask what is stored.
-        """
-        if self._scale is not None:
-            lo, hi = self._scale.box(lo, hi)
-        return self._counted(commands.points_in(lo, hi))
-
-    def grid(self, x: int, step_x: int, y: int, step_y: int, lo: Point, hi: Point) -> list[tuple[int, int, int]]:
-        """The buckets (i, j, points) of the box that have points, cut in steps along the dimensions `x` and `y`.
-
-        Steps and corners are whole numbers, whatever the scale.
-        """
-        return self._counted(commands.grid_over(x, step_x, y, step_y, lo, hi))
-
-    def _counted(self, request: Request) -> Any:
-        with self._session.still() as held:
-            self._need_stored()
-            return unrefused(commands.count(self._folder, [request], program=self._program, held=held))[0]
-
     def batch(self, queries: Iterable[Request], forks: int = 1) -> list[Any]:
-        """The answers to queries over what is stored, by several threads; see `bkd.batch`."""
+        """The answers to queries over what is stored, by several threads; see `bkd.batch`.
+
+        Raises `Uncommitted` where something isn't committed.
+        """
         with self._session.still() as held:
-            self._need_stored()
+            if self._session.is_dirty:
+                raise Uncommitted("this asks what is stored, and something isn't committed: commit first")
             return commands.batch(self._folder, queries, forks, program=self._program, held=held)
 
-    def _need_stored(self) -> None:
-        """For what looks at documents: those that are stored must be those that are here."""
-        if self._session.is_dirty:
-            raise Uncommitted("this asks what is stored, and something isn't committed: commit first")
+
+def _chosen(documents: Iterator[Document], numbers: Sequence[int]) -> Iterator[Document]:
+    """Those of documents that have these numbers; both ascend."""
+    at = 0
+    for document in documents:
+        at = bisect_left(numbers, document[0], at)
+        if at == len(numbers):
+            return
+        if numbers[at] == document[0]:
+            yield document

@@ -5,18 +5,21 @@ import contextlib
 import math
 import threading
 from collections.abc import Callable, Iterable, Iterator, Sequence
+from dataclasses import dataclass, replace
 from typing import Any
 
 from . import commands, lock, options
-from .answers import DELETED, DOC, HITS, OK, Answer
+from .answers import DELETED, DOC, HOW_MANY, OK
 from .coprocess import Coprocess
-from .errors import Closed, Error, Locked, Refused
+from .errors import Closed, Error, Locked, NoIndex, Refused
+from .formats.commit import Commit, read_commit
 from .lock import Held
 from .many import Many
 from .program import Program
 from .requests import COMMIT, REOPEN, Request, box
 from .scale import GREATEST, LEAST
 from .talk import Asking, Talk
+from .unstored import Going, Unstored
 
 _WRITING = ("create", "flush", "merge")
 
@@ -24,40 +27,49 @@ _WRITING = ("create", "flush", "merge")
 def _all_hits(dims: int) -> Request:
     """Asks how many documents there are."""
     every = box((LEAST,) * dims, (GREATEST,) * dims)
-    return Request(every.line, Answer(HITS.word, True, lambda words, text: int(words[1])))
+    return Request(every.line, HOW_MANY)
 
 
-# whether something may have been done that isn't committed, and how many documents are live
-_Book = tuple[bool, int | None]
+@dataclass(frozen=True, slots=True)
+class Book:
+    """What is known of what isn't committed: whether there may be something, whether documents may have been deleted,
+    and whether all that was added is known; and how many documents are live, committed or not."""
+
+    is_dirty: bool = False
+    live: int | None = None
+    has_deleted: bool = False
+    is_known: bool = True
+
+    def after(self, done: Iterable[tuple[Request, Any]]) -> Book:
+        """What is known when requests were done with these values."""
+        book = self
+        for request, value in done:
+            if isinstance(value, Refused) or request.answer not in (DOC, DELETED, OK):
+                continue
+            if request in (COMMIT, REOPEN):
+                book = Book(live=book.live)
+            elif request.answer is OK:
+                book = replace(book, is_dirty=book.is_dirty or request.line.startswith(_WRITING))
+            else:
+                book = book.more(*((1, 0) if request.answer is DOC else (0, value)))
+        return book
+
+    def more(self, added: int, deleted: int) -> Book:
+        """What is known when so many documents were added and deleted."""
+        live = None if self.live is None else self.live + added - deleted
+        return replace(self, is_dirty=self.is_dirty or added + deleted > 0, live=live,
+                       has_deleted=self.has_deleted or deleted > 0)
 
 
-def _booked(book: _Book, done: Iterable[tuple[Request, Any]]) -> _Book:
-    """What is known when requests were done with these values."""
-    is_dirty, live = book
-    for request, value in done:
-        if isinstance(value, Refused) or request.answer not in (DOC, DELETED, OK):
-            continue
-        if request in (COMMIT, REOPEN):
-            is_dirty = False
-        elif request.answer is OK:
-            is_dirty |= request.line.startswith(_WRITING)
-        else:
-            change = 1 if request.answer is DOC else -value
-            is_dirty |= change != 0
-            live = _more(live, change)
-    return is_dirty, live
-
-
-def _more(live: int | None, change: int) -> int | None:
-    return None if live is None else live + change
+# while something is being done, and where it was interrupted
+_IN_DOUBT = Book(True, None, True, False)
 
 
 class Session:
     """A program that answers line by line and stays. After a fault it is closed.
 
     The program holds the folder: shared with others, and alone from its first change on. `wait` is for how many seconds
-    it waits where others don't let it. `is_dirty` tells whether something may have been done that isn't committed,
-    `live` how many documents are live.
+    it waits where others don't let it. `book` has what is known of what isn't committed, and `unstored` the documents.
     """
 
     def __init__(self, program: Program, folder: str, words: Sequence[str], timeout: float | None,
@@ -69,8 +81,9 @@ class Session:
         self._timeout = None if timeout is None else timeout + math.ceil(wait)
         self._read = read
         self._turn = threading.RLock()
-        self._live: int | None = None
-        self.is_dirty = False
+        self.book = Book()
+        self.unstored = Unstored()
+        self._commit: Commit | None = None
         self._note = lock.Opened(folder, read)
         self._run = self._start()
 
@@ -102,19 +115,48 @@ class Session:
 
     @contextlib.contextmanager
     def still(self) -> Iterator[Held]:
-        """The folder, for a further program that asks what is stored; no other thread changes it meanwhile."""
+        """The folder, for a further program that asks what is stored; no other thread changes it meanwhile, and a call
+        that was interrupted, as in a commit, is done."""
         with self._turn:
             self.need_open()
+            if not self.book.is_known:
+                try:
+                    self._run.settle()
+                finally:
+                    self._look()
             yield Held()
 
     @property
     def live(self) -> int:
         """How many documents are live. It is counted along; after an interrupted call it is asked for."""
         with self.still() as held:
-            if self._live is None:
+            live = self.book.live
+            if live is None:
                 stored = commands.info(self._folder, program=self._program, held=held)
-                self._live = self.query(_all_hits(stored.dims)) if self.is_dirty else stored.live
-            return self._live
+                live = self.query(_all_hits(stored.dims)) if self.is_dirty else stored.live
+                self.book = replace(self.book, live=live)
+            return live
+
+    @property
+    def is_dirty(self) -> bool:
+        """Whether something may have been done that isn't committed."""
+        return self.book.is_dirty
+
+    def stored(self) -> Commit:
+        """What is stored, by its file. (Behind an interrupted call, which may have committed, it is read each time.)"""
+        found = self._commit if self.book.is_known else None
+        if found is None:
+            found = self._commit = read_commit(self._folder)
+        if found is None:
+            raise NoIndex(f"{self._folder} holds no index")
+        return found
+
+    def is_single(self) -> bool:
+        """Whether each document, stored or not, is known to have one point."""
+        if not self.book.is_known:
+            return False
+        stored = self.stored()
+        return stored.given == stored.next and self.unstored.is_single(stored.dims)
 
     def need_open(self) -> None:
         """Raises `Closed` where no lines can be answered."""
@@ -135,31 +177,47 @@ class Session:
         """The answer to a request that may change documents, or its `Refused`."""
         self.need_open()
         with self._turn:
-            before = self.is_dirty, self._live
-            self.is_dirty, self._live = True, None
+            before, self.book = self.book, _IN_DOUBT
             value = self.query(request)
-            self.is_dirty, self._live = _booked(before, ((request, value),))
+            self._keep(((request, value),))
+            self.book = before.after(((request, value),))
         return value
 
     def ask(self, requests: Iterable[Request]) -> list[Any]:
         """The answers to requests in order, a `Refused` in the place of each that was refused."""
         self.need_open()
         talk = Asking(requests)
+
+        def booked(book: Book) -> Book:
+            self._keep(talk.done())
+            return book.after(talk.done())
+
         with self._turn:
-            self._change(talk, lambda book: _booked(book, talk.done()))
+            self._change(talk, booked)
         return talk.values
 
     def over(self, talk: Many) -> None:
         """Has many lines done."""
         self.need_open()
+
+        def booked(book: Book) -> Book:
+            return replace(book.more(len(talk.numbers), talk.deleted), is_dirty=True)
+
         with self._turn:
-            self._change(talk, lambda book: (True, _more(book[1], len(talk.numbers) - talk.deleted)))
+            before, going = self.book, Going(self.unstored, talk)
+            try:
+                self._change(talk, booked)
+            except Exception:  # of the caller's own iterable: what was sent before is done, and known
+                self.book = booked(before) if talk.is_whole else self.book
+                raise
+            finally:
+                going.end()
             talk.end()
 
     def typed(self, talk: Talk) -> None:
         """Has a line done as it was typed; it may have changed anything."""
         with self._turn:
-            self.is_dirty, self._live = True, None
+            self.book = _IN_DOUBT
             self._exchange(talk)
 
     def noted(self, number: int) -> str | None:
@@ -171,17 +229,29 @@ class Session:
         self._run.settle()
         talk.look()
 
-    def _change(self, talk: Asking | Many, booked: Callable[[_Book], _Book]) -> None:
+    def _change(self, talk: Asking | Many, booked: Callable[[Book], Book]) -> None:
         """Has something done that may change documents; where it is interrupted nobody knows what was done."""
-        before = self.is_dirty, self._live
-        self.is_dirty, self._live = True, None
+        before, self.book = self.book, _IN_DOUBT
         try:
             self._exchange(talk)
-            self.is_dirty, self._live = booked(before)
+            self.book = booked(before)
         except BaseException:
             if not talk.may_change():
-                self.is_dirty, self._live = before
+                self.book = before
             raise
+
+    def _keep(self, done: Iterable[tuple[Request, Any]]) -> None:
+        """Keeps the documents that were added, until a commit."""
+        added: list[tuple[int, str]] = []
+        for request, value in done:
+            if isinstance(value, Refused):
+                continue
+            if request.answer is DOC:
+                added.append((value, request.line))
+            elif request in (COMMIT, REOPEN):
+                added, self.unstored, self._commit = [], Unstored(), None
+        for number, line in added:
+            self.unstored.note(number, line)
 
     def _exchange(self, talk: Talk) -> None:
         try:
@@ -220,4 +290,4 @@ class Session:
         with self._turn:
             self._run.kill()
             self._run = self._start()
-            self._live, self.is_dirty = None, False
+            self.book, self.unstored, self._commit = Book(), Unstored(), None

@@ -135,10 +135,11 @@ def test_arrays_of_all(has, tmp_path, monkeypatch):
         assert numbers.shape == (0,) and points.shape == (0, 2)
         index.add_many([(i % 7, -i), (i, i)] for i in range(3000))
         index.delete_many(range(0, 3000, 9))
-        with pytest.raises(bkd.Uncommitted):
-            index.to_arrays()
+        before = index.to_arrays()
         index.commit()
         numbers, points = index.to_arrays()
+        assert (before[0] == numbers).all() and (before[1] == points).all()
+        assert (before[0].dtype, before[1].dtype) == (numpy.uint32, numpy.int32)
         assert (numbers.dtype, points.dtype) == (numpy.uint32, numpy.int32)
         wanted = [(number, *point) for number, document in index for point in document]
         assert numpy.column_stack([numbers, points]).tolist() == [list(row) for row in wanted]

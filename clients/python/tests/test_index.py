@@ -182,32 +182,31 @@ def test_documents_by_their_numbers(program, tmp_path):
             index.get("0")
 
 
-def test_documents_that_are_not_committed_are_told_as_such(program, tmp_path):
+def test_what_is_not_committed_is_seen(program, tmp_path):
     with bkd.open(tmp_path, create=True, program=program) as index:
         index.add((1, 1))
         index.commit()
         index.add((50, 50))
         assert 1 in index and index.get(0) == ((1, 1),) and list(index.items((0, 0), (9, 9))) == [(0, ((1, 1),))]
-        for use in (lambda: index.get(1), lambda: index.items(*EVERY)):
-            with pytest.raises(bkd.Uncommitted, match="document 1 isn't committed"):
-                use()
+        assert index.get(1) == ((50, 50),) and list(index) == list(index.items(*EVERY)) == \
+            [(0, ((1, 1),)), (1, ((50, 50),))]
+        assert index.count(*EVERY) == 2 and index.grid(0, 50, 1, 50, (0, 0), (99, 99)) == [(0, 0, 1), (1, 1, 1)]
+        index.delete(0)
+        assert index.count(*EVERY) == 1 and index.grid(0, 50, 1, 50, (0, 0), (99, 99)) == [(1, 1, 1)]
+        assert len(index) == 1 and index.info().live == index.check().live == 1 and index.info().next == 1
         index.commit()
-        assert index.get(1) == ((50, 50),) and len(list(index.items(*EVERY))) == 2
+        assert index.info().next == index.check().next == 2 and list(index) == [(1, ((50, 50),))]
 
 
-def test_what_is_not_committed_is_not_counted_in_silence(program, tmp_path):
+def test_a_batch_is_over_what_is_stored(program, tmp_path):
     with bkd.open(tmp_path, create=True, program=program) as index:
         index.add((1, 1))
-        for use in (lambda: index.count(*EVERY), lambda: index.grid(0, 1, 1, 1, (0, 0), (1, 1)),
-                    lambda: index.batch([requests.box(*EVERY)]), lambda: list(index), index.export):
-            with pytest.raises(bkd.Uncommitted):
-                use()
-        assert len(index) == 1 and index.info().live == 0
+        with pytest.raises(bkd.Uncommitted):
+            index.batch([requests.box(*EVERY)])
         index.commit()
-        assert index.count(*EVERY) == 1 and list(index) == [(0, ((1, 1),))]
         assert index.batch([requests.box(*EVERY)]) == [[0]] and index.info().live == 1
         index.delete(5)
-        assert index.count(*EVERY) == 1
+        assert index.batch([requests.box(*EVERY)]) == [[0]]
         index.delete(0)
         with pytest.raises(bkd.Uncommitted):
-            index.count(*EVERY)
+            index.batch([requests.box(*EVERY)])
