@@ -19,7 +19,7 @@ import numpy
 import pandas
 
 from .commands import Folder
-from .geo import DECIMALS, cap, great_circle
+from .ways import DECIMALS, cap, great_circle
 from .index import Index
 from .opening import open
 from .scale import polygons_of

@@ -2,28 +2,26 @@
 
 The whole numbers of 32 bits signed reach from -214.7483648 to 214.7483647 degrees. What is said of rounding in
 `bkd.scale` holds here. Distances of an index of such points are in these units squared, on the plane of longitude and
-latitude; on the globe they are what `great_circle` says, in metres.
+latitude; on the globe they are what `great_circle` says, in metres, by which `nearest` and `radius` find.
 """
 from __future__ import annotations
 
-import math
 from decimal import Decimal
 from typing import Any
 
 from . import requests
+from .globe import nearest, radius
 from .scale import GREATEST, LEAST, Scale, Value, polygons_of
+from .ways import DECIMALS, RADIUS, cap, great_circle
 
-DECIMALS = 7
 SCALE = Scale(DECIMALS)
 UNIT = SCALE.unit
-# the mean radius of the Earth by the International Union of Geodesy and Geophysics, in metres
-RADIUS = 6_371_008.8
 Degrees = Value
-DegreesBox = tuple[float, float, float, float]
 WholeBox = tuple[tuple[int, int], tuple[int, int]]
 
 __all__ = ["DECIMALS", "GREATEST", "LEAST", "RADIUS", "SCALE", "UNIT", "box", "boxes", "cap", "degrees",
-           "exact_degrees", "great_circle", "point", "points", "polygon", "polygons", "whole", "within"]
+           "exact_degrees", "great_circle", "nearest", "point", "points", "polygon", "polygons", "radius",
+           "whole", "within"]
 
 
 def whole(degrees: Degrees, rounding: str | None = None) -> int:
@@ -90,38 +88,3 @@ def polygons(shape: Any, rounding: str | None = None) -> list[dict[str, Any]]:
     left out), raises ValueError.
     """
     return [SCALE.polygon(rings, rounding) for rings in polygons_of(shape)]
-
-
-def great_circle(lon: Any, lat: Any, to_lon: Any, to_lat: Any) -> Any:
-    """The way over the globe, in metres, between places in degrees; numbers or arrays of them, which want numpy.
-
-    Half a chord's square by the haversine formula, on a sphere of the mean radius.
-    """
-    if all(isinstance(value, (int, float)) for value in (lon, lat, to_lon, to_lat)):
-        half = _haversine(math, lon, lat, to_lon, to_lat)
-        return 2 * RADIUS * math.asin(min(1.0, math.sqrt(half)))
-    import numpy
-    half = _haversine(numpy, lon, lat, to_lon, to_lat)
-    return 2 * RADIUS * numpy.arcsin(numpy.minimum(1.0, numpy.sqrt(half)))
-
-
-def _haversine(by: Any, lon: Any, lat: Any, to_lon: Any, to_lat: Any) -> Any:
-    across = by.sin(by.radians(to_lon - lon) / 2) ** 2
-    up = by.sin(by.radians(to_lat - lat) / 2) ** 2
-    return up + by.cos(by.radians(lat)) * by.cos(by.radians(to_lat)) * across
-
-
-def cap(lon: float, lat: float, metres: float) -> list[DegreesBox]:
-    """One or two boxes (west, south, east, north) that hold all places so near; a little larger than they must be."""
-    angle = math.degrees(metres / RADIUS) * (1 + 1e-9) + 1e-9
-    south, north = max(-90.0, lat - angle), min(90.0, lat + angle)
-    if lat - angle <= -90 or lat + angle >= 90:
-        return [(-180.0, south, 180.0, north)]
-    side = math.sin(math.radians(angle)) / math.cos(math.radians(lat))
-    wide = math.degrees(math.asin(min(1.0, side))) * (1 + 1e-9) + 1e-9
-    west, east = lon - wide, lon + wide
-    if west < -180:
-        return [(west + 360, south, 180.0, north), (-180.0, south, east, north)]
-    if east > 180:
-        return [(west, south, 180.0, north), (-180.0, south, east - 360, north)]
-    return [(west, south, east, north)]
