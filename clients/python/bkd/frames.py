@@ -22,7 +22,8 @@ from .commands import Folder
 from .ways import DECIMALS, cap, great_circle
 from .index import Index
 from .opening import open
-from .scale import polygons_of
+from .options import whole
+from .scale import MOST_DECIMALS, Scale, polygons_of
 
 Array = Any
 _MOST_NEAR = 10_000
@@ -62,6 +63,7 @@ def from_dataframe(frame: Any, folder: Folder, x: str | None = None, y: str | No
     bits at so many decimals, raise ValueError. `options` are those of `bkd.open`.
     """
     points = coordinates(frame, x, y)
+    Scale(whole("decimals", decimals, 0, MOST_DECIMALS)).array(points, "nearest")  # (before anything is made)
     index = open(folder, 2, create=True, decimals=decimals, **options)
     try:
         if index.info().next:

@@ -7,8 +7,8 @@ import pytest
 import bkd
 from bkd import geo, ways
 
-PLACES = [(0, 0), (179.99, 10), (-179.99, -10), (180, 0), (-180, 0), (13.4, 52.5), (0, 90), (77, -90), (120, 89.9), (-60, -89.5),
-          (10, 66), (540, 45)]
+PLACES = [(0, 0), (179.99, 10), (-179.99, -10), (180, 0), (-180, 0), (13.4, 52.5), (0, 90), (77, -90), (120, 89.9),
+          (-60, -89.5), (10, 66), (540, 45)]
 
 
 def drawn(draw, count, near):
@@ -50,8 +50,8 @@ def test_few_and_none(program, tmp_path):
     with bkd.open(tmp_path, create=True, decimals=7, program=program) as index:
         assert geo.nearest(index, 3, 0, 0) == [] and geo.radius(index, 0, 0, 1e9) == []
         index.add_many([(180, 0), (200, 0), (0, 100), (0, 0), (-180, 0)])
-        near = geo.nearest(index, 5, 0, 0)
-        assert [n for n, _ in near] == [3, 0, 4] and near[0][1] == 0 and near[1][1] == pytest.approx(math.pi * geo.RADIUS)
+        found, metres = zip(*geo.nearest(index, 5, 0, 0))
+        assert found == (3, 0, 4) and metres == pytest.approx((0, math.pi * geo.RADIUS, math.pi * geo.RADIUS))
         assert geo.radius(index, 179.9999, 0, 20) == [0, 4] and geo.radius(index, 0, 0, 0) == [3]
 
 

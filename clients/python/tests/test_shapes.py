@@ -186,6 +186,9 @@ def test_a_frame_into_a_folder(frame, tmp_path, program):
     for wrong in ({"x": "lon", "y": "none"}, {"x": "none"}):
         with pytest.raises(ValueError, match="no columns"):
             frames.from_dataframe(frame, tmp_path / "b", program=program, **wrong)
+    for value in (float("nan"), 1e9):
+        with pytest.raises(ValueError, match="some values"):
+            frames.from_dataframe(frame.assign(lon=value), tmp_path / "b", program=program)
     assert not (tmp_path / "b").exists()
     named = frame.rename(columns={"lon": "east", "lat": "north"})
     with pytest.raises(ValueError, match="no geometry"):

@@ -1,4 +1,4 @@
-"""Documents and counts of what isn't committed, beside a plain list; and what isn't known where a call was interrupted."""
+"""Documents and counts of what isn't committed, beside a plain list; what isn't known where a call was cut short."""
 import os
 import random
 import signal
@@ -68,8 +68,7 @@ def step(index, plain, draw, most):
     def document():
         return [(draw.randint(-SPAN, SPAN), draw.randint(-SPAN, SPAN)) for _ in range(draw.randint(1, most))]
 
-    what = draw.choice(["add", "many", "array", "ask", "delete", "gone", "box", "commit", "rollback", "refused", "flush",
-                        "merge", "reopen"])
+    what = draw.choice("add many array ask delete gone box commit rollback refused flush merge reopen".split())
     if what == "add":
         plain.add([one := document()])
         index.add(one)
@@ -161,14 +160,17 @@ def test_an_interrupt_at_any_moment(program, tmp_path):
     draw, told = random.Random(7), set()
     with bkd.open(tmp_path, create=True, program=program) as index:
         def documents(count):
-            return [*map(lambda i: [(i, 0), (i, 1)], range(count))]
+            return [[(i, 0), (i, 1)] for i in range(count)]
 
         for turn in range(15):
             timer = threading.Timer(draw.random() * .02, os.kill, (os.getpid(), signal.SIGINT))
             try:
                 timer.start()
-                index.add_many(documents(1500)) if turn % 3 else \
-                    index.ask([*map(requests.add, documents(1000)), requests.COMMIT, *map(requests.add, documents(500))])
+                if turn % 3:
+                    index.add_many(documents(1500))
+                else:
+                    some = [requests.add(document) for document in documents(1000)]
+                    index.ask([*some, requests.COMMIT, *some])
                 time.sleep(1)
             except KeyboardInterrupt:
                 pass
