@@ -4,6 +4,8 @@ import struct
 
 import pytest
 
+import bkd
+from bkd.formats import open_stored, read_commit
 from bkd.view import coasts, drawn
 from conftest import works
 from test_export import made
@@ -71,6 +73,24 @@ def test_what_is_damaged(counting, tmp_path, shown):
     os.rename(tmp_path / name, folder / name)
     told = checked(server)
     assert told["state"] == "whole" and "damage" not in told and "remedy" not in told
+
+
+@pytest.mark.parametrize("most", [1, 2])
+def test_dead_points(counting, tmp_path, shown, most):
+    """Of each segment as many as its leaves have; at most so many, where documents have several points."""
+    documents = [[(i, 0), (i, 1)][:1 + i % most] for i in range(300)]
+    with bkd.open(tmp_path, create=True, program=counting) as index:
+        index.add_many(documents)
+        index.flush()
+        index.delete_many(range(0, 300, 3))
+    status, about = fetch(shown(tmp_path, counting), "about")
+    stored = open_stored(tmp_path)
+    dead = [0] * len(stored.parts)
+    for at, leaf, places in stored.entries():
+        dead[at] += len(leaf.numbers) - len(places)
+    assert about["single"] == (most == 1) and sum(dead) == sum(len(one) for one in documents[::3])
+    told = [segment["dead"] for segment in about["segments"]]
+    assert told == dead if most == 1 else all(a >= b for a, b in zip(told, dead))
 
 
 def checked(server):
@@ -174,3 +194,22 @@ def test_the_damage_is_told(page, browser, counting, tmp_path, shown):
     told = browser.value("byId('damage').textContent")
     assert not browser.value("byId('damage').hidden") and f"file{name}" in told and "kindpage" in told
     assert ("This program has no rescue" in told) == (not works("rescue"))
+
+
+@pytest.mark.slow
+@needs_browser
+def test_dead_points_and_snapshots_are_told(page, towns_folder):
+    """The share of dead points in each segment's row, and that a folder has no snapshots; and what is left over."""
+    rows = page.value("Array.from(byId('segments').rows, row => Array.from(row.cells, cell => cell.textContent))")
+    commit = read_commit(towns_folder)
+    assert [row[3] for row in rows] == [f"{one.entries - one.live:,} ({round(100 - 100 * one.live / one.entries)} %)"
+                                        for one in commit.listed]
+    assert any(one.live < one.entries for one in commit.listed)
+    assert page.value("byId('snapshots').textContent") == \
+        "Snapshots: none is stored. Each is its session's own, and ends with it."
+    assert page.value("deadOf({ entries: 300, dead: 2 })") == "2 (0.67 %)"
+    left = "[{ kind: 'left over', size: 4096 }, { kind: 'needed', size: 1 }]"
+    assert page.value(f"snapshotsOf({left})").endswith("1 file of 4,096 bytes can go, by the program's clean.")
+    page.value("state.about.single = false")
+    assert page.value("deadOf({ entries: 300, dead: 30 })") == "at most 30 (10 %)"
+    page.value("state.about.single = true")

@@ -85,18 +85,22 @@ class Shown:
     # ---- what is there
 
     def about(self) -> dict[str, Any]:
-        """What `info` tells, the segments, all files of the folder, and the least box round all entries."""
+        """What `info` tells, the segments, all files of the folder, and the least box round all entries.
+
+        Of a segment `dead` is how many of its points are of deleted documents; at most, where not each document has a
+        single point, as `single` tells: then only the leaves tell how many points the live ones have.
+        """
         with self.reading():
             mark, commit = self.mark(), self.commit()
             told = commands.info(self.folder, program=self.program, timeout=_TIMEOUT)
             roots = [self._root(one.segment, commit.dims) for one in commit.listed]
         bounds = [[min(c) for c in zip(*(low for low, _ in roots))],
                   [max(c) for c in zip(*(high for _, high in roots))]] if roots else None
-        segments = [{"id": one.segment, "entries": one.entries, "live": one.live,
+        segments = [{"id": one.segment, "entries": one.entries, "live": one.live, "dead": one.entries - one.live,
                      "leaves": -(-one.entries // commit.leaf)} for one in commit.listed]
         return {"mark": mark, "folder": self.folder, "dims": told.dims, "leaf": told.leaf, "next": told.next,
                 "given": told.points, "live": told.live, "bytes": told.bytes, "segments": segments, "bounds": bounds,
-                "files": self._files(commit), "decimals": told.decimals}
+                "files": self._files(commit), "decimals": told.decimals, "single": commit.given == commit.next}
 
     def _root(self, segment: int, dims: int) -> tuple[list[int], list[int]]:
         """The least cell round a segment's entries, which stands at the front of its page 1."""

@@ -88,10 +88,24 @@ async function loadAbout() {
     ["dimensions", dims], ["live documents", live], ["points stored, deleted ones among them", stored],
     ["next number", next], ["points ever given", given], ["points a leaf at most", leaf], ["bytes needed", bytes],
   ]).children);
-  byId("segments").replaceChildren(...segments.map(one => row([one.id, one.entries, one.live, one.leaves])));
+  byId("segments").replaceChildren(...segments.map(one => row([one.id, one.entries, one.live, deadOf(one), one.leaves])));
+  byId("snapshots").textContent = snapshotsOf(files);
   const need = one => one.kind === "needed" ? "yes" : one.kind;
   byId("files").replaceChildren(...files.map(one => row([one.name, one.size, need(one)])));
   if (first) chooseAxes();
+}
+
+/* How many of a segment's points are of deleted documents, and which share that is. */
+function deadOf({ entries, dead }) {
+  const most = dead && !state.about.single ? "at most " : "";
+  return `${most}${dead.toLocaleString("en")} (${(100 * dead / entries).toFixed(dead && dead < entries / 100 ? 2 : 0)} %)`;
+}
+
+/* Of snapshots there is nothing in a folder; files that no commit needs are what a run left that was ended. */
+function snapshotsOf(files) {
+  const left = files.filter(one => one.kind === "left over"), size = left.reduce((sum, one) => sum + one.size, 0);
+  const none = "Snapshots: none is stored. Each is its session's own, and ends with it.";
+  return left.length ? `${none} ${many(left.length, "file")} of ${many(size, "byte")} can go, by the program's clean.` : none;
 }
 
 function row(values) {
