@@ -9,9 +9,11 @@ import numpy
 
 from .. import commands, options, requests
 from ..requests import Point, Request, coordinates
+from ..scale import polygons_of
 from .crew import Crew
 from .documents import Array, Query
 from .layout import Layout
+from .refusals import check_box, check_grid, check_polygon
 
 
 def box(lo: Point, hi: Point) -> Query:
@@ -20,7 +22,7 @@ def box(lo: Point, hi: Point) -> Query:
 
 
 def polygon(shape: Any) -> Query:
-    """A query for `ask`: the documents that have a point in a polygon."""
+    """A query for `ask`: the documents that have a point in a polygon, a GeoJSON Polygon or a list of its rings."""
     return Query(polygon=requests.geojson(shape))
 
 
@@ -29,6 +31,9 @@ def nearest(k: SupportsIndex, at: Point) -> Query:
     if not 1 <= int(k) <= 10_000:
         raise ValueError(f"k is 1 to 10,000, not {k}")
     return Query(k=int(k), at=coordinates(at))
+
+
+_NONE = numpy.empty(0, dtype=numpy.int64)
 
 
 class Asking:
@@ -46,8 +51,14 @@ class Asking:
         return self.ask([box(lo, hi)])[0]
 
     def polygon(self, shape: Any) -> Array:
-        """The keys, ascending, of the documents that have a point in a polygon, as `Index.polygon` takes it."""
-        return self.ask([polygon(shape)])[0]
+        """The keys, ascending, of the documents that have a point in a polygon of a shape, as `Index.polygon` takes it.
+        Of a shape of several polygons each key is told once."""
+        try:
+            parts = list(polygons_of(shape))
+        except ValueError:  # the program says what is wrong with it
+            parts = [shape]
+        found = self.ask([polygon(one) for one in parts])
+        return found[0] if len(found) == 1 else numpy.unique(numpy.concatenate([_NONE, *found]))
 
     def nearest(self, k: SupportsIndex, at: Point) -> list[tuple[int, int]]:
         """The `k` nearest documents as (key, squared distance), ascending by distance, then key."""
@@ -110,22 +121,31 @@ class Asking:
 
     def count(self, lo: Point, hi: Point) -> int:
         """How many live points lie in the box; a document of several points counts for each."""
-        return sum(self._counted(commands.points_in(lo, hi), lo, hi))
+        with self._asking() as (layout, is_exact):
+            return sum(self._counted(layout, is_exact, commands.points_in(lo, hi), lo, hi))
 
     def grid(self, x: int, step_x: int, y: int, step_y: int, lo: Point, hi: Point) -> list[tuple[int, int, int]]:
         """The buckets (i, j, points) of the box that have points, cut in steps along the dimensions `x` and `y`."""
-        total: dict[tuple[int, int], int] = {}
-        for part in self._counted(commands.grid_over(x, step_x, y, step_y, lo, hi), lo, hi):
+        request, total = commands.grid_over(x, step_x, y, step_y, lo, hi), dict[tuple[int, int], int]()
+        with self._asking() as (layout, is_exact):
+            parts = self._counted(layout, is_exact, request, lo, hi)
+            if not parts:
+                check_grid(request, layout.dims, (x, y), (step_x, step_y), lo, hi)
+        for part in parts:
             for i, j, count in part:
                 total[i, j] = total.get((i, j), 0) + count
         return [(i, j, count) for (i, j), count in sorted(total.items())]
 
-    def _counted(self, request: Request, lo: Point, hi: Point) -> list[Any]:
-        with self._asking() as (layout, is_exact):
-            box(lo, hi).check(layout.dims)
-            meeting = [at for at, place in enumerate(layout.places) if place.meets(coordinates(lo), coordinates(hi))]
-            told = self._crew.each("count", layout, {at: ([request],) for at in meeting}, is_exact)
-            return [values[0] for values in told.values()]
+    def _counted(self, layout: Layout, is_exact: bool, request: Request, lo: Point, hi: Point) -> list[Any]:
+        """What the folders count that the box meets; where there are none another one is asked, which tells what is
+        wrong with the request. Nothing where no folder is made."""
+        low, high, made = coordinates(lo), coordinates(hi), _made(layout)
+        if len(low) == len(high) == layout.dims:
+            made = [at for at in layout.holding() if layout.places[at].meets(low, high)] or made[:1]
+        if not made:
+            check_box(request, layout.dims, lo, hi)
+        told = self._crew.each("count", layout, {at: ([request],) for at in made}, is_exact)
+        return [values[0] for values in told.values()]
 
     def about(self) -> list[tuple[str, int, int]]:
         """Of each folder its path, how many documents it was given, and how many are live."""
@@ -146,7 +166,7 @@ class Asking:
         arrays; nothing is written until the last one is taken."""
         with self._asking() as (layout, is_exact):
             told = self._crew.each("export", layout, {at: () for at in layout.holding()}, is_exact)
-            keys = numpy.concatenate([numpy.empty(0, dtype=numpy.int64), *(keys for keys, _ in told.values())])
+            keys = numpy.concatenate([_NONE, *(keys for keys, _ in told.values())])
             rows = [(documents.points, begin, end) for _, documents in told.values()
                     for begin, end in zip(documents.begins(), [*documents.begins()[1:], len(documents.points)])]
         for row in numpy.argsort(keys, kind="stable").tolist():
@@ -174,13 +194,18 @@ def _first(layout: Layout, queries: Sequence[Query]) -> dict[int, list[int]]:
     """The places that each query is asked first: all that may have what it finds, of the nearest those nearest to
     it."""
     first = {i: _nearest_places(layout, query) if query.k else [] for i, query in enumerate(queries)}
-    holding, boxes = list(layout.holding()), [i for i, query in enumerate(queries) if not query.k]
+    holding, boxes, made = list(layout.holding()), [i for i, query in enumerate(queries) if not query.k], _made(layout)
     if holding and boxes:
         low, high = numpy.array([queries[i].bounds() for i in boxes]).transpose(1, 0, 2)
         least, greatest = numpy.array([layout.places[at].bounds for at in holding]).transpose(1, 0, 2)
         meet = ((low[:, None] <= greatest) & (least <= high[:, None])).all(axis=2)
         for row, column in numpy.argwhere(meet).tolist():
             first[boxes[row]].append(holding[column])
+    for i in boxes:
+        if queries[i].polygon is not None and not first[i]:  # one folder tells whether it is a polygon
+            first[i] = made[:1]
+            if not made:
+                check_polygon(queries[i].request())
     return first
 
 
@@ -216,4 +241,4 @@ def _joined(query: Query, parts: list[Any]) -> Any:
         return [(key, distance) for distance, key in sorted(near for part in parts for near in part)[:query.k]]
     if len(parts) == 1:
         return parts[0]
-    return numpy.sort(numpy.concatenate([numpy.empty(0, dtype=numpy.int64), *parts]))
+    return numpy.sort(numpy.concatenate([_NONE, *parts]))

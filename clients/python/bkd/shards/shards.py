@@ -25,6 +25,7 @@ from .locks import Locks
 from .outcomes import take
 from .queries import Asking, Moment
 from .rebalance import Rebalancing
+from .refusals import check_box
 
 if TYPE_CHECKING:
     from distributed import Client
@@ -166,6 +167,7 @@ class Shards(Asking):
         """Deletes the documents that have a point in the box, and answers how many; a token is as of `delete_many`."""
         request, low, high = requests.delete_box(lo, hi), coordinates(lo), coordinates(hi)
         with self._alone() as layout:
+            check_box(request, layout.dims, lo, hi)
             places = [at for at, place in enumerate(layout.places) if place.meets(low, high)]
             return self._deletions.delete(layout, token or uuid.uuid4().hex, places, request)
 
