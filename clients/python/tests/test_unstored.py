@@ -171,10 +171,9 @@ def test_an_interrupt_at_any_moment(program, tmp_path):
                 else:
                     some = [requests.add(document) for document in documents(1000)]
                     index.ask([*some, requests.COMMIT, *some])
-                time.sleep(1)
+                timer.join()
+                time.sleep(0)  # (by now the signal is there)
             except KeyboardInterrupt:
-                pass
-            finally:
                 timer.join()
             live = index.box(*EVERY)
             try:
