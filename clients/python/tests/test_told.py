@@ -53,7 +53,7 @@ def test_what_fails_twice_has_failed(tmp_path, monkeypatch, capsys):
     ran(tmp_path, "other")
     assert told.main(str(tmp_path), "60", "other", "gone") == 1
     said = capsys.readouterr().out.splitlines()
-    assert said == ["the gone part of the tests didn't come to its end", "0 passed, 2 failed"]
+    assert said[0] == "the gone part of the tests didn't come to its end" and said[-1] == "0 passed, 2 failed"
 
 
 def test_too_many_are_not_run_again(monkeypatch, capsys):

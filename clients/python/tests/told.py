@@ -38,7 +38,7 @@ class Run:
         self.skipped += int(suite.get("skipped", 0))
         cases = [case for case in suite.iter("testcase") if case.find("failure") is not None
                  or case.find("error") is not None]
-        # (what can't be collected has no file)
+        # (without a file there is nothing to run again)
         self.failed += [f"{case.get('file')}::{case.get('name')}" for case in cases if case.get("file")]
         self.broken += sum(case.get("file") is None for case in cases)
         return True
