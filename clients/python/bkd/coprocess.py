@@ -9,6 +9,7 @@ from __future__ import annotations
 import os
 import select
 import threading
+import time
 import weakref
 from collections.abc import Callable, Sequence
 from threading import get_ident
@@ -16,6 +17,7 @@ from typing import Any, TypeVar
 
 from .answers import PART, value_in
 from .errors import BadAnswer, Closed, Died, Error, Reentered, fault_of
+from .many import Many
 from .pipes import READ, Pipes
 from .requests import Request
 from .sending import MARKER, Sending, Silence, ends_with
@@ -25,6 +27,9 @@ from .talk import Asking, Talk
 _ATOMIC = select.PIPE_BUF
 # so many pieces of answers are read before they are looked at, while there is more to send
 _SOME = 64
+# seconds that the program is left alone with a full pipe of lines that have short answers: it has more to do than that,
+# and waking for each of its writes takes as long as they do
+_PAUSE = 0.001
 _T = TypeVar("_T")
 
 
@@ -123,6 +128,8 @@ class Coprocess(Pipes):
             is_blocked = self._send()
             if is_more and not is_blocked and self._is_fed:
                 continue
+            if is_blocked and isinstance(talk, Many):
+                time.sleep(_PAUSE)
             is_looking = not is_blocked or len(talk.inbox) > _SOME
             if is_looking and talk.look() == self._sending.last - first and not is_more:
                 break
