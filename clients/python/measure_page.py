@@ -47,25 +47,30 @@ def spent(process):
     return sum(map(int, fields[11:15])) / os.sysconf("SC_CLK_TCK")
 
 
+def view(server, url, far, squares):
+    """What a view within so far from the middle tells, the seconds that it took, and those of processors."""
+    asked = {"x": 0, "y": 1, "frame": f"{-far},{-far},{far},{far}", "columns": squares[0], "rows": squares[1]}
+    connection = http.client.HTTPConnection(url.hostname, url.port, timeout=600)
+    before, begun = spent(server.pid), time.perf_counter()
+    connection.request("GET", f"{url.path}view?{urlencode(asked)}")
+    told = json.loads(connection.getresponse().read())
+    return told, time.perf_counter() - begun, spent(server.pid) - before
+
+
 def views(folder):
-    """Views as the page asks for them, of all, of a third across, and of a thousandth across."""
+    """Views as the page asks for them, of all, of a third across, and of a thousandth across: first by larger squares,
+    where the last view was slow, and then by those that it draws in the end."""
     words = [sys.executable, "-m", "bkd.view", folder, "--port", "0"]
     with subprocess.Popen(words, stdout=subprocess.PIPE, text=True) as server:
         try:
             url = urlsplit(server.stdout.readline().strip())
             for part, name in ((1, "all"), (1 / 3, "a third across"), (1 / 1000, "a thousandth across")):
-                took, used = [], []
-                for turn in range(TURNS):
-                    far = int(SPAN * part) - turn
-                    asked = {"x": 0, "y": 1, "frame": f"{-far},{-far},{far},{far}", "columns": 220, "rows": 180}
-                    connection = http.client.HTTPConnection(url.hostname, url.port, timeout=600)
-                    before, begun = spent(server.pid), time.perf_counter()
-                    connection.request("GET", f"{url.path}view?{urlencode(asked)}")
-                    told = json.loads(connection.getresponse().read())
-                    took.append(time.perf_counter() - begun)
-                    used.append(spent(server.pid) - before)
-                print(f"  {name}: {told['points']:,} points in {len(told['squares']):,} squares, "
-                      f"{min(took):.2f} s by the clock, {min(used):.2f} s of processor time")
+                for how, squares in (("by larger squares", (37, 30)), ("by the page's squares", (220, 180))):
+                    found = [view(server, url, int(SPAN * part) - turn, squares) for turn in range(TURNS)]
+                    told = found[0][0]
+                    print(f"  {name}, {how}: {told['points']:,} points in {len(told['squares']):,}, "
+                          f"{min(one[1] for one in found):.2f} s by the clock, "
+                          f"{min(one[2] for one in found):.2f} s of processor time")
             print(f"  the page's process had {memory(server.pid):.0f} MB at most")
         finally:
             server.terminate()
