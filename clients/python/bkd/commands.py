@@ -138,7 +138,8 @@ def info(folder: Folder, *, program: Which = None, timeout: float | None = None,
     said = re.fullmatch(rb"dims (\d+) leaf (\d+) next (\d+) points (\d+) live (\d+) segments (\d+) bytes (\d+)\n", text)
     if said is None:
         raise BadAnswer(f"info answered {text[:100]!r}")
-    return Info(*map(int, said.groups()), decimals=kept.read(path).decimals)
+    dims, leaf, following, points, live, segments, size = map(int, said.groups())
+    return Info(dims, leaf, following, points, live, segments, size, kept.read(path).decimals)
 
 
 def _info_of(path: str, commit: Commit | None) -> Info:

@@ -96,8 +96,8 @@ class Rows:
         return rows
 
     @property
-    def index(self) -> Index:
-        """The index, open."""
+    def index(self) -> Any:
+        """The `Index`, open, which answers by arrays."""
         if self._index is None:
             folder = tempfile.mkdtemp(prefix="bkd-")
             try:

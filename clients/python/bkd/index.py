@@ -12,8 +12,9 @@ from .errors import ReadOnly, Refused, Uncommitted
 from .many import Many
 from .program import Program
 from .queries import Numbers, Queries, Snapshot, as_array
-from .requests import COMMIT, Point, Request
+from .requests import COMMIT, Request
 from .scale import Scale
+from .spelling import Place
 from .stored import Stored
 from .transport import Session
 
@@ -129,7 +130,7 @@ class Index(Stored, Queries):
         if not self._arrays:
             return numbers
         import numpy
-        return numpy.arange(numbers.start, numbers.stop, dtype=numpy.uint32)
+        return numpy.arange(numbers.start, numbers.stop, dtype=numpy.uint32)  # type: ignore[return-value]
 
     @property
     def given(self) -> range:
@@ -174,11 +175,9 @@ class Index(Stored, Queries):
         else:
             error.add_note("bkd: what was sent before this is done and not committed; Index.given has its numbers")
 
-    def delete_box(self, lo: Point, hi: Point) -> int:
+    def delete_box(self, lo: Place, hi: Place) -> int:
         """Deletes the documents that have a point in the box, and answers how many."""
-        if self._scale is not None:
-            lo, hi = self._scale.box(lo, hi)
-        return self._change(requests.delete_box(lo, hi))
+        return self._change(requests.delete_box(*spelling.corners(self._scale, lo, hi)))
 
     # ---- what is kept
 

@@ -9,8 +9,9 @@ from typing import TYPE_CHECKING, Any, SupportsIndex
 from . import requests
 from .answers import HITS, HITS_ARRAY, NEAR, NEAR_ARRAYS
 from .errors import Closed
-from .requests import Point, Request
+from .requests import Request
 from .scale import Scale, polygons_of
+from .spelling import Place, corners
 
 if TYPE_CHECKING:
     from .index import Index
@@ -36,12 +37,10 @@ class Queries:
         """The answer to one request, as an array where that is wanted; what is refused is raised."""
         raise NotImplementedError
 
-    def box(self, lo: Point, hi: Point) -> Numbers:
+    def box(self, lo: Place, hi: Place) -> Numbers:
         """The numbers, ascending, of the documents that have a point `p` with `lo[i] <= p[i] <=
         hi[i]` in each dimension."""
-        if self._scale is not None:
-            lo, hi = self._scale.box(lo, hi)
-        return self._query(requests.box(lo, hi, self._of))
+        return self._query(requests.box(*corners(self._scale, lo, hi), self._of))
 
     def polygon(self, shape: Any) -> Numbers:
         """The numbers, ascending, of the documents that have a point in a polygon of a shape, its edges among it.
@@ -64,7 +63,7 @@ class Queries:
             return numpy.unique(numpy.concatenate([numpy.empty(0, dtype=numpy.uint32), *found]))
         return sorted(set().union(*found))
 
-    def nearest(self, k: SupportsIndex, at: Point) -> Near:
+    def nearest(self, k: SupportsIndex, at: Place) -> Near:
         """The `k` nearest documents, 1 to 10,000, as (number, squared distance), ascending by distance, then number.
 
         Distances are on the plane, of whole numbers, whatever the scale. With `arrays` two arrays are answered: numbers
@@ -72,7 +71,7 @@ class Queries:
         """
         if self._scale is not None:
             at = self._scale.point(at, "nearest")
-        return self._query(requests.nearest(k, at, self._of))
+        return self._query(requests.nearest(k, at, self._of))  # type: ignore[arg-type]
 
 
 class Snapshot(Queries):

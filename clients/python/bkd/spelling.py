@@ -7,9 +7,17 @@ from itertools import chain, islice
 from typing import Any, SupportsIndex
 
 from . import requests
-from .scale import GREATEST, LEAST, Scale
+from .requests import Point
+from .scale import GREATEST, LEAST, Scale, Value
 
 _LINES = 8192
+# a point of whole numbers, or of values at an index's scale
+Place = Sequence[SupportsIndex | Value] | SupportsIndex | Value
+
+
+def corners(scale: Scale | None, lo: Place, hi: Place) -> tuple[Point, Point]:
+    """The corners of a box in whole numbers."""
+    return (lo, hi) if scale is None else scale.box(lo, hi)  # type: ignore[return-value]
 
 
 def _is_array(value: Any) -> bool:

@@ -22,6 +22,7 @@ from .lock import Held
 from .program import Program
 from .requests import Point, Request, coordinates
 from .scale import GREATEST, LEAST, Scale
+from .spelling import Place, corners
 from .transport import Session
 
 # so many documents the session lists before a command of the program's has counted them
@@ -70,13 +71,11 @@ class Stored:
             found = self._documents([wanted], held) if wanted in self else iter(())
         return next((points for number, points in found), default)
 
-    def items(self, lo: Point, hi: Point) -> Iterator[Document]:
+    def items(self, lo: Place, hi: Place) -> Iterator[Document]:
         """The documents that have a point in the box as (number, points), by ascending number, as `export` has them,
         and raises as it does, before the first one."""
-        if self._scale is not None:
-            lo, hi = self._scale.box(lo, hi)
         with self._session.still() as held:
-            hits = self._hits(lo, hi)
+            hits = self._hits(*corners(self._scale, lo, hi))
             return self._documents(hits, held) if hits else iter(())
 
     def to_arrays(self) -> tuple[Any, Any]:
@@ -116,24 +115,23 @@ class Stored:
 
     # ---- counts
 
-    def count(self, lo: Point, hi: Point) -> int:
+    def count(self, lo: Place, hi: Place) -> int:
         """How many live points lie in the box; a document of several points counts for each.
 
         Where each document has one point the session counts them, but for many that are all stored.
         """
-        if self._scale is not None:
-            lo, hi = self._scale.box(lo, hi)
+        low, high = corners(self._scale, lo, hi)
         with self._session.still() as held:
             if self._session.is_single() and (self._session.is_dirty or self._may_be_few()):
-                found = self._session.query(_queries.box(lo, hi)._replace(answer=HOW_MANY))
+                found = self._session.query(_queries.box(low, high)._replace(answer=HOW_MANY))
                 if not isinstance(found, Refused):  # (else the program's command says why)
                     self._counted = found
                     return found
-            stored = self._asked(commands.points_in(lo, hi), held)
+            stored = self._asked(commands.points_in(low, high), held)
             if not self._session.is_dirty:
                 self._counted = stored
                 return stored
-            return stored + sum(sign * len(points) for sign, points in self._changed(lo, hi, held))
+            return stored + sum(sign * len(points) for sign, points in self._changed(low, high, held))
 
     def _may_be_few(self) -> bool:
         """Whether a count may be small: as the last one was, and at first as the index is."""

@@ -25,7 +25,7 @@ class Piece(NamedTuple):
     stand, which of them were refused, and how many words they have, None where that wasn't counted yet."""
 
     first: int
-    count: int
+    documents: int
     at: int
     size: int
     refused: tuple[int, ...] = ()
@@ -33,7 +33,7 @@ class Piece(NamedTuple):
 
     @property
     def next(self) -> int:
-        return self.first + self.count
+        return self.first + self.documents
 
 
 class Unstored:
@@ -72,7 +72,8 @@ class Unstored:
             self.lacks = True
             return
         if last.next == number and last.words is not None and last.size + len(text) <= _SOME:
-            self._pieces[-1] = Piece(last.first, last.count + 1, last.at, last.size + len(text), (), last.words + words)
+            self._pieces[-1] = last._replace(documents=last.documents + 1, size=last.size + len(text),
+                                             words=last.words + words)
         else:
             self._pieces.append(Piece(number, 1, self.end, len(text), (), words))
 
@@ -87,7 +88,7 @@ class Unstored:
         for at in range(self._single, len(self._pieces)):
             piece = self._pieces[at]
             words = len(self._read(piece).split()) if piece.words is None else piece.words
-            if piece.refused or words != piece.count * (1 + dims):
+            if piece.refused or words != piece.documents * (1 + dims):
                 return False
             self._pieces[at] = piece._replace(words=words)
         self._single = max(0, len(self._pieces) - 1)  # (the last one may grow)

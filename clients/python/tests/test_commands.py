@@ -48,12 +48,13 @@ def test_what_a_program_lacks(tmp_path, monkeypatch):
     program = bkd.find(STAND_IN)
     with bkd.open(tmp_path, create=True, program=program) as index:
         for use, name in [
-            (index.check, "check"), (lambda: index.count((0, 0), (1, 1)), "count"),
+            (index.check, "check"), (lambda: index.count((0,), (1,)), "count"),
             (lambda: index.grid(0, 1, 1, 1, (0, 0), (1, 1)), "count"), (lambda: index.batch([]), "batch"),
             (lambda: index.explain([]), "explain"),
         ]:
             with pytest.raises(bkd.Unsupported, match=f"no command {name}"):
                 use()
+        assert index.count((0, 0), (1, 1)) == 0  # (by the session)
     monkeypatch.setenv("STAND_IN_COMMANDS", "run")
     program = bkd.find(STAND_IN)
     for use, name in [
