@@ -202,14 +202,14 @@ def test_dead_points_and_snapshots_are_told(page, towns_folder):
     """The share of dead points in each segment's row, and that a folder has no snapshots; and what is left over."""
     rows = page.value("Array.from(byId('segments').rows, row => Array.from(row.cells, cell => cell.textContent))")
     commit = read_commit(towns_folder)
-    assert [row[3] for row in rows] == [f"{one.entries - one.live:,} ({round(100 - 100 * one.live / one.entries)} %)"
-                                        for one in commit.listed]
+    assert [row[3] for row in rows] == [f"{round(100 - 100 * one.live / one.entries)} %" for one in commit.listed]
     assert any(one.live < one.entries for one in commit.listed)
     assert page.value("byId('snapshots').textContent") == \
         "Snapshots: none is stored. Each is its session's own, and ends with it."
-    assert page.value("deadOf({ entries: 300, dead: 2 })") == "2 (0.67 %)"
+    assert "of deleted documents11 %" in page.value("byId('about').textContent")
+    assert page.value("deadShare(300, 2)") == "0.67 %" and page.value("deadShare(0, 0)") == "0 %"
     left = "[{ kind: 'left over', size: 4096 }, { kind: 'needed', size: 1 }]"
     assert page.value(f"snapshotsOf({left})").endswith("1 file of 4,096 bytes can go, by the program's clean.")
     page.value("state.about.single = false")
-    assert page.value("deadOf({ entries: 300, dead: 30 })") == "at most 30 (10 %)"
+    assert page.value("deadShare(300, 30)") == "\u2264 10 %" and page.value("deadShare(300, 0)") == "0 %"
     page.value("state.about.single = true")

@@ -83,22 +83,23 @@ async function loadAbout() {
   byId("path").textContent = folder;
   document.title = `${folder.split("/").pop()} \u2013 bkd`;
   byId("fresh").textContent = `${many(live, "live document")}, as stored at ${new Date().toLocaleTimeString("en-GB")}`;
-  const stored = segments.reduce((sum, one) => sum + one.entries, 0);
+  const [stored, dead] = ["entries", "dead"].map(name => segments.reduce((sum, one) => sum + one[name], 0));
   byId("about").replaceChildren(...listed([
     ["dimensions", dims], ["live documents", live], ["points stored, deleted ones among them", stored],
+    ["of deleted documents", deadShare(stored, dead)],
     ["next number", next], ["points ever given", given], ["points a leaf at most", leaf], ["bytes needed", bytes],
   ]).children);
-  byId("segments").replaceChildren(...segments.map(one => row([one.id, one.entries, one.live, deadOf(one), one.leaves])));
+  byId("segments").replaceChildren(...segments.map(one => row([one.id, one.entries, one.live, deadShare(one.entries, one.dead), one.leaves])));
   byId("snapshots").textContent = snapshotsOf(files);
   const need = one => one.kind === "needed" ? "yes" : one.kind;
   byId("files").replaceChildren(...files.map(one => row([one.name, one.size, need(one)])));
   if (first) chooseAxes();
 }
 
-/* How many of a segment's points are of deleted documents, and which share that is. */
-function deadOf({ entries, dead }) {
-  const most = dead && !state.about.single ? "at most " : "";
-  return `${most}${dead.toLocaleString("en")} (${(100 * dead / entries).toFixed(dead && dead < entries / 100 ? 2 : 0)} %)`;
+/* Which share of points is of deleted documents; at most, where documents have several points. */
+function deadShare(entries, dead) {
+  const share = entries ? 100 * dead / entries : 0;
+  return `${dead && !state.about.single ? "\u2264 " : ""}${share.toFixed(share > 0 && share < 1 ? 2 : 0)} %`;
 }
 
 /* Of snapshots there is nothing in a folder; files that no commit needs are what a run left that was ended. */
