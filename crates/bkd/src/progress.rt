@@ -116,7 +116,7 @@ impl<'a> Meter<'a> {
         }
     }
 
-    /// The same, where what comes now is shown on the terminal, or was typed there: the line waits again.
+    /// Takes the line away where what comes now is shown on the terminal, or was typed there: the line waits again.
     pub(crate) fn rest(&mut self) {
         self.clear();
         if let Ok(now) = Instant::now(self.rt) {

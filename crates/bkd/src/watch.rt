@@ -50,7 +50,7 @@ pub(crate) fn wants_notes(rt: &HostRuntime) -> bool {
 }
 
 impl<'a> Watch<'a> {
-    /// Of a run that is asked for so; None where nobody looks.
+    /// Watches a run that is asked for so; None where nobody looks.
     pub(crate) fn new(rt: &'a HostRuntime, asked: &'a Asked) -> Option<Watch<'a>> {
         if !wants_notes(rt) {
             return None;

@@ -13,11 +13,11 @@ use std::alloc::Global;
 /// The inner nodes of a subtree in preorder, and its leaves from left to right.
 #[derive(Drop)]
 pub(crate) struct BuiltSubtree<const D: usize> {
-    /// Of each inner node the dimension and the value of its split.
+    /// The dimension and the value of each inner node's split.
     pub(crate) nodes: Vec<(u8, i32)>,
-    /// Of each leaf how many bytes spell it.
+    /// How many bytes spell each leaf.
     pub(crate) lengths: Vec<u16>,
-    /// Of each leaf the least cell round its entries.
+    /// The least cell round the entries of each leaf.
     pub(crate) cells: Vec<Cell<D>>,
     /// The bytes of each leaf.
     pub(crate) leaves: Vec<Bytes>,

@@ -102,7 +102,7 @@ pub fn intersect<const D: usize, S: Shape<D>, F: Pages>(
     )
 }
 
-/// The same of a node.
+/// Appends the numbers of the live points of the shape at or below a node.
 fn visit<const D: usize, S: Shape<D>, F: Pages>(
     alloc: Global,
     head: &SegmentHead<D>,

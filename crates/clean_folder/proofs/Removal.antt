@@ -1,6 +1,6 @@
 -- Files that are taken away one after the other: what stays, and what is gone.
 use Rattle.std.proofs.Common.{◌≡◌, ◌≢◌, inl, inr, ℕ, ◌+◌, ◌<◌, ◌≤◌, Bool, true, false, not, ◌↔◌}
-use Rattle.std.proofs.Common.{List, length, take, get_or, None, refl, sym, subst, ◌∙◌}
+use Rattle.std.proofs.Common.{List, ◌++◌, length, take, get_or, None, Some, refl, sym, subst, ◌∙◌}
 use Rattle.std.specs.List.{All}
 use Rattle.std.proofs.lemmas.Bool.{both_ways}
 use Rattle.std.proofs.lemmas.List.{take_all}
@@ -14,6 +14,8 @@ use Rattle.commit_list.specs.Commits.{CommitData}
 use Rattle.commit_list.specs.CommitFiles.{IsCommitFile}
 use Rattle.commit_list.proofs.CommitPages.{file_there, one_file}
 use Rattle.stored_index.specs.Kept.{ListsFile}
+use Rattle.stored_index.specs.Stored.{IsUndefined, index_of}
+use Rattle.folder_check.specs.Checked.{IsChecked}
 use Rattle.clean_folder.specs.Cleaned.{Fewer, IsUnlisted, Spares, TakesUnlisted}
 
 pub fewer_then : (name : FileName) (old middle new : Files) → Fewer name old middle → Fewer name middle new → Fewer name old new
@@ -77,8 +79,9 @@ is_the_commit c name false is e = absurd (both_ways false refl e)
 -- ---- what is kept
 
 -- over the commit that the file says
-pub spares_listed : (old new : Files) (c : CommitData) → IsCommitFile (bytes_of (old Commit)) c → TakesUnlisted c old new → Spares old new
-spares_listed old new c says takes = record {
+pub spares_listed : (old new : Files) (c : CommitData) → (IsUndefined old → ⊥) → IsCommitFile (bytes_of (old Commit)) c
+    → TakesUnlisted c old new → Spares old new
+spares_listed old new c stores says takes = record {
   kept = record {
     commit = takes.others Commit (λ un. un.0 refl);
     listed = λ d there name lists.
@@ -86,11 +89,20 @@ spares_listed old new c says takes = record {
   };
   fewer = takes.fewer;
   without = λ none. absurd (let there = (file_there (old Commit) c says).0 in cc);
+  damaged = λ undefined. absurd (stores undefined);
 }
 
+-- files of which a check says that they are whole store a state
+pub checked_stores : (files : Files) (text before : List ℕ) → ((told : List ℕ) × IsChecked files told × (text ≡ before ++ told))
+    → IsUndefined files → ⊥
+checked_stores files text before (told, inl none, is) undefined = undefined None none.0
+checked_stores files text before (told, inr ok, is) undefined =
+    undefined (Some (index_of ok.commit ok.docs)) (record { commit = ok.commit; holds = ok.holds; is = refl })
+
 -- over the commit that was read of files that hadn't changed
-pub spares_read : (old checked read new : Files) (c : CommitData) → checked ≡ old → read ≡ checked → IsCommitFile (bytes_of (checked Commit)) c
-    → TakesUnlisted c read new → Spares old new
-spares_read old checked read new c same again says takes =
-    spares_listed old new c (subst (λ (f : Files). IsCommitFile (bytes_of (f Commit)) c) same says)
+pub spares_read : (old checked read new : Files) (c : CommitData) (text before : List ℕ)
+    → ((told : List ℕ) × IsChecked old told × (text ≡ before ++ told)) → checked ≡ old → read ≡ checked
+    → IsCommitFile (bytes_of (checked Commit)) c → TakesUnlisted c read new → Spares old new
+spares_read old checked read new c text before tells same again says takes =
+    spares_listed old new c (checked_stores old text before tells) (subst (λ (f : Files). IsCommitFile (bytes_of (f Commit)) c) same says)
     (subst (λ (f : Files). TakesUnlisted c f new) (again ∙ same) takes)

@@ -29,11 +29,12 @@ pub record TakesUnlisted (c : CommitData) (old new : Files) : Type 0 where
   pub others : (name : FileName) → (IsUnlisted c name → ⊥) → new name ≡ old name
   pub fewer : (name : FileName) → Fewer name old new
 
--- What is kept stays, no file is written, and without a Commit file each stays.
+-- What is kept stays, no file is written, and without a Commit file, or where the files store no state, each stays.
 pub record Spares (old new : Files) : Type 0 where
   pub kept : SameKept old new
   pub fewer : (name : FileName) → Fewer name old new
   pub without : old Commit ≡ None → new ≡ old
+  pub damaged : IsUndefined old → new ≡ old
 
 -- ---- what is counted
 

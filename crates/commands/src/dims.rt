@@ -21,7 +21,7 @@ pub trait Lasting {
     ghost does_over: { CommitData → List (List ℕ) → Step → Result ℕ Stop → Type 0 };
 }
 
-/// The same, where the index has `D` dimensions.
+/// A command over an index that lasts for all of its lines, where it has `D` dimensions.
 pub trait At<const D: usize>: Lasting {
     ghost use Rattle.std.specs.Prelude.{◌≡◌, ◌≤◌, ◌^◌, length};
     ghost use Rattle.script_lang.specs.Lines.{lines_of};

@@ -17,7 +17,7 @@ pub const PARTS: usize = 21;
 /// The parts below this one are quartered: in smaller ones there are too few points to pay for it.
 pub const QUARTERED: usize = 5;
 
-/// Of each part how many levels there are up to its own, and 0 where it has none. It is a hint: what it leads to is
+/// How many levels there are up to the one of each part, and 0 where it has none. It is a hint: what it leads to is
 /// asked whether it has the point.
 pub type Places = [usize; PARTS];
 

@@ -8,7 +8,7 @@ pub fn same<T: PartialEq + Debug + Drop>(rt: &impl Abort, left: T, right: T) {
     assert_eq!(rt; left, right);
 }
 
-/// The same, with where that is.
+/// Asserts that both are the same, and says where they aren't.
 pub fn same_at<T: PartialEq + Debug + Drop>(rt: &impl Abort, left: T, right: T, at: &(impl Debug)) {
     assert_eq!(rt; left, right, "at {at:?}");
 }
@@ -18,7 +18,7 @@ pub fn holds(rt: &impl Abort, it: bool) {
     assert!(rt; it);
 }
 
-/// The same, with where that is.
+/// Fails the test unless `it` is true, and says where it isn't.
 pub fn holds_at(rt: &impl Abort, it: bool, at: &(impl Debug)) {
     assert!(rt; it, "at {at:?}");
 }

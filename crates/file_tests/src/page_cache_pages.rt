@@ -89,7 +89,7 @@ fn read_three(rt: &HostRuntime, folder: &mut MemFolder) -> Result<usize, PageFau
     Ok(joined.len())
 }
 
-/// The same of these bytes.
+/// What reading three pages of a file of these bytes comes to.
 fn outcome(rt: &HostRuntime, bytes: &[u8]) -> Result<(u8, u64, u64), Fail> {
     let mut folder = folder_with(rt, FileName::Commit, bytes, &[])?;
     Ok(match read_three(rt, &mut folder) {

@@ -15,7 +15,7 @@ pub const OWN: [u8; 44] = [
     9, 0x80, 0, 0, 7, 0x80, 0, 0, 7, 9, 0x80, 0, 0, 7, 0x80, 0, 0, 7,
 ];
 
-/// The same packed, with no cells of leaves.
+/// That index packed, with no cells of leaves.
 pub const PACKED: [u8; 20] = [
     0x80, 0, 0, 5, 0x80, 0, 0, 7, 3, 7, 0, 21, 6, 4, 0, 12, 1, 12, 9, 9,
 ];

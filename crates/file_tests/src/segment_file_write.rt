@@ -75,7 +75,7 @@ fn read_in(rt: &HostRuntime, folder: &mut MemFolder) -> Told {
     answer_told(read_live(rt.alloc(), folder, 2, 1))
 }
 
-/// The same where their file has these bytes.
+/// What reading these live bits answers where their file has these bytes.
 fn read(rt: &HostRuntime, bytes: &[u8]) -> Result<Told, Fail> {
     let mut folder = folder_with(rt, LIVE_FILE, bytes)?;
     Ok(read_in(rt, &mut folder))

@@ -26,7 +26,7 @@ const FORKS: [&[&str]; 8] = [
     &[".", "batch", "--forks", "6"],
 ];
 
-/// The same with a merge beside it.
+/// Batches with a merge beside them.
 pub(crate) const MERGING: [&[&str]; 8] = [
     &[".", "batch", "--merge"],
     &[".", "batch", "--merge", "--forks", "0"],

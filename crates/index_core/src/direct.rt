@@ -142,7 +142,7 @@ impl<const D: usize> Session<D> {
         self.add_each(rt, alloc, folder, entries, &mut one, gate)
     }
 
-    /// The same by way of `one`, which is each entry's point in turn.
+    /// Adds a document for each entry, by way of `one`, which is each entry's point in turn.
     fn add_each<R: Threads + Sync, F: Folder, G: Gate>(
         &mut self,
         rt: &R,

@@ -61,7 +61,7 @@ impl<const D: usize> HeldSnapshot<D> {
     }
 }
 
-/// The same documents once more.
+/// A copy of these documents.
 fn copy_all<const D: usize>(
     alloc: Global,
     docs: &[HeldDocument<D>],

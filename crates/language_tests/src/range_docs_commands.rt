@@ -22,7 +22,7 @@ fn asked_of_one(alloc: Global, line: &[u8]) -> Result<BoxQuery<2>, Fail> {
     Ok((view, lo, hi))
 }
 
-/// The same of two dimensions.
+/// What a box over ranges of two dimensions asks.
 fn asked_of_two(alloc: Global, line: &[u8]) -> Result<BoxQuery<4>, Fail> {
     let Command::InBox { view, lo, hi } = read_range_line(alloc, line)? else {
         return Err("no box")?;

@@ -67,7 +67,7 @@ fn fault_of_one(alloc: Global, line: &[u8]) -> Option<RangeFault> {
     read_range_line::<2>(alloc, line).err()
 }
 
-/// The same of two dimensions.
+/// The fault of a line where ranges have two dimensions, if it has one.
 fn fault_of_two(alloc: Global, line: &[u8]) -> Option<RangeFault> {
     read_range_line::<4>(alloc, line).err()
 }

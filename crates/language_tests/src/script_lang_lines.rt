@@ -122,7 +122,7 @@ fn two(alloc: Global, line: &[u8]) -> Result<Command<2>, Fail> {
     Ok(read_line(alloc, line)?)
 }
 
-/// The same of one dimension.
+/// What a line asks of an index of one dimension.
 fn one(alloc: Global, line: &[u8]) -> Result<Command<1>, Fail> {
     Ok(read_line(alloc, line)?)
 }

@@ -50,7 +50,7 @@ pub fn survey_near<const D: usize>(head: &SegmentHead<D>, at: &Point<D>, bound: 
     near_below(&head.index().walk(), at, bound)
 }
 
-/// The same of the leaves at or below a node.
+/// How many leaves at or below a node have a cell within the bound.
 fn near_below<const D: usize>(node: &NodeAt<'_, D>, at: &Point<D>, bound: Option<u128>) -> u64
     ensures value { (first : ℕ) (s : Spot) (path : Region) (t : IndexTree) → IsAt node.now first s path t
         → HasCells D path t → result ≡ near_leaves at.now.c bound t }

@@ -12,7 +12,7 @@ use std::thread::Threads;
 /// The nearest to a point, asked twice, and to another one: all.
 const LOOK: &str = "nearest 5 3 30\nnearest 5 3 30\nnearest 70 0 0\n";
 
-/// The same of the snapshot.
+/// These lines over the snapshot.
 const LOOK_BACK: &str = "nearest @a 5 3 30\nnearest @a 5 3 30\nnearest @a 70 0 0\n";
 
 /// What is done between two looks.

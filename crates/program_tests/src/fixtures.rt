@@ -32,7 +32,7 @@ pub fn called<R: Threads + Sync>(
     faulty(rt, alloc, (words, input), folder, &[], &[])
 }
 
-/// The same where these calls of the input fail, and these of the output.
+/// How a run ends, and what it writes, where these calls of the input fail, and these of the output.
 pub fn faulty<R: Threads + Sync>(
     rt: &R,
     alloc: Global,

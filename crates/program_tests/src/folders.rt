@@ -60,7 +60,7 @@ const FIVE_INDEX: [u8; 44] = [
     9, 0x80, 0, 0, 7, 0x80, 0, 0, 7, 9, 0x80, 0, 0, 7, 0x80, 0, 0, 7,
 ];
 
-/// The same in the oldest form, a table: the root cell; the inner nodes' dimensions and values; the leaves' pages,
+/// That index in the oldest form, a table: the root cell; the inner nodes' dimensions and values; the leaves' pages,
 /// offsets and lengths.
 const FIVE_TABLE: [u8; 42] = [
     0x80, 0, 0, 5, 0x80, 0, 0, 7, 0, 0x80, 0, 0, 7, 0, 0x80, 0, 0, 7, 0, 0, 0, 0, 0, 0, 0, 12, 0,

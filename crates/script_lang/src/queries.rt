@@ -28,7 +28,7 @@ pub fn view_at(words: &mut Words<'_>) -> Result<View, LineFault>
     named_view(words)
 }
 
-/// The same by the next word, which is cut.
+/// The view that the next word names, which is cut.
 #[tactic(auto, unfolding(crate::specs::Reading::query_of))]
 fn named_view(words: &mut Words<'_>) -> Result<View, LineFault>
     requires { words.old.place ≡ 2 }

@@ -14,7 +14,7 @@ pub enum Halt {
     Stopped(Stop),
 }
 
-/// The same, of lines that come from a source.
+/// How lines that come from a source end where the work on them ends so.
 pub(crate) fn halt_result<T>(done: Result<T, Stop>) -> Result<T, Halt>
     ensures { result ≡ halt_result done }
 {

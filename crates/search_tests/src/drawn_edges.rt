@@ -44,7 +44,7 @@ fn by_the_tree(tree: &EdgeTree, p: &Point<2>) -> (bool, bool, bool) {
     (tree.on_any(p), tree.odd(p), tree.contains(p))
 }
 
-/// The same by the plain list.
+/// Whether it is on an edge, in by parity, and within: by the plain list.
 fn by_the_list(rings: &Rings, p: &Point<2>) -> (bool, bool, bool) {
     let (on, odd) = (on_any(rings, p), odd(rings, p));
     (on, odd, on || odd)

@@ -273,7 +273,7 @@ fn touched_leaves(alloc: Global, live: LiveBits, k: u16) -> Result<u64, Fail> {
 /// leaves, at theirs, and where fewer are found.
 const TOUCHED: [(u16, u64); 3] = [(2, 1), (3, 3), (10, 3)];
 
-/// The same where no number of the segment is live: number 9 is the only one.
+/// These figures where no number of the segment is live: number 9 is the only one.
 const TOUCHED_DEAD: [(u16, u64); 2] = [(1, 1), (2, 3)];
 
 #[test]

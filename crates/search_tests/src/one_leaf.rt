@@ -72,7 +72,7 @@ const ALL: [Near; 6] = [
     Near { doc: 4, dist2: 16 },
 ];
 
-/// The same where 1 and 3 are dead.
+/// The nearest where 1 and 3 are dead.
 const LEFT: [Near; 4] = [
     Near { doc: 2, dist2: 10 },
     Near { doc: 5, dist2: 13 },

@@ -41,7 +41,7 @@ pub const THREE_LEAVES: Stored = Stored {
     ],
 };
 
-/// The same with 2 and 3 at 8, outside the cell of their leaf.
+/// A segment with 2 and 3 at 8, outside the cell of their leaf.
 pub const ASTRAY: Stored = Stored {
     id: 7,
     fields: &FIVE_FIELDS,

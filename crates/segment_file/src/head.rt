@@ -77,7 +77,7 @@ impl<const D: usize> SegmentHead<D> {
         left.min(u64::from(self.leaf_size)) as u16
     }
 
-    /// The same head once more.
+    /// A copy of the head.
     pub fn copy(&self, alloc: Global) -> Result<SegmentHead<D>, Memory>
         ensures { IfOk result (λ h. h ≡ self.now) }
     {

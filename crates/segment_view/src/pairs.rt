@@ -11,7 +11,7 @@ use live_bits::LiveBits;
 use segment_file::SegmentHead;
 use std::alloc::{AllocError, Global};
 
-/// The same heads once more.
+/// A copy of these heads.
 pub(crate) fn copy_heads<const D: usize>(
     alloc: Global,
     heads: &[SegmentHead<D>],
@@ -26,7 +26,7 @@ pub(crate) fn copy_heads<const D: usize>(
     Ok(copies)
 }
 
-/// The same live bits once more.
+/// A copy of these live bits.
 pub(crate) fn copy_lives(alloc: Global, lives: &[LiveBits]) -> Result<Vec<LiveBits>, AllocError>
     ensures { IfOk result (λ v. v.items ≡ lives.now) }
 {

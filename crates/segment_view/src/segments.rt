@@ -124,7 +124,7 @@ impl<const D: usize> Segments<D> {
         clear_in(&mut self.lives, doc)
     }
 
-    /// The same segments once more.
+    /// A copy of the segments.
     pub fn copy(&self, alloc: Global) -> Result<Segments<D>, Memory>
         ensures { IfOk result (λ s. s ≡ self.now) }
     {

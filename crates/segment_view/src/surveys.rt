@@ -39,7 +39,7 @@ pub fn survey<const D: usize, S: Shape<D>>(segments: &Segments<D>, shape: &mut S
     all
 }
 
-/// The same of one segment.
+/// How many leaves of one segment a query of this shape tests and touches.
 fn survey_one<const D: usize, S: Shape<D>>(head: &SegmentHead<D>, shape: &mut S) -> Tally
     ensures tested { AreTested D (S.crosses shape.old) (head.now ∷ []) result.tested }
     ensures touched { AreTouched D (S.has shape.old) (S.crosses shape.old) (head.now ∷ []) result.touched }
@@ -73,7 +73,7 @@ pub fn survey_near<const D: usize>(
     near
 }
 
-/// The same of one segment.
+/// How many leaves of one segment have a cell within the bound.
 fn near_one<const D: usize>(head: &SegmentHead<D>, at: &Point<D>, bound: Option<u128>) -> u64
     ensures value { AreNearLeaves D at.now.c bound (head.now ∷ []) result }
     ensures few { result ≤ 8388608 }

@@ -38,19 +38,22 @@ returns-in_default-clause-cleaned g c = λ told.
 pub returns-in_err-removed-clause-spares : goal.returns-in_err-removed-clause-spares
 returns-in_err-removed-clause-spares g c = λ told.
     spares_read (g.F.Pages.files c.args.folder.now) (g.F.Pages.files c.check.new.folder) (g.F.Pages.files c.read_commit.new.folder)
-    (g.F.Pages.files c.take_unlisted.new.folder) c.in-Some.commit (c.in_ok-check.ensures.files told) (c.in_ok-commit.ensures.files told)
+    (g.F.Pages.files c.take_unlisted.new.folder) c.in-Some.commit c.check.new.text.items c.new-text.result.items (c.in_ok-check.ensures.tells told)
+    (c.in_ok-check.ensures.files told) (c.in_ok-commit.ensures.files told)
     (rw c.in-Some.is at (c.in_ok-commit.ensures.found told)) (c.in_err-removed.ensures.takes told)
 
 pub returns-in_err-removed_line-clause-spares : goal.returns-in_err-removed_line-clause-spares
 returns-in_err-removed_line-clause-spares g c = λ told.
     spares_read (g.F.Pages.files c.args.folder.now) (g.F.Pages.files c.check.new.folder) (g.F.Pages.files c.read_commit.new.folder)
-    (g.F.Pages.files c.take_unlisted.new.folder) c.in-Some.commit (c.in_ok-check.ensures.files told) (c.in_ok-commit.ensures.files told)
+    (g.F.Pages.files c.take_unlisted.new.folder) c.in-Some.commit c.check.new.text.items c.new-text.result.items (c.in_ok-check.ensures.tells told)
+    (c.in_ok-check.ensures.files told) (c.in_ok-commit.ensures.files told)
     (rw c.in-Some.is at (c.in_ok-commit.ensures.found told)) (c.in_ok-removed.ensures.takes told)
 
 pub returns-clause-spares : goal.returns-clause-spares
 returns-clause-spares g c = λ told.
     spares_read (g.F.Pages.files c.args.folder.now) (g.F.Pages.files c.check.new.folder) (g.F.Pages.files c.read_commit.new.folder)
-    (g.F.Pages.files c.take_unlisted.new.folder) c.in-Some.commit (c.in_ok-check.ensures.files told) (c.in_ok-commit.ensures.files told)
+    (g.F.Pages.files c.take_unlisted.new.folder) c.in-Some.commit c.check.new.text.items c.new-text.result.items (c.in_ok-check.ensures.tells told)
+    (c.in_ok-check.ensures.files told) (c.in_ok-commit.ensures.files told)
     (rw c.in-Some.is at (c.in_ok-commit.ensures.found told)) (c.in_ok-removed.ensures.takes told)
 
 pub returns-clause-cleaned : goal.returns-clause-cleaned
