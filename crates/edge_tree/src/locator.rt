@@ -111,8 +111,8 @@ impl Locator {
         place.on || place.odd
     }
 
-    /// Some edge does not miss the cell, told by the edges of the innermost level round it. Where fewer of them meet the
-    /// cell it becomes a level on top of that one, where there is room.
+    /// Some edge does not miss the cell, told by the edges of the innermost level round it. Where fewer of them meet it
+    /// the cell becomes a level on top of that one, where there is room.
     fn narrow(&mut self, c: &Cell<2>) -> bool
         ensures told { result ≡ any_meets self.old (region_of c.now) }
         ensures same { self.new ≡ self.old }
