@@ -2,7 +2,7 @@
 
 use crate::asserts::{holds_at, same, same_at};
 use crate::batching::{MERGING, TWO, cities};
-use crate::gates::{Meeting, run_gated};
+use crate::gates::{Counting, Meeting, run_gated};
 use batch_queries::beside;
 use batch_run::Resident;
 use bkd_top::code;
@@ -13,6 +13,7 @@ use program_tests::fixtures::{called, faulty};
 use script_lang::Positions;
 use std::alloc::Global;
 use std::marker::Sync;
+use std::sync::atomic::Ordering;
 use std::test::Fail;
 use std::thread::Threads;
 
@@ -89,6 +90,20 @@ fn both_run_beside_each_other(rt: HostRuntime) -> Result<(), Fail> {
     let status = run_gated(&rt, rt.alloc(), &words, TWO.as_bytes(), &mut folder, &gate)?;
     same(&rt, code(&status), 0);
     same(&rt, gate.met(), (1, 1));
+    Ok(())
+}
+
+/// What forks within a half doesn't wait at the gate of the two halves.
+#[test]
+fn what_forks_in_a_half_does_not_wait(rt: HostRuntime) -> Result<(), Fail> {
+    for forks in ["0", "2", "6"] {
+        let mut folder = cities(&rt, rt.alloc())?;
+        let gate = Counting::new();
+        let words = [".", "batch", "--forks", forks, "--merge"];
+        let status = run_gated(&rt, rt.alloc(), &words, TWO.as_bytes(), &mut folder, &gate)?;
+        same(&rt, code(&status), 0);
+        same_at(&rt, gate.passes.load(Ordering::SeqCst), 2, &forks);
+    }
     Ok(())
 }
 

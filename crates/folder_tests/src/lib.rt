@@ -30,6 +30,7 @@ mod eight_dimensions;
 #[cfg(test)]
 mod explaining;
 #[cfg(test)]
+mod exporting;
 #[cfg(test)]
 mod gates;
 #[cfg(test)]
@@ -39,6 +40,7 @@ mod load_faults;
 #[cfg(test)]
 mod loading;
 #[cfg(test)]
+mod loading_many;
 #[cfg(test)]
 mod other_words;
 #[cfg(test)]
