@@ -10,6 +10,7 @@ mod laws;
 mod leaf;
 mod plan;
 mod queries;
+mod runs;
 mod sorting;
 mod tallies;
 mod walk;
