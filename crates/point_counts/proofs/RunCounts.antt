@@ -1,6 +1,6 @@
 -- Runs of a leaf's entries: which cell they lie in, and how the counts rise by them.
 use Rattle.std.proofs.Common.{◌≡◌, ℕ, zero, suc, ◌+◌, ◌-◌, ◌<◌, ◌≤◌, Bool, true, false, ◌&&◌, eqb, cond, List, [], ◌∷◌}
-use Rattle.std.proofs.Common.{◌++◌, length, take, drop, set, get_or, map, ℤ, pos, int_le, ◌+ℤ◌, refl, sym, ap, subst, ◌∙◌, arith}
+use Rattle.std.proofs.Common.{◌++◌, length, take, drop, set, get_or, map, ℤ, pos, int_le, ◌+ℤ◌, ◌<ℤ◌, refl, sym, ap, subst, ◌∙◌, arith}
 use Rattle.std.specs.List.{All, count_by}
 use Rattle.std.specs.Prelude.{FitsSigned}
 use Rattle.std.specs.Int.{w32}
@@ -183,6 +183,14 @@ to_high cell d p h = le_at p cell.hi d (both_true (all_le cell.lo p) (all_le p c
 -- what isn't up to the cut is behind it
 pub behind : (x cut : ℤ) → int_le x cut ≡ false → int_le (cut +ℤ pos 1) x ≡ true
 behind x cut h = grind (arith, ints)
+
+-- the same of the coordinate behind the cut as it is reckoned in memory
+pub behind_told : (x cut : ℤ) → FitsSigned w32 cut → cut <ℤ pos 2147483647 → int_le x cut ≡ false
+    → int_le (to_z w32 (of_z w32 (to_z w32 (of_z w32 cut) +ℤ pos 1))) x ≡ true
+behind_told x cut fits below h =
+    let more : FitsSigned w32 (cut +ℤ pos 1) = omega (arith, ints, below) in
+    ap (λ (z : ℤ). int_le (to_z w32 (of_z w32 (z +ℤ pos 1))) x) (to_z-of_z w32 cut fits)
+    ∙ ap (λ (z : ℤ). int_le z x) (to_z-of_z w32 (cut +ℤ pos 1) more) ∙ behind x cut h
 
 settled_none : (lie : Lie) (k : ℕ) → settled_at lie 0 k ≡ 0
 settled_none Outside k = refl

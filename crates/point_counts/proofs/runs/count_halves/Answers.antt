@@ -2,7 +2,7 @@ use Rattle.std.proofs.Common.{◌≡◌, ◌∙◌, ◌+◌, ℕ, List, ℤ, pos
 use Rattle.std.proofs.lemmas.Int.{to_z-of_z}
 use Rattle.point_codec.specs.Seen.{region_of}
 use Rattle.point_counts.specs.Tables.{AddsCounts, settled_at}
-use Rattle.point_counts.proofs.RunCounts.{from_low, to_high, behind, run_halved}
+use Rattle.point_counts.proofs.RunCounts.{from_low, to_high, behind_told, run_halved}
 use Rattle.point_counts.proofs.runs.count_halves.Goals as goal
 
 pub returns-then-not-are_settled : goal.returns-then-not-are_settled
@@ -23,7 +23,7 @@ returns g c = λ live inside alive.
     (λ p here below. c.narrowed-front.ensures p here
     (ap (λ (z : ℤ). int_le z (get_or p d (pos 0))) (to_z-of_z w32 (get_or c.lo.result.now.c d (pos 0)) (search rules))
     ∙ ap (λ (l : List ℤ). int_le (get_or l d (pos 0)) (get_or p d (pos 0))) c.lo.ensures.value ∙ from_low run d p here) below)
-    (λ p here above. c.narrowed-back.ensures p here (behind (get_or p d (pos 0)) cut above)
+    (λ p here above. c.narrowed-back.ensures p here (behind_told (get_or p d (pos 0)) cut (search rules) c.requires.cut above)
     (ap (λ (z : ℤ). int_le (get_or p d (pos 0)) z) (to_z-of_z w32 (get_or c.hi.result.now.c d (pos 0)) (search rules))
     ∙ ap (λ (h : List ℤ). int_le (get_or p d (pos 0)) (get_or h d (pos 0))) c.hi.ensures.value ∙ to_high run d p here))
     c.args.leaf.now c.args.i c.args.next c.count_to-below.result c.args.table.now c.add_both.new.table
