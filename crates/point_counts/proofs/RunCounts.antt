@@ -1,5 +1,5 @@
 -- Runs of a leaf's entries: which cell they lie in, and how the counts rise by them.
-use Rattle.std.proofs.Common.{◌≡◌, ℕ, zero, suc, ◌+◌, ◌-◌, ◌<◌, ◌≤◌, Bool, true, false, ◌&&◌, eqb, cond, List, [], ◌∷◌}
+use Rattle.std.proofs.Common.{◌≡◌, ℕ, zero, suc, ◌+◌, ◌-◌, ◌<◌, ◌≤◌, Bool, true, false, eqb, cond, List, [], ◌∷◌}
 use Rattle.std.proofs.Common.{◌++◌, length, take, drop, set, get_or, map, ℤ, pos, int_le, ◌+ℤ◌, ◌<ℤ◌, refl, sym, ap, subst, ◌∙◌, arith}
 use Rattle.std.specs.List.{All, count_by}
 use Rattle.std.specs.Prelude.{FitsSigned}
@@ -14,19 +14,11 @@ use Rattle.point_codec.specs.Points.{Item, Region, all_le, in_box}
 use Rattle.point_codec.proofs.Corners.{both_true}
 use Rattle.leaf_codec.specs.Ascending.{AscendIn, coordinate}
 use Rattle.live_bits.specs.LiveSet.{LiveSet, is_live}
-use Rattle.cell_relate.specs.Boxes.{crosses}
-use Rattle.cell_relate.specs.Relations.{AllAnswer}
 use Rattle.bkd_reader.proofs.HitLemmas.{no_item}
-use Rattle.point_counts.specs.Tables.{live_at, is_at, HasCounts, AddsCounts, RaisesCounts, LiesAs, is_settled, settled_at, is_up_to}
+use Rattle.point_counts.specs.Tables.{live_at, AddsCounts, RaisesCounts, LiesAs, is_settled, settled_at, is_up_to}
 use Rattle.point_counts.specs.declared.sorting.Lie.{Lie}
 use Rattle.point_counts.specs.declared.sorting.Lie.TheVariants.{Outside, At, Parted}
 use Rattle.point_counts.proofs.Counts.{counts_as, none_at, all_there, live_join}
-
--- what the comparison of two values in memory says
-pub told_le : (v x c : ℤ) (b : Bool) → FitsSigned w32 v → FitsSigned w32 x → v ≡ c
-    → int_le (to_z w32 (of_z w32 v)) (to_z w32 (of_z w32 x)) ≡ b → int_le c x ≡ b
-told_le v x c b v_fits x_fits is h = ap (λ z. int_le z x) (sym is)
-    ∙ (λ j. int_le (sym (to_z-of_z w32 v v_fits) j) (sym (to_z-of_z w32 x x_fits) j)) ∙ h
 
 -- ---- a cell with other ends in one dimension
 

@@ -1,6 +1,6 @@
 -- Tables of counts: at which place the points of a box are counted, and what a table says.
-use Rattle.std.specs.Prelude.{ℕ, ◌+◌, ◌-◌, ◌*◌, ◌^◌, ◌<◌, ◌≡◌, ◌==◌, min, Bool, true, false, ◌&&◌, List, length, if◌then◌else◌, int_le}
-use Rattle.std.specs.Prelude.{slice_index, ℤ}
+use Rattle.std.specs.Prelude.{ℕ, ◌+◌, ◌-◌, ◌*◌, ◌^◌, ◌<◌, ◌≡◌, ◌==◌, min, Bool, true, false, ◌&&◌, List, length}
+use Rattle.std.specs.Prelude.{if◌then◌else◌, int_le, slice_index, ℤ}
 use Rattle.std.specs.List.{count_by}
 use Rattle.point_codec.specs.Points.{Item, Region, in_box}
 use Rattle.leaf_codec.specs.Ascending.{coordinate}

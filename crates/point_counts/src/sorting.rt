@@ -50,7 +50,8 @@ pub(crate) trait Sorting<const D: usize> {
     /// only a guess.
     fn last_beside(&self, d: usize, at: &i32) -> i32;
 
-    /// A dimension and a coordinate of it behind which a parted cell may fall into two that are not. It is only a guess.
+    /// A dimension and a coordinate of it behind which a parted cell may fall into two that are not. It is only a
+    /// guess.
     fn cut_of(&self, c: &Cell<D>) -> Option<(usize, i32)>;
 }
 

@@ -1,4 +1,4 @@
-use Rattle.std.proofs.Common.{◌≡◌, ◌∙◌, ◌+◌, ℕ, List, ℤ, pos, true, false, get_or, int_le, ap, subst, sym, arith, rules, w32}
+use Rattle.std.proofs.Common.{◌∙◌, ◌+◌, ℕ, List, ℤ, pos, false, get_or, int_le, ap, subst, arith, rules, w32}
 use Rattle.std.proofs.lemmas.Int.{to_z-of_z}
 use Rattle.point_codec.specs.Seen.{region_of}
 use Rattle.point_counts.specs.Tables.{AddsCounts, settled_at}

@@ -3,7 +3,7 @@ use Rattle.point_codec.specs.Points.{in_box}
 use Rattle.live_bits.specs.LiveSet.{LiveSet}
 use Rattle.bkd_reader.proofs.HitLemmas.{no_item, read_item}
 use Rattle.point_counts.specs.Tables.{RaisesCounts, live_at}
-use Rattle.point_counts.proofs.Counts.{dead_more, outside_more, one_more}
+use Rattle.point_counts.proofs.Counts.{outside_more, one_more}
 use Rattle.point_counts.proofs.RunCounts.{raises, raises_same, raises_then}
 use Rattle.point_counts.proofs.runs.count_rest.Goals as goal
 

@@ -1,4 +1,4 @@
-use Rattle.std.proofs.Common.{◌≡◌, ◌<◌, ◌≤◌, ℕ, refl, subst, take, arith}
+use Rattle.std.proofs.Common.{◌≡◌, ℕ, refl, subst, take, arith}
 use Rattle.live_bits.specs.LiveSet.{LiveSet}
 use Rattle.point_counts.specs.Tables.{RaisesCounts, live_at}
 use Rattle.point_counts.proofs.RunCounts.{raises_same, raises_then}
