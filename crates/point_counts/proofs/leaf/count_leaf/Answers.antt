@@ -44,7 +44,7 @@ returns-clause-counts g c = λ told agrees first s path t items is holds alive.
     (c.in_ok-place.ensures.reading.agrees told agrees) at here) in
     let inside = subst (λ (r : Region). All (λ (x : Item). in_box r x.at ≡ true) items)
     (sym (c.cell.ensures first s path t is))
-    (leaf_in_cell bytes c.args.head.now c.in_ok-place.place first s path t items
+    (leaf_in_cell g.row.D bytes c.args.head.now c.in_ok-place.place first s path t items
     (c.in_ok-place.ensures.place first s path t is) holds) in
     subst (λ (xs : List Item). AddsCounts (live_at box place c.args.live.now xs) c.args.table.now c.count_live.new.table) same
     (c.count_live.ensures (subst (All (λ (x : Item). in_box (region_of c.cell.result) x.at ≡ true)) (sym same) inside)
