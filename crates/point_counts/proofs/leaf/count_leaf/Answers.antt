@@ -49,3 +49,14 @@ returns-clause-counts g c = λ told agrees first s path t items is holds alive.
     subst (λ (xs : List Item). AddsCounts (live_at box place c.args.live.now xs) c.args.table.now c.count_live.new.table) same
     (c.count_live.ensures (subst (All (λ (x : Item). in_box (region_of c.cell.result) x.at ≡ true)) (sym same) inside)
     (λ e. subst (All (λ (x : Item). is_live c.args.live.now x.doc ≡ true)) (sym same) (alive e)))
+
+pub returns-clause-reading : goal.returns-clause-reading
+returns-clause-reading g c =
+    let h = c.in_ok-place.ensures.reading in
+    record {
+      files = h.files;
+      others = h.others;
+      agrees = h.agrees;
+      cause = record { later = h.cause.later; on_ok = h.cause.on_ok; failed = λ e. absurd cc };
+      marks = h.marks;
+    }
