@@ -10,7 +10,7 @@ use Rattle.inner_pack.proofs.OneTree.{one_index}
 use Rattle.segment_file.specs.Segments.{IsSegment}
 use Rattle.segment_view.specs.LiveSegments.{AreRead, Contents, IsRead, LiveSegment, live_in_parts}
 use Rattle.point_counts.specs.Grids.{IsGrid, Plan, number_in}
-use Rattle.point_counts.specs.Costs.{OpensLeaves, is_clean, is_parted, opened_below}
+use Rattle.point_counts.specs.Costs.{OpensLeaves, is_parted, opened_of}
 use Rattle.point_counts.specs.declared.plan.Bucket.{Bucket}
 use Rattle.run_status.specs.Told.{IsTold}
 use Rattle.count_queries.specs.Texts.{buckets_text, points_text}
@@ -27,10 +27,10 @@ opened_there D files c bounds test (p ∷ ps) read =
     let here = (All-head (IsRead D files c) p ps read).held in
     let rest = opened_there D files c bounds test ps (All-tail (IsRead D files c) p ps read) in
     let only : (root : Region) (t : IndexTree) → HasTree D p.head.index root t
-    → opened_below (is_clean p) bounds test here.tree ≡ opened_below (is_clean p) bounds test t =
-    λ root t has. ap (opened_below (is_clean p) bounds test)
+    → opened_of p bounds test here.tree ≡ opened_of p bounds test t =
+    λ root t has. ap (opened_of p bounds test)
     (one_index D p.head.index.form p.head.index.leaves p.head.index.bytes here.root root here.tree t here.has has).1 in
-    (opened_below (is_clean p) bounds test here.tree + rest.0, (opened_below (is_clean p) bounds test here.tree, rest.0, only, rest.1, refl))
+    (opened_of p bounds test here.tree + rest.0, (opened_of p bounds test here.tree, rest.0, only, rest.1, refl))
 
 module _ (D : ℕ) (files : Files) (parts : List LiveSegment) (s : Scope) (before after : List ℕ) (none : List Item) (empty : none ≡ [])
     (e : IsCounting D files parts s)

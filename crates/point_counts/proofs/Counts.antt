@@ -18,7 +18,7 @@ use Rattle.point_counts.specs.Tables.{is_at, all_at, live_at, HasCounts, AddsCou
 
 -- ---- tables
 
-counts_as : (m n : ℕ → ℕ) (table : List ℕ) → ((k : ℕ) → m k ≡ n k) → HasCounts m table → HasCounts n table
+pub counts_as : (m n : ℕ → ℕ) (table : List ℕ) → ((k : ℕ) → m k ≡ n k) → HasCounts m table → HasCounts n table
 counts_as m n table same h = record { each = λ k lt. let e = h.each k lt in let s = same k in omega (arith, e, s) }
 
 pub adds_as : (a b : ℕ → ℕ) (old new : List ℕ) → ((k : ℕ) → a k ≡ b k) → AddsCounts a old new → AddsCounts b old new

@@ -4,3 +4,4 @@ pub mod Subtrees
 pub mod Clean
 pub mod Segments
 pub mod Told
+pub mod RunCounts

@@ -2,6 +2,7 @@
 use Rattle.std.proofs.Common.{◌≡◌, ℕ, ◌+◌, ◌*◌, ◌≤◌, Bool, List, [], ◌∷◌, ◌++◌, length, take, drop, ℤ, refl, sym, ap}
 use Rattle.std.proofs.Common.{subst, ◌∙◌, arith, Some, length-append}
 use Rattle.std.specs.List.{slice_get}
+use Rattle.std.proofs.lemmas.Bool.{ne_eqb}
 use Rattle.std.proofs.lemmas.List.Elements.{All-head, All-tail}
 use Rattle.std.proofs.lemmas.List.Sums.{length-filter, count_by-le-length}
 use Rattle.outer_io.specs.Files.{Files}
@@ -14,7 +15,7 @@ use Rattle.segment_view.specs.LiveSegments.{LiveSegment, Contents, IsRead, AreRe
 use Rattle.segment_view.proofs.Living.{live-append, live_of, parts_more}
 use Rattle.segment_view.proofs.Stepwise.{split_at}
 use Rattle.point_counts.specs.Tables.{all_at}
-use Rattle.point_counts.specs.Costs.{is_clean, opened_below, OpensLeaves}
+use Rattle.point_counts.specs.Costs.{is_clean, opened_below, opened_of, OpensLeaves}
 use Rattle.point_counts.proofs.Counts.{all_join}
 
 -- ---- leaves
@@ -74,8 +75,14 @@ opened_upto D box test parts i p n is all =
 -- the leaves opened of one segment alone are those of its tree
 pub one_segment : (D : ℕ) (box : Region) (test : Region → Bool) (p : LiveSegment) (n : ℕ) (root : Region) (t : IndexTree)
     → OpensLeaves D box test (p ∷ []) n → HasTree D p.head.index root t
-    → n ≡ opened_below (is_clean p) box test t
+    → n ≡ opened_of p box test t
 one_segment D box test p n root t c has = let e = c.2 root t has in omega (arith, e, c.3, c.4)
+
+-- and where a number is live those below its root
+pub opened_live : (box : Region) (test : Region → Bool) (p : LiveSegment) (t : IndexTree) → 1 ≤ length p.live.live
+    → opened_of p box test t ≡ opened_below (is_clean p) box test t
+opened_live box test p t some =
+    rw (ne_eqb (length p.live.live) 0 (λ none. absurd (omega (arith, some, none)))) refl
 
 -- ---- entries
 

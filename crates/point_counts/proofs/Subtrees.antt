@@ -48,6 +48,14 @@ leaf_inside : (D : ℕ) (bytes : List ℕ) (head : Head) (first : ℕ) (s : Spot
 unfolding HoldsLeaf
 leaf_inside D bytes head first s len own items h = h.spells.inside
 
+-- those of a leaf, in its own cell
+pub leaf_in_cell : (D : ℕ) (bytes : List ℕ) (head : Head) (place : LeafPlace) (first : ℕ) (s : Spot) (path : Region)
+    (t : IndexTree) (items : List Item) → IsPlaceOf place s t → HoldsTree D bytes head first s t items
+    → All (λ e. in_box (cell_of path t) e.at ≡ true) items
+leaf_in_cell D bytes head place first s path (Leaf len own) items at holds =
+    leaf_inside D bytes head first s len own items holds
+leaf_in_cell D bytes head place first s path (Split d x l r) items at holds = let f = at.is in cc
+
 -- they lie in its cell
 pub all_inside : (D : ℕ) (bytes : List ℕ) (head : Head) (first : ℕ) (s : Spot) (path : Region) (t : IndexTree)
     (items : List Item) → HoldsTree D bytes head first s t items → HasCells D path t

@@ -33,9 +33,13 @@ is_parted plan cell = crosses plan.bounds cell || (within cell plan.bounds && ha
 abbrev pub opened_below : (clean : Bool) (box : Region) (test : Region → Bool) → IndexTree → ℕ
 opened_below clean box test t = if clean then leaves_with test t else touched_leaves (in_box box) (crosses box) t
 
+-- below a node of a segment: none where no number of it is live
+abbrev pub opened_of : LiveSegment → (box : Region) → (test : Region → Bool) → IndexTree → ℕ
+opened_of p box test t = if length p.live.live == 0 then 0 else opened_below (is_clean p) box test t
+
 -- so many leaves of the segments together
 abbrev pub OpensLeaves : (D : ℕ) (box : Region) (test : Region → Bool) → List LiveSegment → ℕ → Type 0
 OpensLeaves D box test [] n = n ≡ 0
 OpensLeaves D box test (p ∷ ps) n =
     (m : ℕ) × (rest : ℕ) × ((root : Region) (t : IndexTree) → HasTree D p.head.index root t
-    → m ≡ opened_below (is_clean p) box test t) × OpensLeaves D box test ps rest × (n ≡ m + rest)
+    → m ≡ opened_of p box test t) × OpensLeaves D box test ps rest × (n ≡ m + rest)

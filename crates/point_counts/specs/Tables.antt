@@ -1,8 +1,9 @@
 -- Tables of counts: at which place the points of a box are counted, and what a table says.
 use Rattle.std.specs.Prelude.{ℕ, ◌+◌, ◌-◌, ◌*◌, ◌^◌, ◌<◌, ◌≡◌, ◌==◌, min, Bool, true, false, ◌&&◌, List, length}
-use Rattle.std.specs.Prelude.{slice_index, ℤ}
+use Rattle.std.specs.Prelude.{if◌then◌else◌, int_le, slice_index, ℤ}
 use Rattle.std.specs.List.{count_by}
 use Rattle.point_codec.specs.Points.{Item, Region, in_box}
+use Rattle.leaf_codec.specs.Ascending.{coordinate}
 use Rattle.live_bits.specs.LiveSet.{LiveSet, is_live}
 use Rattle.cell_relate.specs.Boxes.{crosses}
 use Rattle.cell_relate.specs.Relations.{IsUncrossed, is_outside}
@@ -45,3 +46,23 @@ pub record HasCounts (n : ℕ → ℕ) (table : List ℕ) : Type 0 where
 -- the counts of the table rose by these
 pub record AddsCounts (more : ℕ → ℕ) (old new : List ℕ) : Type 0 where
   pub counts : (n : ℕ → ℕ) → HasCounts n old → HasCounts (λ k. n k + more k) new
+
+-- the counts of the table rose from these to those
+pub record RaisesCounts (before after : ℕ → ℕ) (old new : List ℕ) : Type 0 where
+  pub counts : (n : ℕ → ℕ) → HasCounts (λ k. n k + before k) old → HasCounts (λ k. n k + after k) new
+
+-- the points of a cell that lies so are counted at one place, or none is counted
+abbrev pub is_settled : Lie → Bool
+is_settled Outside = true
+is_settled (At k) = true
+is_settled Parted = false
+
+-- at each place so many points, where all are counted at that of the cell
+abbrev pub settled_at : Lie → (many : ℕ) → ℕ → ℕ
+settled_at Outside many k = 0
+settled_at (At place) many k = if place == k then many else 0
+settled_at Parted many k = 0
+
+-- the entry's coordinate in dimension d is at most this one
+abbrev pub is_up_to : (d : ℕ) (cut : ℤ) → Item → Bool
+is_up_to d cut x = int_le (coordinate d x) cut

@@ -3,13 +3,14 @@
 //! A segment is clean where it has as many live numbers as entries. Of such a segment a subtree whose cell lies in one
 //! bucket is one addition, since how many entries it has follows from its first leaf, its leaves and the head; so only
 //! leaves are read in which the box's edge or that of a bucket runs. In other segments each leaf that isn't outside is
-//! read.
+//! read, and none where no number is live.
 #![tactic(auto)]
 
 mod laws;
 mod leaf;
 mod plan;
 mod queries;
+mod runs;
 mod sorting;
 mod tallies;
 mod walk;

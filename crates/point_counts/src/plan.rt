@@ -1,11 +1,11 @@
 //! Plans of grids: how a box is cut into buckets, and in which of them a point is counted.
 
-ghost use Rattle.std.specs.Prelude.{◌≡◌, ◌≤◌, ◌<◌, ◌+◌, ◌*◌};
+ghost use Rattle.std.specs.Prelude.{◌≡◌, ◌≤◌, ◌<◌, ◌+◌, ◌*◌, ◌/◌};
 ghost use Rattle.point_counts.specs.Grids.{IsMadeFor, plan_of, bucket_count, steps_between};
 ghost use Rattle.point_counts.specs.Tables.{place_in};
 ghost use Rattle.point_counts.specs.Costs.{is_parted};
 
-use crate::sorting::{Lie, Sorting, has, relation};
+use crate::sorting::{Lie, Sorting, edge_in, has, relation};
 use cell_relate::Relation;
 use point_codec::{Cell, Point, all_le};
 use std::marker::Model;
@@ -40,6 +40,9 @@ pub struct GridPlan<const D: usize> {
     step_x: u32,
     y: usize,
     step_y: u32,
+    /// The reciprocals of the steps.
+    inverse_x: u64,
+    inverse_y: u64,
     /// How many buckets there are above each other.
     rows: usize,
 }
@@ -88,6 +91,8 @@ impl<const D: usize> GridPlan<D> {
             step_x,
             y: row,
             step_y,
+            inverse_x: inverse_of(step_x),
+            inverse_y: inverse_of(step_y),
             rows,
         })
     }
@@ -112,8 +117,8 @@ impl<const D: usize> GridPlan<D> {
         ensures column { result.0 ≡ column_of self.now p.now.c }
         ensures row { result.1 ≡ row_of self.now p.now.c }
     {
-        let column = steps_between(self.lo.c[self.x], p.c[self.x], self.step_x);
-        let row = steps_between(self.lo.c[self.y], p.c[self.y], self.step_y);
+        let column = steps_by(self.lo.c[self.x], p.c[self.x], self.step_x, self.inverse_x);
+        let row = steps_by(self.lo.c[self.y], p.c[self.y], self.step_y, self.inverse_y);
         (column, row)
     }
 }
@@ -154,6 +159,36 @@ impl<const D: usize> Sorting<D> for GridPlan<D> {
     fn reach(&self, d: usize) -> (i32, i32) {
         (self.lo.c[d], self.hi.c[d])
     }
+
+    fn last_beside(&self, d: usize, at: &i32) -> i32 {
+        if d == self.x {
+            return end_of_bucket(self.lo.c[self.x], at, self.step_x, self.inverse_x);
+        }
+        if d == self.y {
+            return end_of_bucket(self.lo.c[self.y], at, self.step_y, self.inverse_y);
+        }
+        i32::MAX
+    }
+
+    fn cut_of(&self, c: &Cell<D>) -> Option<(usize, i32)> {
+        if let Some(edge) = edge_in(&self.lo, &self.hi, c) {
+            return Some(edge);
+        }
+        let column_end = self.last_beside(self.x, &c.lo().c[self.x]);
+        if column_end < c.hi().c[self.x] {
+            return Some((self.x, column_end));
+        }
+        Some((self.y, self.last_beside(self.y, &c.lo().c[self.y])))
+    }
+}
+
+/// The last coordinate of the bucket of a coordinate that is no less than the first of all, or of all numbers.
+fn end_of_bucket(first: i32, at: &i32, step: u32, inverse: u64) -> i32
+    requires { 1 ≤ step }
+{
+    let steps = u64::from(steps_by(first, *at, step, inverse)) + 1;
+    let end = i64::from(first).saturating_add_unsigned(steps * u64::from(step)) - 1;
+    i32::try_from(end).unwrap_or(i32::MAX)
 }
 
 /// How many buckets the box has. None where it has no point.
@@ -182,6 +217,35 @@ pub(crate) fn steps_between(low: i32, high: i32, step: u32) -> u32
     ensures { result ≡ steps_between step low high }
 {
     high.abs_diff(low) / step
+}
+
+/// The same, by the reciprocal of the step.
+fn steps_by(low: i32, high: i32, step: u32, inverse: u64) -> u32
+    requires { 1 ≤ step }
+    ensures { result ≡ steps_between step low high }
+{
+    quotient(high.abs_diff(low), step, inverse)
+}
+
+/// The reciprocal of a step, in parts of 2^64. It is only a guess.
+fn inverse_of(step: u32) -> u64
+    requires { 1 ≤ step }
+{
+    (u64::MAX / u64::from(step)).saturating_add(1)
+}
+
+/// How often a number has a step, by its reciprocal: a division is needed only where that guesses wrong.
+fn quotient(n: u32, step: u32, inverse: u64) -> u32
+    requires { 1 ≤ step }
+    ensures { result ≡ n / step }
+{
+    let guess = u32::try_from((u128::from(n) * u128::from(inverse)) >> 64).unwrap_or(0);
+    let whole = u64::from(guess) * u64::from(step);
+    let next = whole + u64::from(step);
+    if whole <= u64::from(n) && u64::from(n) < next {
+        return guess;
+    }
+    n / step
 }
 
 /// Where the points of a bucket are counted.

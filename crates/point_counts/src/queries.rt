@@ -29,9 +29,9 @@ const MOST_BUFFERED: usize = 0xffff_ffff;
 
 /// How many live entries of the segments and of the buffer have their point in the box from `lo` to `hi`, both counted.
 ///
-/// Of a clean segment only leaves are read whose own cell the box's edge crosses, of another those whose own cell is
-/// not outside; a kept page is found without a read. The answer may be a damage of a leaf that had to be read, Failed
-/// and Memory.
+/// Of a segment without a live number no leaf is read, of a clean one only leaves whose own cell the box's edge
+/// crosses, of another those whose own cell is not outside; a kept page is found without a read. The answer may be a
+/// damage of a leaf that had to be read, Failed and Memory.
 pub fn count<const D: usize, F: Pages>(
     alloc: Global,
     segments: &Segments<D>,
@@ -65,9 +65,9 @@ pub fn count<const D: usize, F: Pages>(
 /// The buckets of the plan in which some live entry of the segments or of the buffer has its point, each with the
 /// number of these entries, ascending by x and then y.
 ///
-/// Of a clean segment only leaves are read whose own cell the box's edge or that of a bucket cuts, of another those
-/// whose own cell is not outside of the box. The answer may be a damage of a leaf that had to be read, Failed and
-/// Memory.
+/// Of a segment without a live number no leaf is read, of a clean one only leaves whose own cell the box's edge or that
+/// of a bucket cuts, of another those whose own cell is not outside of the box. The answer may be a damage of a leaf
+/// that had to be read, Failed and Memory.
 pub fn grid<const D: usize, F: Pages>(
     alloc: Global,
     segments: &Segments<D>,

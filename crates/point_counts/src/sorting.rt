@@ -45,6 +45,14 @@ pub(crate) trait Sorting<const D: usize> {
     fn reach(&self, d: usize) -> (i32, i32)
         requires { d < D }
         ensures { IsReach (in_box (bounds self.now)) d result.0 result.1 };
+
+    /// The last coordinate in dimension `d` up to which points may be counted at one place with those at `at`. It is
+    /// only a guess.
+    fn last_beside(&self, d: usize, at: &i32) -> i32;
+
+    /// A dimension and a coordinate of it behind which a parted cell may fall into two that are not. It is only a
+    /// guess.
+    fn cut_of(&self, c: &Cell<D>) -> Option<(usize, i32)>;
 }
 
 /// A box, all points of which are counted at one place.
@@ -80,6 +88,32 @@ impl<const D: usize> Sorting<D> for WholeBox<D> {
     fn reach(&self, d: usize) -> (i32, i32) {
         (self.lo.c[d], self.hi.c[d])
     }
+
+    fn last_beside(&self, d: usize, at: &i32) -> i32 {
+        i32::MAX
+    }
+
+    fn cut_of(&self, c: &Cell<D>) -> Option<(usize, i32)> {
+        edge_in(&self.lo, &self.hi, c)
+    }
+}
+
+/// A dimension in which the box from `lo` to `hi` begins or ends within the cell, and the last coordinate before it
+/// begins or the one with which it ends.
+pub(crate) fn edge_in<const D: usize>(
+    lo: &Point<D>,
+    hi: &Point<D>,
+    c: &Cell<D>,
+) -> Option<(usize, i32)> {
+    for d in 0..D {
+        if c.lo().c[d] < lo.c[d] {
+            return Some((d, lo.c[d] - 1));
+        }
+        if hi.c[d] < c.hi().c[d] {
+            return Some((d, hi.c[d]));
+        }
+    }
+    None
 }
 
 /// Whether the box from `lo` to `hi` has the point.

@@ -73,7 +73,9 @@ pub(crate) fn count_below<const D: usize, S: Sorting<D>, F: Pages>(
                 alloc, head, &right, cache, folder, sorting, live, clean, table,
             )
         }
-        None => count_leaf(alloc, head, node, cache, folder, sorting, live, table),
+        None => count_leaf(
+            alloc, head, node, cache, folder, sorting, live, clean, table,
+        ),
     }
 }
 

@@ -1,10 +1,14 @@
-use Rattle.std.proofs.Common.{subst}
+use Rattle.std.proofs.Common.{◌≡◌, List, true, sym, subst}
+use Rattle.std.specs.List.{All}
+use Rattle.point_codec.specs.Points.{Item, Region, in_box}
+use Rattle.point_codec.specs.Seen.{region_of}
+use Rattle.live_bits.specs.LiveSet.{is_live}
 use Rattle.outer_io.specs.Files.{bytes_of}
 use Rattle.outer_io.specs.declared.file_name.FileName.TheVariants.{Segment}
 use Rattle.segment_file.specs.Damages.{IsLeafDamage}
 use Rattle.bkd_reader.proofs.Trees.{handed_on, first_page, never_bad}
 use Rattle.point_counts.specs.Tables.{AddsCounts, live_at}
-use Rattle.point_counts.proofs.Subtrees.{same_items}
+use Rattle.point_counts.proofs.Subtrees.{same_items, leaf_in_cell}
 use Rattle.point_counts.proofs.leaf.count_leaf.Goals as goal
 
 pub returns-in_err-place-clause-shown : goal.returns-in_err-place-clause-shown
@@ -30,7 +34,7 @@ returns-in_default-clause-whole g c = λ told agrees first s path t items is hol
     (c.in_ok-place.ensures.reading.agrees told agrees) at place items here))
 
 pub returns-clause-counts : goal.returns-clause-counts
-returns-clause-counts g c = λ told agrees first s path t items is holds.
+returns-clause-counts g c = λ told agrees first s path t items is holds alive.
     let box = g.S.Sorting.bounds c.args.sorting.now in
     let place = g.S.Sorting.place c.args.sorting.now in
     let bytes = bytes_of (g.F.Pages.files c.args.folder.now (Segment c.args.head.now.id)) in
@@ -38,5 +42,21 @@ returns-clause-counts g c = λ told agrees first s path t items is holds.
     is (c.in_ok-place.ensures.place first s path t is) holds
     (λ len own at here. c.in-Some.ensures.some (g.F.Pages.files c.args.folder.now) first s path len own
     (c.in_ok-place.ensures.reading.agrees told agrees) at here) in
-    subst (λ xs. AddsCounts (live_at box place c.args.live.now xs) c.args.table.now c.count_live.new.table) same
-    c.count_live.ensures
+    let inside = subst (λ (r : Region). All (λ (x : Item). in_box r x.at ≡ true) items)
+    (sym (c.cell.ensures first s path t is))
+    (leaf_in_cell g.row.D bytes c.args.head.now c.in_ok-place.place first s path t items
+    (c.in_ok-place.ensures.place first s path t is) holds) in
+    subst (λ (xs : List Item). AddsCounts (live_at box place c.args.live.now xs) c.args.table.now c.count_live.new.table) same
+    (c.count_live.ensures (subst (All (λ (x : Item). in_box (region_of c.cell.result) x.at ≡ true)) (sym same) inside)
+    (λ e. subst (All (λ (x : Item). is_live c.args.live.now x.doc ≡ true)) (sym same) (alive e)))
+
+pub returns-clause-reading : goal.returns-clause-reading
+returns-clause-reading g c =
+    let h = c.in_ok-place.ensures.reading in
+    record {
+      files = h.files;
+      others = h.others;
+      agrees = h.agrees;
+      cause = record { later = h.cause.later; on_ok = h.cause.on_ok; failed = λ e. absurd cc };
+      marks = h.marks;
+    }

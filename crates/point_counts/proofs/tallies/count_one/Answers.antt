@@ -12,7 +12,7 @@ use Rattle.point_counts.specs.Tables.{AddsCounts, all_at, live_at}
 use Rattle.point_counts.specs.Costs.{opened_below}
 use Rattle.point_counts.proofs.Counts.{adds_none, adds_as, live_kept}
 use Rattle.point_counts.proofs.Clean.{all_live, clean_is}
-use Rattle.point_counts.proofs.Segments.{one_segment}
+use Rattle.point_counts.proofs.Segments.{one_segment, opened_live}
 use Rattle.point_counts.proofs.tallies.count_one.Goals as goal
 use Rattle.segment_file.proofs.Subtrees.{on_ok}
 
@@ -57,7 +57,8 @@ returns-clause-reads g c = λ n all.
     le_by_tree g.row.D c.args.head.now.index c.index.result.now c.index.ensures.value c.is_spelled.ensures _ _
     (λ root t has.
     let e = one_segment g.row.D box parts p n root t all has in
-    let same = ap (λ b. opened_below b box parts t) clean in
+    let same = opened_live box parts p t (omega (arith, c.live_count-count.ensures.value, c.if-count-eq0.false))
+    ∙ ap (λ b. opened_below b box parts t) clean in
     let m = c.count_below.ensures.reads 0 front root t (root_of c.walk-root.result c.args.head.now.index root t has
     (c.walk-root.ensures root t (subst (λ i. HasTree g.row.D i root t) (sym c.index-2.ensures.value) has))) in
     omega (arith, e, same, m))

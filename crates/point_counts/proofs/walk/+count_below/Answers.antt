@@ -134,7 +134,7 @@ returns-in-None-clause-counts g t c = λ told agrees first s path u items root h
     let stays = on_false _ _ c.if-is_settled.false c.is_settled.ensures.stays in
     subst (λ (z : List ℕ). OnOk c.count_leaf.result (AddsCounts (live_at box place c.args.live.now items) z
     c.count_leaf.new.table)) stays
-    (c.count_leaf.ensures.counts told agrees first s path u items root.is holds)
+    (c.count_leaf.ensures.counts told agrees first s path u items root.is holds live)
 
 pub returns-in-None-clause-reads : goal.returns-in-None-clause-reads
 returns-in-None-clause-reads g t c = λ first s path u root.

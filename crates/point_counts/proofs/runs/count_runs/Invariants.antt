@@ -1,0 +1,19 @@
+use Rattle.std.proofs.Common.{◌≡◌, ◌≤◌, ◌-◌, true, take}
+use Rattle.std.specs.List.{All}
+use Rattle.point_codec.specs.Points.{in_box}
+use Rattle.point_codec.specs.Seen.{region_of}
+use Rattle.live_bits.specs.LiveSet.{LiveSet, is_live}
+use Rattle.point_counts.specs.Tables.{RaisesCounts, live_at}
+use Rattle.point_counts.proofs.runs.count_runs.Given as goal
+
+abbrev pub invariant-loop-i : goal.invariant-loop-i
+invariant-loop-i g l = record {
+  within : l.i ≤ l.end;
+  raises : (live : LiveSet) → All (λ x. in_box (region_of l.cell) x.at ≡ true) l.leaf → All (λ x. is_live live x.doc ≡ true) l.leaf
+      → RaisesCounts (live_at (g.S.Sorting.bounds l.sorting) (g.S.Sorting.place l.sorting) live (take l.from l.leaf))
+      (live_at (g.S.Sorting.bounds l.sorting) (g.S.Sorting.place l.sorting) live (take l.i l.leaf)) l.initial.table
+      l.table;
+}
+
+abbrev pub decreases-loop-i : goal.decreases-loop-i
+decreases-loop-i g l = l.end - l.i
