@@ -3,8 +3,8 @@
 
 usage: measure_peers.py [COUNT]    a million points beside sqlite3's R*Tree, rtree, geopandas' sindex, cKDTree and numpy
 Peers are those of Debian's packages python3-rtree, python3-geopandas, python3-scipy; one that isn't there is left out.
-All find the same. Times are by the clock, of queries the least of several spells. BKD names the program where it is not
-the usual one.
+All find the same. Times are by the clock; queries are timed by tens, of which the least of several spells counts. BKD
+names the program where it is not the usual one.
 """
 import importlib
 import os
@@ -19,7 +19,7 @@ import bkd
 from measure import Clock, drawn, seconds
 
 SPAN = 100_000_000
-TURNS = 5
+TURNS = 25
 
 
 # each makes an index of points, and answers a box and the ten nearest by numbers
@@ -158,14 +158,17 @@ def peers(count):
             found = [sorted(int(i) for i in peer.box(*box)) for box in boxes]
             wanted = found if wanted is None else wanted
             assert found == wanted, kind.name
-            box = min(seconds(lambda: [peer.box(*box) for box in boxes]) for _ in range(TURNS)) / len(boxes)
-            near = "none" if peer.nearest is None else per(lambda: [peer.nearest(10, low) for low, _ in boxes[:50]], 50)
-            print(f"| {kind.name} | {made.seconds:.1f} s | {box * 1e6:,.0f} µs | {near} |", flush=True)
+            box = per(lambda box: peer.box(*box), boxes)
+            near = "none" if peer.nearest is None else per(lambda box: peer.nearest(10, box[0]), boxes[:50])
+            print(f"| {kind.name} | {made.seconds:.1f} s | {box} | {near} |", flush=True)
             peer.end()
 
 
-def per(work, count):
-    return f"{min(seconds(work) for _ in range(TURNS)) / count * 1e6:,.0f} µs"
+def per(work, asked):
+    """What one of these takes: of ten together the least of several spells."""
+    tens = [asked[at:at + 10] for at in range(0, len(asked), 10)]
+    spent = sum(min(seconds(lambda: [work(one) for one in ten]) for _ in range(TURNS)) for ten in tens)
+    return f"{spent / len(asked) * 1e6:,.0f} µs"
 
 
 if __name__ == "__main__":
