@@ -1,5 +1,6 @@
-"""The places of promises that README.md and docs/PROVED.md name: each file, call and clause has to be there. A clause
-that is a record is followed by a dot and the field that says the promise, which has to stand in some crate's specs."""
+"""The places of promises that README.md and docs/PROVED.md name: each file, call and clause has to be there, and each
+wrong body or test that is named. A clause that is a record is followed by a dot and the field that says the promise,
+which has to stand in some crate's specs."""
 import glob
 import os
 import re
