@@ -30,6 +30,8 @@ WIDTH = 100_000
 LIMIT = 300
 # so long a difference of two runs has to be, in seconds, and so many lines it may take
 LONG, MOST = 0.4, 1000
+# and so many bytes: a run takes an input of 512 MiB at most
+LARGEST = 256 << 20
 
 
 def square(x, y, side):
@@ -118,7 +120,7 @@ class Bench:
         if more > 5 * LONG:
             return more
         once = min(once, self.best(folder, line, 1, 2))
-        times = min(MOST, math.ceil(LONG / max(more, LONG / MOST)))
+        times = min(MOST, LARGEST // len(line), math.ceil(LONG / max(more, LONG / MOST)))
         return (self.best(folder, line, 1 + times, 3) - once) / times
 
     def answer(self, line):
